@@ -1,4 +1,4 @@
--- What the loops write is the names joined by spaces.
+-- The loops write the names, joined by spaces.
 use Rattle.std.proofs.Common.{◌≡◌, ◌∙◌, ap, sym, refl, ℕ, suc, ◌-◌, ◌≤◌, List, [], ◌∷◌, ◌++◌, map, replicate, length, Bool, true, codes, arith, max}
 use Rattle.std.specs.Prelude.{flat_map}
 use Rattle.cc_base.specs.Joined.{joined, joined_after}

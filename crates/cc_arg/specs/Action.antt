@@ -1,9 +1,9 @@
--- Which actions keep values.
+-- The actions that take values.
 use Rattle.std.specs.Prelude.{Bool, true, false}
 use Rattle.cc_arg.specs.declared.action.ArgAction.{ArgAction}
 use Rattle.cc_arg.specs.declared.action.ArgAction.TheVariants.{Set, Append, SetTrue, SetFalse, Count, Help, HelpShort, HelpLong, Version}
 
--- the action keeps the values of a use
+-- the action takes values
 abbrev pub action_takes_values : ArgAction → Bool
 action_takes_values Set = true
 action_takes_values Append = true

@@ -1,20 +1,20 @@
-//! What an argument does when it is given.
+//! The action of an argument.
 
 ghost use Rattle.std.specs.Prelude.{◌≡◌};
 ghost use Rattle.cc_arg.specs.Action.{action_takes_values};
 
-/// What an argument does when it is given on a command line.
+/// The action of an argument: what a parser does each time the argument is used.
 #[derive(Clone, Copy, PartialEq, Eq, Debug)]
 pub enum ArgAction {
     /// Keeps the values of the last use.
     Set,
-    /// Keeps the values of every use.
+    /// Keeps the values of all uses.
     Append,
-    /// Is `true` where it is given.
+    /// Sets the value `true`.
     SetTrue,
-    /// Is `false` where it is given.
+    /// Sets the value `false`.
     SetFalse,
-    /// Counts its uses.
+    /// Counts the uses.
     Count,
     /// Shows the help: the short one for `-h`, the long one for `--help`.
     Help,
@@ -27,7 +27,7 @@ pub enum ArgAction {
 }
 
 impl ArgAction {
-    /// Whether the action keeps values: `Set` and `Append` alone do.
+    /// Returns whether the action takes values: true only for `Set` and `Append`.
     pub fn takes_values(&self) -> bool
         ensures { result ≡ action_takes_values self.now }
     {

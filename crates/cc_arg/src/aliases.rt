@@ -1,11 +1,11 @@
-//! The joined lists of an argument's names: the short or long itself, then its visible aliases.
+//! Iterators over the visible names of an argument: its short or long, then the visible aliases.
 
 ghost use Rattle.std.specs.Prelude.{◌≡◌};
 ghost use Rattle.std.specs.Iterator.{YieldsFirst, YieldsFirstBy, item_count};
 
 use cc_base::Text;
 
-/// A short, then its visible aliases in the order in which they were added.
+/// An iterator over a short, then its visible aliases in the order in which they were added.
 #[derive(Drop)]
 pub struct ShortAndVisibleAliases<'a> {
     short: Option<char>,
@@ -54,7 +54,7 @@ impl<'a> Iterator for ShortAndVisibleAliases<'a> {
     }
 }
 
-/// A long, then its visible aliases in the order in which they were added.
+/// An iterator over a long, then its visible aliases in the order in which they were added.
 #[derive(Drop)]
 pub struct LongAndVisibleAliases<'a> {
     long: Option<&'a str>,

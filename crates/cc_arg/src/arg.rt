@@ -1,4 +1,4 @@
-//! An argument: its builders and getters.
+//! An argument, with its builders and getters.
 
 ghost use Rattle.std.specs.Prelude.{◌≡◌, [], ◌∷◌, ◌++◌, Some, None, Option, unwrap_or};
 ghost use Rattle.std.specs.Prelude.{IfOk, IfErr};
@@ -18,12 +18,12 @@ use cc_base::{ArgValueCandidates, ArgValueCompleter, Error, Items, Text};
 use std::alloc::{AllocError, Global};
 use std::marker::Model;
 
-/// An argument of a command. It is a positional where it has neither a short nor a long, and else
-/// an option or a flag, as it takes values or not.
+/// An argument of a command. If it has neither a short nor a long, it is a positional. Otherwise it
+/// is an option if it takes values, and a flag if it takes none.
 ///
-/// Builders take the argument and return the changed one. Those that add to a list fail with
-/// `Memory` where the allocation fails, and then drop the argument. A visible alias is shown only
-/// where the short (long) is set.
+/// Builders take the argument and return the changed one. A builder that adds to a list can fail
+/// with `Memory`; it then drops the argument. Visible aliases are shown only if the short (or long)
+/// is set.
 #[derive(Drop)]
 pub struct Arg {
     parts: ArgParts,
@@ -48,14 +48,15 @@ impl From<ArgParts> for Arg {
 }
 
 impl Arg {
-    /// An argument with this id and nothing else; its lists allocate from `alloc`.
+    /// Makes an argument with this id, in which nothing else is set. Its lists allocate from
+    /// `alloc`.
     pub fn new(alloc: Global, id: String) -> Arg
         ensures { result ≡ new_arg (string_bytes id) }
     {
         Arg::from(ArgParts::new(alloc, Text::from(id)))
     }
 
-    /// Sets the short, the `c` of `-c`.
+    /// Sets the short: the `c` of `-c`.
     pub fn short(mut self, short: char) -> Arg
         ensures { result ≡ record self { short = Some short } }
     {
@@ -63,7 +64,7 @@ impl Arg {
         self
     }
 
-    /// Sets the long, the `name` of `--name`.
+    /// Sets the long: the `name` of `--name`.
     pub fn long(mut self, long: String) -> Arg
         ensures { result ≡ record self { long = Some (string_bytes long) } }
     {
@@ -71,7 +72,11 @@ impl Arg {
         self
     }
 
-    /// Adds a short that a parser takes and that is not shown. Fails with `Memory` alone.
+    /// Adds a hidden alias of the short: a parser accepts it, but it is not shown.
+    ///
+    /// # Errors
+    ///
+    /// `Memory` if an allocation fails.
     pub fn short_alias(mut self, alias: char) -> Result<Arg, Error>
         ensures ok { IfOk result (λ arg.
             arg ≡ record self { short_aliases = self.short_aliases ++ alias ∷ [] }) }
@@ -81,7 +86,11 @@ impl Arg {
         Ok(added.map(|()| self)?)
     }
 
-    /// Adds a short that is shown. Fails with `Memory` alone.
+    /// Adds a visible alias of the short.
+    ///
+    /// # Errors
+    ///
+    /// `Memory` if an allocation fails.
     pub fn visible_short_alias(mut self, alias: char) -> Result<Arg, Error>
         ensures ok { IfOk result (λ arg. arg ≡
             record self { visible_short_aliases = self.visible_short_aliases ++ alias ∷ [] }) }
@@ -91,7 +100,11 @@ impl Arg {
         Ok(added.map(|()| self)?)
     }
 
-    /// Adds a long that a parser takes and that is not shown. Fails with `Memory` alone.
+    /// Adds a hidden alias of the long: a parser accepts it, but it is not shown.
+    ///
+    /// # Errors
+    ///
+    /// `Memory` if an allocation fails.
     pub fn alias(mut self, alias: String) -> Result<Arg, Error>
         ensures ok { IfOk result (λ arg.
             arg ≡ record self { aliases = self.aliases ++ string_bytes alias ∷ [] }) }
@@ -101,7 +114,11 @@ impl Arg {
         Ok(added.map(|()| self)?)
     }
 
-    /// Adds a long that is shown. Fails with `Memory` alone.
+    /// Adds a visible alias of the long.
+    ///
+    /// # Errors
+    ///
+    /// `Memory` if an allocation fails.
     pub fn visible_alias(mut self, alias: String) -> Result<Arg, Error>
         ensures ok { IfOk result (λ arg. arg ≡
             record self { visible_aliases = self.visible_aliases ++ string_bytes alias ∷ [] }) }
@@ -111,7 +128,7 @@ impl Arg {
         Ok(added.map(|()| self)?)
     }
 
-    /// Sets the help.
+    /// Sets the help text.
     pub fn help(mut self, help: String) -> Arg
         ensures { result ≡ record self { help = Some (string_bytes help) } }
     {
@@ -119,7 +136,7 @@ impl Arg {
         self
     }
 
-    /// Sets what the argument does.
+    /// Sets the action.
     pub fn action(mut self, action: ArgAction) -> Arg
         ensures { result ≡ record self { action = Some action } }
     {
@@ -127,7 +144,7 @@ impl Arg {
         self
     }
 
-    /// Sets how many values one use takes.
+    /// Sets how many values each use takes.
     pub fn num_args(mut self, range: ValueRange) -> Arg
         ensures { result ≡ record self { num_args = Some range } }
     {
@@ -135,7 +152,11 @@ impl Arg {
         self
     }
 
-    /// Adds the name of a further value. Fails with `Memory` alone.
+    /// Adds the name of a further value, under which it is shown.
+    ///
+    /// # Errors
+    ///
+    /// `Memory` if an allocation fails.
     pub fn value_name(mut self, name: String) -> Result<Arg, Error>
         ensures ok { IfOk result (λ arg.
             arg ≡ record self { value_names = self.value_names ++ string_bytes name ∷ [] }) }
@@ -153,7 +174,7 @@ impl Arg {
         self
     }
 
-    /// Sets what the values are.
+    /// Sets the value hint.
     pub fn value_hint(mut self, hint: ValueHint) -> Arg
         ensures { result ≡ record self { value_hint = hint } }
     {
@@ -169,7 +190,7 @@ impl Arg {
         self
     }
 
-    /// Sets the value that a parser takes where the argument is left out. Scripts and candidates do
+    /// Sets the value that a parser uses if the argument is not given. Scripts and candidates do
     /// not change.
     pub fn default_value(mut self, value: String) -> Arg
         ensures { result ≡ record self { default_value = Some (string_bytes value) } }
@@ -178,7 +199,7 @@ impl Arg {
         self
     }
 
-    /// Sets the index of a positional, counted from 1. A build keeps it.
+    /// Sets the index of a positional, counted from 1. Building the command keeps it.
     pub fn index(mut self, index: usize) -> Arg
         ensures { result ≡ record self { index = Some index } }
     {
@@ -186,8 +207,11 @@ impl Arg {
         self
     }
 
-    /// Adds the id of an argument that may not be given together with this one. Fails with
-    /// `Memory` alone.
+    /// Adds the id of an argument that cannot be given together with this one.
+    ///
+    /// # Errors
+    ///
+    /// `Memory` if an allocation fails.
     pub fn conflicts_with(mut self, id: String) -> Result<Arg, Error>
         ensures ok { IfOk result (λ arg.
             arg ≡ record self { conflicts = self.conflicts ++ string_bytes id ∷ [] }) }
@@ -197,7 +221,7 @@ impl Arg {
         Ok(added.map(|()| self)?)
     }
 
-    /// Says whether the argument has to be given.
+    /// Sets whether the argument must be given.
     pub fn required(mut self, required: bool) -> Arg
         ensures { result ≡ record self { required = required } }
     {
@@ -205,7 +229,7 @@ impl Arg {
         self
     }
 
-    /// Says whether the argument is given only after `--`.
+    /// Sets whether the argument can be given only after `--`.
     pub fn last(mut self, last: bool) -> Arg
         ensures { result ≡ record self { last = last } }
     {
@@ -213,7 +237,7 @@ impl Arg {
         self
     }
 
-    /// Says whether a build propagates the argument to the commands below.
+    /// Sets whether building the command also adds the argument to the commands below it.
     pub fn global(mut self, global: bool) -> Arg
         ensures { result ≡ record self { global = global } }
     {
@@ -221,7 +245,7 @@ impl Arg {
         self
     }
 
-    /// Sets the heading of the argument, with which live completion tags its candidates.
+    /// Sets the help heading, with which live completion tags the candidates of this argument.
     pub fn help_heading(mut self, heading: String) -> Arg
         ensures { result ≡ record self { help_heading = Some (string_bytes heading) } }
     {
@@ -229,7 +253,7 @@ impl Arg {
         self
     }
 
-    /// Sets the character between several values in one word.
+    /// Sets the character that separates several values in one word.
     pub fn value_delimiter(mut self, delimiter: char) -> Arg
         ensures { result ≡ record self { value_delimiter = Some delimiter } }
     {
@@ -245,7 +269,7 @@ impl Arg {
         self
     }
 
-    /// Says whether words that begin with `-` are taken as values.
+    /// Sets whether words that begin with `-` are accepted as values.
     pub fn allow_hyphen_values(mut self, allow: bool) -> Arg
         ensures { result ≡ record self { allow_hyphen_values = allow } }
     {
@@ -253,8 +277,8 @@ impl Arg {
         self
     }
 
-    /// Sets the completer of the values, by its number. It goes before a list, possible values and
-    /// the value hint.
+    /// Sets the completer of the values, by its number. It takes precedence over a list of
+    /// candidates, the possible values and the value hint.
     pub fn add(mut self, completer: ArgValueCompleter) -> Arg
         ensures { result ≡ record self { completer = Some completer } }
     {
@@ -262,8 +286,8 @@ impl Arg {
         self
     }
 
-    /// Sets the list of the values, by its number in `Completers`. It goes before possible values
-    /// and the value hint.
+    /// Sets the list of candidates for the values, by its number in `Completers`. It takes
+    /// precedence over the possible values and the value hint.
     pub fn add_candidates(mut self, candidates: ArgValueCandidates) -> Arg
         ensures { result ≡ record self { candidates = Some candidates } }
     {
@@ -271,8 +295,8 @@ impl Arg {
         self
     }
 
-    /// Says whether the argument is hidden: live completion then offers it only where no visible
-    /// candidate is left. Scripts have it all the same.
+    /// Sets whether the argument is hidden. Live completion offers a hidden argument only if no
+    /// visible candidate matches. Scripts contain it anyway.
     pub fn hide(mut self, hide: bool) -> Arg
         ensures { result ≡ record self { hide = hide } }
     {
@@ -280,35 +304,36 @@ impl Arg {
         self
     }
 
-    /// The id.
+    /// Returns the id.
     pub fn get_id(&self) -> &str
         ensures { result.now ≡ self.now.id }
     {
         self.parts.id.as_str()
     }
 
-    /// The short.
+    /// Returns the short.
     pub fn get_short(&self) -> Option<char>
         ensures { result ≡ self.now.short }
     {
         self.parts.short
     }
 
-    /// The shorts that are shown besides the short.
+    /// Returns the visible aliases of the short.
     pub fn get_visible_short_aliases(&self) -> &[char]
         ensures { result.now ≡ self.now.visible_short_aliases }
     {
         self.parts.visible_short_aliases.as_slice()
     }
 
-    /// The shorts that a parser takes and that are not shown.
+    /// Returns the hidden aliases of the short, which a parser accepts.
     pub fn get_short_aliases(&self) -> &[char]
         ensures { result.now ≡ self.now.short_aliases }
     {
         self.parts.short_aliases.as_slice()
     }
 
-    /// The short, then its visible aliases; `None` without a short.
+    /// Returns an iterator over the short, then its visible aliases, or `None` if there is no
+    /// short.
     pub fn get_short_and_visible_aliases(&self) -> Option<ShortAndVisibleAliases<'_>>
         ensures { option_map shorts_left result
             ≡ option_map (λ short. short ∷ self.now.visible_short_aliases) self.now.short }
@@ -318,28 +343,28 @@ impl Arg {
         Some(ShortAndVisibleAliases::new(short, aliases))
     }
 
-    /// The long.
+    /// Returns the long.
     pub fn get_long(&self) -> Option<&str>
         ensures { option_copied result ≡ self.now.long }
     {
         text_of(&self.parts.long)
     }
 
-    /// The longs that are shown besides the long.
+    /// Returns the visible aliases of the long.
     pub fn get_visible_aliases(&self) -> &[Text]
         ensures { result.now ≡ self.now.visible_aliases }
     {
         self.parts.visible_aliases.as_slice()
     }
 
-    /// The longs that a parser takes and that are not shown.
+    /// Returns the hidden aliases of the long, which a parser accepts.
     pub fn get_aliases(&self) -> &[Text]
         ensures { result.now ≡ self.now.aliases }
     {
         self.parts.aliases.as_slice()
     }
 
-    /// The long, then its visible aliases; `None` without a long.
+    /// Returns an iterator over the long, then its visible aliases, or `None` if there is no long.
     pub fn get_long_and_visible_aliases(&self) -> Option<LongAndVisibleAliases<'_>>
         ensures { option_map longs_left result
             ≡ option_map (λ long. long ∷ self.now.visible_aliases) self.now.long }
@@ -349,148 +374,152 @@ impl Arg {
         Some(LongAndVisibleAliases::new(long, aliases))
     }
 
-    /// The help.
+    /// Returns the help text.
     pub fn get_help(&self) -> Option<&str>
         ensures { option_copied result ≡ self.now.help }
     {
         text_of(&self.parts.help)
     }
 
-    /// What the argument does; `Set` where nothing was said.
+    /// Returns the action, or `Set` if none is set.
     pub fn get_action(&self) -> ArgAction
         ensures { result ≡ unwrap_or self.now.action ArgAction.Set }
     {
         self.parts.action.unwrap_or(ArgAction::Set)
     }
 
-    /// How many values one use takes, where it was said or the argument is built.
+    /// Returns how many values each use takes, if that was set or the command is built.
     pub fn get_num_args(&self) -> Option<ValueRange>
         ensures { result ≡ self.now.num_args }
     {
         self.parts.num_args
     }
 
-    /// The names of the values.
+    /// Returns the names of the values.
     pub fn get_value_names(&self) -> &[Text]
         ensures { result.now ≡ self.now.value_names }
     {
         self.parts.value_names.as_slice()
     }
 
-    /// What the values are.
+    /// Returns the value hint.
     pub fn get_value_hint(&self) -> ValueHint
         ensures { result ≡ self.now.value_hint }
     {
         self.parts.value_hint
     }
 
-    /// The word that ends the values.
+    /// Returns the word that ends the values.
     pub fn get_value_terminator(&self) -> Option<&str>
         ensures { option_copied result ≡ self.now.value_terminator }
     {
         text_of(&self.parts.value_terminator)
     }
 
-    /// The value that a parser takes where the argument is left out.
+    /// Returns the value that a parser uses if the argument is not given.
     pub fn get_default_value(&self) -> Option<&str>
         ensures { option_copied result ≡ self.now.default_value }
     {
         text_of(&self.parts.default_value)
     }
 
-    /// The heading of the argument.
+    /// Returns the help heading.
     pub fn get_help_heading(&self) -> Option<&str>
         ensures { option_copied result ≡ self.now.help_heading }
     {
         text_of(&self.parts.help_heading)
     }
 
-    /// The character between several values in one word.
+    /// Returns the character that separates several values in one word.
     pub fn get_value_delimiter(&self) -> Option<char>
         ensures { result ≡ self.now.value_delimiter }
     {
         self.parts.value_delimiter
     }
 
-    /// Whether words that begin with `-` are taken as values.
+    /// Returns whether words that begin with `-` are accepted as values.
     pub fn is_allow_hyphen_values_set(&self) -> bool
         ensures { result ≡ self.now.allow_hyphen_values }
     {
         self.parts.allow_hyphen_values
     }
 
-    /// The number of the completer that returns values.
+    /// Returns the number of the completer of the values.
     pub fn get_completer(&self) -> Option<ArgValueCompleter>
         ensures { result ≡ self.now.completer }
     {
         self.parts.completer
     }
 
-    /// The number of the list that values are taken from.
+    /// Returns the number of the list of candidates for the values.
     pub fn get_candidates(&self) -> Option<ArgValueCandidates>
         ensures { result ≡ self.now.candidates }
     {
         self.parts.candidates
     }
 
-    /// The index of a positional, counted from 1, where it was set or the command is built.
+    /// Returns the index of a positional, counted from 1, if it was set or the command is built.
     pub fn get_index(&self) -> Option<usize>
         ensures { result ≡ self.now.index }
     {
         self.parts.index
     }
 
-    /// The display order; 999 where none was given.
+    /// Returns the display order, or 999 if none is set.
     pub fn get_display_order(&self) -> usize
         ensures { result ≡ unwrap_or self.now.display_order 999 }
     {
         self.parts.display_order.unwrap_or(999)
     }
 
-    /// Whether the argument has to be given.
+    /// Returns whether the argument must be given.
     pub fn is_required_set(&self) -> bool
         ensures { result ≡ self.now.required }
     {
         self.parts.required
     }
 
-    /// Whether the argument is given only after `--`.
+    /// Returns whether the argument can be given only after `--`.
     pub fn is_last_set(&self) -> bool
         ensures { result ≡ self.now.last }
     {
         self.parts.last
     }
 
-    /// Whether a build propagates the argument to the commands below.
+    /// Returns whether building the command also adds the argument to the commands below it.
     pub fn is_global_set(&self) -> bool
         ensures { result ≡ self.now.global }
     {
         self.parts.global
     }
 
-    /// Whether the argument is hidden.
+    /// Returns whether the argument is hidden.
     pub fn is_hide_set(&self) -> bool
         ensures { result ≡ self.now.hide }
     {
         self.parts.hide
     }
 
-    /// Whether the argument has neither a short nor a long.
+    /// Returns whether the argument is a positional: it has neither a short nor a long.
     pub fn is_positional(&self) -> bool
         ensures { result ≡ is_positional self.now }
     {
         self.parts.short.is_none() && self.parts.long.is_none()
     }
 
-    /// Whether the argument takes values, by the range that was given, else by the one that a
-    /// build would fill in.
+    /// Returns whether the argument takes values, by its range. If no range is set, the one that
+    /// building the command would fill in decides.
     pub fn takes_values(&self) -> bool
         ensures { result ≡ takes_values self.now }
     {
         counted_range(self).takes_values()
     }
 
-    /// An equal argument. Fails with `Memory` where an allocation fails.
+    /// Returns an equal argument, which allocates from `alloc`.
+    ///
+    /// # Errors
+    ///
+    /// `Memory` if an allocation fails.
     pub fn try_clone(&self, alloc: Global) -> Result<Arg, Error>
         ensures equal { IfOk result (λ copy. copy ≡ self.now) }
         ensures memory { IfErr result (λ error. error ≡ Error.Memory) }
@@ -498,7 +527,8 @@ impl Arg {
         Ok(copy_of(alloc, self)?)
     }
 
-    // The action that counts: the given one, or the one that the range and the kind imply.
+    // Returns the action in effect: the one that is set, or the one that the range and the kind of
+    // argument imply.
     pub(crate) fn counted_action(&self) -> ArgAction
         ensures { result ≡ action_of self.now }
     {
@@ -516,7 +546,7 @@ impl Arg {
     }
 }
 
-/// The possible values, where a list of them was given and the argument takes values.
+/// Returns the possible values, if they are set and the argument takes values.
 pub fn possible_values(argument: &Arg) -> Option<&[PossibleValue]>
     ensures { option_copied result ≡ possible_values argument.now }
 {
@@ -530,8 +560,8 @@ pub fn possible_values(argument: &Arg) -> Option<&[PossibleValue]>
         .map(|values| values.as_slice())
 }
 
-/// The range of the values that counts: the given one, or the one that the action and the value
-/// names imply. A free function, since `clap` has no such getter.
+/// Returns the number of values in effect: the range that is set, or the one that the action and
+/// the value names imply. This is a free function because `clap` has no such getter.
 pub fn counted_range(argument: &Arg) -> ValueRange
     ensures { result ≡ range_of argument.now }
 {
@@ -546,18 +576,22 @@ pub fn counted_range(argument: &Arg) -> ValueRange
     ValueRange::exactly(argument.parts.value_names.as_slice().len().max(1))
 }
 
-/// The ids of the arguments that may not be given together with this one, in the order in which
-/// they were added. A free function, since `clap` has no such getter.
+/// Returns the ids of the arguments that cannot be given together with this one, in the order in
+/// which they were added. This is a free function because `clap` has no such getter.
 pub fn conflicting_ids(argument: &Arg) -> &[Text]
     ensures { result.now ≡ argument.now.conflicts }
 {
     argument.parts.conflicts.as_slice()
 }
 
-// A build copies and fills in by free functions, so that `clap_complete` need not re-export them.
+// The functions with which `cc_command` builds a command are free functions, so that
+// `clap_complete` does not re-export them.
 
-/// An equal argument, for callers whose own error is that of the allocation. Fails where memory
-/// runs out.
+/// Returns an equal argument, as `Arg::try_clone` does, for callers that fail with `AllocError`.
+///
+/// # Errors
+///
+/// `AllocError` if an allocation fails.
 pub fn copy_of(alloc: Global, argument: &Arg) -> Result<Arg, AllocError>
     ensures ok { IfOk result (λ copy. copy ≡ argument.now) }
 {
@@ -566,7 +600,7 @@ pub fn copy_of(alloc: Global, argument: &Arg) -> Result<Arg, AllocError>
     })
 }
 
-/// Fills in the range and the action where none was given, as building a command does.
+/// Sets the range and the action to those in effect, as building a command does.
 pub fn fill_range_and_action(argument: &mut Arg)
     ensures { argument.new ≡ filled argument.old }
 {
@@ -576,7 +610,7 @@ pub fn fill_range_and_action(argument: &mut Arg)
     argument.parts.action = Some(action);
 }
 
-/// Sets the index where the argument has none, as building a command does for a positional.
+/// Sets the index to `index` if none is set, as building a command does for a positional.
 pub fn fill_index(argument: &mut Arg, index: usize)
     ensures { argument.new ≡
         record argument.old { index = Some (unwrap_or argument.old.index index) } }
@@ -584,7 +618,7 @@ pub fn fill_index(argument: &mut Arg, index: usize)
     argument.parts.index = Some(argument.parts.index.unwrap_or(index));
 }
 
-/// Sets the display order where the argument has none, as adding it to a command does.
+/// Sets the display order to `order` if none is set, as adding an argument to a command does.
 pub fn fill_display_order(argument: &mut Arg, order: usize)
     ensures { argument.new ≡
         record argument.old { display_order = Some (unwrap_or argument.old.display_order order) } }

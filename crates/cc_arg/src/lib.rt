@@ -1,5 +1,18 @@
-//! One argument of a described command: a flag, an option or a positional, with its action and the
-//! range of its values.
+//! An argument of a described command: a flag, an option or a positional, with its action and the
+//! number of its values.
+//!
+//! ```rattle
+//! let range = ValueRange::new(0, 1);
+//! let id = String::from_str(alloc, "color")?;
+//! let help = String::from_str(alloc, "Colour")?;
+//! let when = String::from_str(alloc, "WHEN")?;
+//! let color = Arg::new(alloc, id).short('c').help(help);
+//! let color = color.num_args(range).hide(true);
+//! color.value_name(when)
+//! ```
+//!
+//! These lines describe the hidden option `-c`, whose value may be left out. Its help text is
+//! `Colour`, and its value is shown as `WHEN`.
 #![tactic(auto)]
 
 mod action;

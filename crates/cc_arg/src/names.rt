@@ -1,4 +1,4 @@
-//! The names of an argument that are shown.
+//! The visible names of an argument.
 
 ghost use Rattle.std.specs.Prelude.{◌≡◌};
 ghost use Rattle.cc_arg.specs.Aliases.{longs_left, shorts_left};
@@ -8,7 +8,7 @@ use crate::aliases::{LongAndVisibleAliases, ShortAndVisibleAliases};
 use crate::arg::Arg;
 use cc_base::TextRef;
 
-/// A name of an argument that is shown, without its dashes.
+/// A visible name of an argument, without its dashes.
 #[derive(Drop)]
 pub enum ShownName<'a> {
     /// The `c` of `-c`.
@@ -17,7 +17,7 @@ pub enum ShownName<'a> {
     Long(TextRef<'a>),
 }
 
-/// The shorts of an argument that are shown, then its longs that are shown.
+/// An iterator over the visible shorts of an argument, then its visible longs.
 #[derive(Drop)]
 pub struct ShownNames<'a> {
     shorts: ShortAndVisibleAliases<'a>,
@@ -42,9 +42,9 @@ impl<'a> Iterator for ShownNames<'a> {
     }
 }
 
-// Free functions, so that `clap_complete` need not re-export them.
+// These are free functions, so that `clap_complete` does not re-export them.
 
-/// The short, then its visible aliases; none without a short.
+/// Returns an iterator over the short, then its visible aliases. It is empty if there is no short.
 pub fn shown_shorts(argument: &Arg) -> ShortAndVisibleAliases<'_>
     ensures { shorts_left result ≡ shown_shorts argument.now }
 {
@@ -55,7 +55,7 @@ pub fn shown_shorts(argument: &Arg) -> ShortAndVisibleAliases<'_>
     }
 }
 
-/// The long, then its visible aliases; none without a long.
+/// Returns an iterator over the long, then its visible aliases. It is empty if there is no long.
 pub fn shown_longs(argument: &Arg) -> LongAndVisibleAliases<'_>
     ensures { longs_left result ≡ shown_longs argument.now }
 {
@@ -66,7 +66,7 @@ pub fn shown_longs(argument: &Arg) -> LongAndVisibleAliases<'_>
     }
 }
 
-/// The shorts that are shown, then the longs that are shown.
+/// Returns an iterator over the visible shorts, then the visible longs.
 pub fn shown_names(argument: &Arg) -> ShownNames<'_>
     ensures { names_left result ≡ shown_names argument.now }
 {

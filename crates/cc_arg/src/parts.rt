@@ -1,4 +1,4 @@
-//! What one argument holds.
+//! The fields of an argument.
 
 ghost use Rattle.std.specs.Prelude.{◌≡◌, IfOk};
 ghost use Rattle.std.specs.Option.{option_copied};
@@ -11,67 +11,68 @@ use crate::value_hint::ValueHint;
 use cc_base::{ArgValueCandidates, ArgValueCompleter, Items, Text};
 use std::alloc::{AllocError, Global};
 
-/// What one argument holds, of which a crate above can make one.
+/// The fields of an argument, from which a crate above can make one.
 #[derive(Drop)]
 pub struct ArgParts {
-    /// The id, by which commands and conflicts name it.
+    /// The id, by which commands and conflicts refer to it.
     pub id: Text,
-    /// The `c` of `-c`.
+    /// The short: the `c` of `-c`.
     pub short: Option<char>,
-    /// Shorts that a parser takes and that are not shown.
+    /// Hidden aliases of the short, which a parser accepts.
     pub short_aliases: Items<char>,
-    /// Shorts that work and are shown where there is a short.
+    /// Visible aliases of the short, shown only if there is a short.
     pub visible_short_aliases: Items<char>,
-    /// The `name` of `--name`.
+    /// The long: the `name` of `--name`.
     pub long: Option<Text>,
-    /// Longs that a parser takes and that are not shown.
+    /// Hidden aliases of the long, which a parser accepts.
     pub aliases: Items<Text>,
-    /// Longs that work and are shown where there is a long.
+    /// Visible aliases of the long, shown only if there is a long.
     pub visible_aliases: Items<Text>,
-    /// What the argument says of itself.
+    /// The help text.
     pub help: Option<Text>,
-    /// What it does.
+    /// The action.
     pub action: Option<ArgAction>,
-    /// How many values one use takes.
+    /// How many values each use takes.
     pub num_args: Option<ValueRange>,
-    /// The names of its values.
+    /// The names of the values.
     pub value_names: Items<Text>,
-    /// Its possible values, where a list of them was given.
+    /// The possible values, if they are limited to a list.
     pub possible_values: Option<Items<PossibleValue>>,
-    /// What its values are.
+    /// The value hint.
     pub value_hint: ValueHint,
-    /// The word that ends its values.
+    /// The word that ends the values.
     pub value_terminator: Option<Text>,
-    /// The value that a parser takes where the argument is left out.
+    /// The value that a parser uses if the argument is not given.
     pub default_value: Option<Text>,
-    /// Its heading, a tag of candidates.
+    /// The help heading, which tags candidates.
     pub help_heading: Option<Text>,
-    /// The character between several values in one word.
+    /// The character that separates several values in one word.
     pub value_delimiter: Option<char>,
-    /// The number of the completer that is asked for values.
+    /// The number of the completer of the values.
     pub completer: Option<ArgValueCompleter>,
-    /// The number of the list that values are taken from.
+    /// The number of the list of candidates for the values.
     pub candidates: Option<ArgValueCandidates>,
     /// The index of a positional, counted from 1.
     pub index: Option<usize>,
-    /// Its display order, given or taken when it was added to a command.
+    /// The display order, either set or filled in when the argument was added to a command.
     pub display_order: Option<usize>,
-    /// The ids of arguments that may not be given together with it.
+    /// The ids of arguments that cannot be given together with this one.
     pub conflicts: Items<Text>,
-    /// Whether it has to be given.
+    /// True if the argument must be given.
     pub required: bool,
-    /// Whether it is given only after `--`.
+    /// True if the argument can be given only after `--`.
     pub last: bool,
-    /// Whether a build propagates it to the commands below.
+    /// True if building the command also adds the argument to the commands below it.
     pub global: bool,
-    /// Whether it is hidden.
+    /// True if the argument is hidden.
     pub hide: bool,
-    /// Whether words that begin with `-` are taken as its values.
+    /// True if words that begin with `-` are accepted as values.
     pub allow_hyphen_values: bool,
 }
 
 impl ArgParts {
-    /// An argument with this id and nothing else; its lists allocate from `alloc`.
+    /// Makes the fields of an argument with this id, in which nothing else is set. The lists
+    /// allocate from `alloc`.
     pub fn new(alloc: Global, id: Text) -> ArgParts
         ensures { result ≡ new_arg id }
     {
@@ -106,7 +107,7 @@ impl ArgParts {
         }
     }
 
-    // An equal copy.
+    // Returns an equal copy.
     pub(crate) fn try_clone(&self, alloc: Global) -> Result<ArgParts, AllocError>
         ensures { IfOk result (λ copy. copy ≡ self.now) }
     {
@@ -146,8 +147,8 @@ impl ArgParts {
     }
 }
 
-// The parts that own memory are copied in four groups, since a function's check grows with the
-// values that it owns at each call that may fail.
+// The fields that own memory are copied in four groups, because the proof of a function grows with
+// the number of values that it owns at each call that can fail.
 
 type Longs = (Text, Option<Text>, Items<Text>, Items<Text>);
 
@@ -157,7 +158,7 @@ type Values = (Items<Text>, Option<Items<PossibleValue>>, Items<Text>);
 
 type Words = (Option<Text>, Option<Text>);
 
-// A copy of the id, the long and its aliases.
+// Copies the id, the long and its aliases.
 fn copy_longs(alloc: Global, parts: &ArgParts) -> Result<Longs, AllocError>
     ensures { IfOk result (λ copy. (copy.0 ≡ parts.now.id) × (copy.1 ≡ parts.now.long)
         × (copy.2 ≡ parts.now.aliases) × (copy.3 ≡ parts.now.visible_aliases)) }
@@ -169,7 +170,7 @@ fn copy_longs(alloc: Global, parts: &ArgParts) -> Result<Longs, AllocError>
     Ok((id, long, aliases, visible_aliases))
 }
 
-// A copy of the aliases of the short, the help and its heading.
+// Copies the aliases of the short, the help text and its heading.
 fn copy_shorts(alloc: Global, parts: &ArgParts) -> Result<ShortsAndHelp, AllocError>
     ensures { IfOk result (λ copy. (copy.0 ≡ parts.now.short_aliases)
         × (copy.1 ≡ parts.now.visible_short_aliases) × (copy.2 ≡ parts.now.help)
@@ -182,7 +183,7 @@ fn copy_shorts(alloc: Global, parts: &ArgParts) -> Result<ShortsAndHelp, AllocEr
     Ok((short_aliases, visible_aliases, help, help_heading))
 }
 
-// A copy of the value names, the possible values and the conflicts.
+// Copies the value names, the possible values and the conflicts.
 fn copy_values(alloc: Global, parts: &ArgParts) -> Result<Values, AllocError>
     ensures { IfOk result (λ copy. (copy.0 ≡ parts.now.value_names)
         × (copy.1 ≡ parts.now.possible_values) × (copy.2 ≡ parts.now.conflicts)) }
@@ -193,7 +194,7 @@ fn copy_values(alloc: Global, parts: &ArgParts) -> Result<Values, AllocError>
     Ok((value_names, possible_values, conflicts))
 }
 
-// A copy of the terminator and the default value.
+// Copies the terminator and the default value.
 fn copy_words(alloc: Global, parts: &ArgParts) -> Result<Words, AllocError>
     ensures { IfOk result (λ copy. (copy.0 ≡ parts.now.value_terminator)
         × (copy.1 ≡ parts.now.default_value)) }
@@ -203,7 +204,7 @@ fn copy_words(alloc: Global, parts: &ArgParts) -> Result<Words, AllocError>
     Ok((value_terminator, default_value))
 }
 
-// The text of a field, where it has one.
+// Returns the text of a field, if it is set.
 pub(crate) fn text_of(field: &Option<Text>) -> Option<&str>
     ensures { option_copied result ≡ field.now }
 {

@@ -8,7 +8,7 @@ ghost use Rattle.cc_arg.specs.PossibleValues.{new_possible_value};
 use cc_base::{Items, Text};
 use std::alloc::{AllocError, Global};
 
-/// A value that an argument may have.
+/// A value that an argument accepts.
 #[derive(Drop)]
 pub struct PossibleValue {
     name: Text,
@@ -17,7 +17,7 @@ pub struct PossibleValue {
 }
 
 impl PossibleValue {
-    /// The value of this name, without help, and shown.
+    /// Makes a visible value with this name and no help text.
     pub fn new(name: String) -> PossibleValue
         ensures { result ≡ new_possible_value (string_bytes name) }
     {
@@ -28,7 +28,7 @@ impl PossibleValue {
         }
     }
 
-    /// Sets the help.
+    /// Sets the help text.
     pub fn help(mut self, help: String) -> PossibleValue
         ensures { result ≡ record self { help = Some (string_bytes help) } }
     {
@@ -36,7 +36,7 @@ impl PossibleValue {
         self
     }
 
-    /// Says whether the value is left out where values are shown.
+    /// Sets whether the value is hidden.
     pub fn hide(mut self, hide: bool) -> PossibleValue
         ensures { result ≡ record self { hide = hide } }
     {
@@ -44,28 +44,28 @@ impl PossibleValue {
         self
     }
 
-    /// The name.
+    /// Returns the name.
     pub fn get_name(&self) -> &str
         ensures { result.now ≡ self.now.name }
     {
         self.name.as_str()
     }
 
-    /// The help.
+    /// Returns the help text.
     pub fn get_help(&self) -> Option<&str>
         ensures { option_copied result ≡ self.now.help }
     {
         self.help.as_ref().map(|help| help.as_str())
     }
 
-    /// Whether the value is left out where values are shown.
+    /// Returns whether the value is hidden.
     pub fn is_hide_set(&self) -> bool
         ensures { result ≡ self.now.hide }
     {
         self.hide
     }
 
-    // An equal value.
+    // Returns an equal copy.
     fn try_clone(&self, alloc: Global) -> Result<PossibleValue, AllocError>
         ensures { IfOk result (λ copy. copy ≡ self.now) }
     {
@@ -77,7 +77,7 @@ impl PossibleValue {
     }
 }
 
-// A copy of these values.
+// Copies possible values.
 fn copy_of_values(
     alloc: Global,
     values: &[PossibleValue],
@@ -91,7 +91,7 @@ fn copy_of_values(
     Ok(copy)
 }
 
-// A copy of these values, where there are any.
+// Copies possible values, if there are any.
 pub(crate) fn copy_of_given(
     alloc: Global,
     values: &Option<Items<PossibleValue>>,

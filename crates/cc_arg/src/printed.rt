@@ -22,7 +22,7 @@ impl fmt::Display for Arg {
     }
 }
 
-// The long, else the short.
+// Writes the long, or the short if there is no long.
 fn write_name<W: fmt::Write>(argument: &Arg, f: &mut fmt::Formatter<W>) -> fmt::Result
     ensures { DisplaysOnOk W.write_str_gives f.old result
         (Some (printed_name argument.now.long argument.now.short)) f.new }
@@ -38,7 +38,7 @@ fn write_name<W: fmt::Write>(argument: &Arg, f: &mut fmt::Formatter<W>) -> fmt::
     Ok(())
 }
 
-// What follows the name of an option or a flag.
+// Writes the text after the name of an option or a flag.
 #[tactic(auto, unfolding(crate::specs::Printed::printed_after_name))]
 fn write_after_name<W: fmt::Write>(argument: &Arg, f: &mut fmt::Formatter<W>) -> fmt::Result
     ensures { DisplaysOnOk W.write_str_gives f.old result
@@ -83,7 +83,7 @@ fn write_names<W: fmt::Write>(argument: &Arg, f: &mut fmt::Formatter<W>) -> fmt:
     }
 }
 
-// A name, and this many times more.
+// Writes a name, then the same name `more` times.
 fn write_repeated<W: fmt::Write>(
     name: &str,
     more: usize,
@@ -114,7 +114,7 @@ fn write_others<W: fmt::Write>(
     Ok(())
 }
 
-// A name after another.
+// Writes a name that follows another.
 fn write_further<W: fmt::Write>(
     name: &str,
     optional: bool,
@@ -150,14 +150,14 @@ fn write_dots<W: fmt::Write>(there: bool, f: &mut fmt::Formatter<W>) -> fmt::Res
     Ok(())
 }
 
-// Whether the argument counts its uses.
+// Returns whether the argument counts its uses.
 fn counts(argument: &Arg) -> bool
     ensures { result ≡ is_count argument.now.action }
 {
     argument.get_action() == ArgAction::Count
 }
 
-// Whether the values of a positional may be left out.
+// Returns whether the values of a positional can be left out.
 fn may_be_left_out(argument: &Arg) -> bool
     ensures { result ≡ is_optional argument.now }
 {
@@ -165,7 +165,7 @@ fn may_be_left_out(argument: &Arg) -> bool
         && (!argument.is_required_set() || counted_range(argument).min_values() == 0)
 }
 
-// Whether more values may follow than there are names.
+// Returns whether more values can follow than there are names.
 fn may_take_more(argument: &Arg) -> bool
     ensures { result ≡ takes_more argument.now }
 {

@@ -1,9 +1,9 @@
-//! How many values an argument takes.
+//! The number of values of an argument.
 
 ghost use Rattle.std.specs.Prelude.{◌≡◌, ◌≤◌, nat_lt};
 
-/// How many values one use of an argument takes: at least `least`, and at most `greatest`, where
-/// `usize::MAX` is no bound.
+/// The number of values that each use of an argument takes: at least `least` and at most
+/// `greatest`. `usize::MAX` as `greatest` means no limit.
 #[derive(Clone, Copy, PartialEq, Eq, Debug)]
 pub struct ValueRange {
     least: usize,
@@ -11,8 +11,8 @@ pub struct ValueRange {
 }
 
 impl ValueRange {
-    /// The range from `least`, which is at most 255, to `greatest`, which is no less; `usize::MAX`
-    /// is no bound.
+    /// Makes the range from `least` to `greatest`, where `least` is at most 255 and at most
+    /// `greatest`. `usize::MAX` as `greatest` means no limit.
     pub fn new(least: usize, greatest: usize) -> ValueRange
         requires ordered { least ≤ greatest }
         requires small { least ≤ 255 }
@@ -22,7 +22,7 @@ impl ValueRange {
         ValueRange { least, greatest }
     }
 
-    /// Exactly this many values.
+    /// Makes the range of exactly `count` values.
     pub(crate) fn exactly(count: usize) -> ValueRange
         ensures least { result.least ≡ count }
         ensures greatest { result.greatest ≡ count }
@@ -33,21 +33,21 @@ impl ValueRange {
         }
     }
 
-    /// The least number of values.
+    /// Returns the least number of values.
     pub fn min_values(&self) -> usize
         ensures { result ≡ self.now.least }
     {
         self.least
     }
 
-    /// The greatest number of values; `usize::MAX` is no bound.
+    /// Returns the greatest number of values. `usize::MAX` means no limit.
     pub fn max_values(&self) -> usize
         ensures { result ≡ self.now.greatest }
     {
         self.greatest
     }
 
-    /// Whether there may be a value at all.
+    /// Returns whether the range allows a value.
     pub fn takes_values(&self) -> bool
         ensures { result ≡ nat_lt 0 self.now.greatest }
     {

@@ -1,14 +1,14 @@
-//! What the values of an argument are.
+//! The value hint of an argument.
 
-/// What the values of an argument are, so that a shell can offer fitting ones.
+/// The kind of values that an argument takes, from which a shell chooses what to offer.
 #[derive(Clone, Copy, PartialEq, Eq, Hash, Debug, Default)]
 pub enum ValueHint {
-    /// Nothing is known; the shell offers what it offers by default.
+    /// Nothing is known, and the shell completes by its default.
     #[default]
     Unknown,
-    /// None of the other kinds; nothing is offered.
+    /// A value of another kind than those below, for which nothing is offered.
     Other,
-    /// Any path that exists.
+    /// Any existing path.
     AnyPath,
     /// A path to a file.
     FilePath,
@@ -18,9 +18,9 @@ pub enum ValueHint {
     ExecutablePath,
     /// The name of a command, without arguments.
     CommandName,
-    /// A command line as one value.
+    /// A command line in one value.
     CommandString,
-    /// A command and its arguments, each a value.
+    /// A command and its arguments, each as one value.
     CommandWithArguments,
     /// The name of a user.
     Username,

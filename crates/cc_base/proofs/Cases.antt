@@ -5,6 +5,6 @@ pub option_cases : {A : Type 0} (option : Option A) → ((value : A) × (option 
 option_cases (Some value) = inl (value, refl)
 option_cases None = inr refl
 
--- one of two, by a test
+-- one of two values, chosen by a test
 abbrev pub choose : {A : Type 0} → Bool → A → A → A
 choose test first second = elim test [ true ↦ first | false ↦ second ]

@@ -1,4 +1,4 @@
--- Lists of which no two have the same value.
+-- Lists in which no two elements have the same value.
 use Rattle.std.proofs.Common.{◌≡◌, ◌≢◌, Bool, true, false, IsTrue, List, [], ◌∷◌, ◌++◌, map, inl, inr, refl, sym}
 use Rattle.std.specs.Bool.{Decides}
 use Rattle.std.specs.List.{AllByRecursion, IsDistinct}
@@ -8,7 +8,7 @@ use Rattle.std.proofs.lemmas.Bool.{false_from_ne_true}
 use Rattle.cc_base.specs.Differ.{AllDifferBy}
 use Rattle.cc_base.proofs.Members.{IsIn, IsIn-append, AllByRecursion-IsIn, AllByRecursion-from_IsIn, AllByRecursion-map, AllByRecursion-weaker}
 
--- lists that share no value
+-- two lists that share no value, joined
 pub AllDifferBy-append : {A B : Type 0} (value : A → B) → (xs ys : List A) → AllDifferBy value xs → AllDifferBy value ys →
     ((x y : A) → IsIn xs x → IsIn ys y → value x ≢ value y) → AllDifferBy value (xs ++ ys)
 AllDifferBy-append value [] ys h k apart = k
@@ -20,12 +20,12 @@ AllDifferBy-append value (x ∷ xs) ys h k apart = (
   AllDifferBy-append value xs ys h.1 k (λ x y p q. apart x y (inr p) q),
 )
 
--- a list of other things with these values
+-- a `map` whose results have these values
 pub AllDifferBy-map : {A B C : Type 0} (value : B → C) (f : A → B) → (xs : List A) → AllDifferBy (λ x. value (f x)) xs → AllDifferBy value (map f xs)
 AllDifferBy-map value f [] h = tt
 AllDifferBy-map value f (x ∷ xs) h = (AllByRecursion-map (λ other. value (f x) ≢ value other) f xs h.0, AllDifferBy-map value f xs h.1)
 
--- other values, which tell the first ones apart
+-- if values differ, so do other values that determine them
 pub AllDifferBy-finer : {A B C : Type 0} (value : A → B) (other : A → C) (IsGood : A → Type 0) → ((x y : A) → IsGood x → IsGood y → other x ≡ other y → value x ≡ value y) →
     (xs : List A) → AllByRecursion IsGood xs → AllDifferBy value xs → AllDifferBy other xs
 AllDifferBy-finer value other IsGood tells [] good h = tt
@@ -35,7 +35,7 @@ AllDifferBy-finer value other IsGood tells (x ∷ xs) good h = (
   AllDifferBy-finer value other IsGood tells xs good.1 h.1,
 )
 
--- ---- in another order, where a test decides whether values are the same
+-- ---- in another order, if a test decides whether values are equal
 
 module _ {A B : Type 0} (value : A → B) (same : B → B → Bool) (decides : (x y : B) → Decides (same x y) (x ≡ y)) where
   abbrev test : A → A → Bool

@@ -1,4 +1,5 @@
--- Where a mark is found: not in a text that lacks its first byte, nor in one that is tested byte by byte.
+-- A search for a mark passes over a text that lacks its first byte, and over one in which the mark
+-- begins at no byte.
 use Rattle.std.specs.Prelude.{bytes_eq}
 use Rattle.std.proofs.Common.{◌≡◌, ◌≢◌, ◌==◌, ℕ, Bool, true, false, cond, List, [], ◌∷◌, ◌++◌, Option, Some, None, inl, inr, refl, sym, ◌∙◌, ap, append_assoc, append-nil}
 use Rattle.std.specs.List.{AllByRecursion}
@@ -9,11 +10,11 @@ use Rattle.cc_base.specs.Found.{after, with_front, cut_at, without_blanks, after
 abbrev pub Cut : Type 0
 Cut = Option (List ℕ × List ℕ)
 
--- no byte of the text is this one
+-- no byte of the text is the given one
 abbrev pub Lacks : ℕ → List ℕ → Type 0
 Lacks special text = AllByRecursion (λ byte. (special == byte) ≡ false) text
 
--- no byte of the text passes
+-- no byte of the text passes the test
 abbrev pub NonePasses : (ℕ → Bool) → List ℕ → Type 0
 NonePasses passes text = AllByRecursion (λ byte. passes byte ≡ false) text
 
@@ -27,7 +28,7 @@ unfolding with_front
 with_front-append front more None = refl
 with_front-append front more (Some (before, rest)) = ap (λ t. Some (t, rest)) (sym (append_assoc front more before))
 
--- one byte on
+-- the search, one byte further
 abbrev cut_step : ℕ → Option (List ℕ) → Cut → Cut
 cut_step byte found later = elim found [
   | Some rest ↦ Some ([], rest)
@@ -42,7 +43,7 @@ pub after-none : (first byte : ℕ) (mark text : List ℕ) → (first == byte) �
 unfolding after
 after-none first byte mark text e = rw (after, e) refl
 
--- past a text that lacks the mark's first byte
+-- the search passes over a text that lacks the mark's first byte
 pub past_lacking : (first : ℕ) (mark text rest : List ℕ) → Lacks first text → cut_at (first ∷ mark) (text ++ rest) ≡ with_front text (cut_at (first ∷ mark) rest)
 past_lacking first mark [] rest h = sym (with_front-nil (cut_at (first ∷ mark) rest))
 past_lacking first mark (byte ∷ text) rest h =
@@ -50,7 +51,7 @@ past_lacking first mark (byte ∷ text) rest h =
     ∙ ap (with_front (byte ∷ [])) (past_lacking first mark text rest h.1)
     ∙ with_front-append (byte ∷ []) text (cut_at (first ∷ mark) rest)
 
--- whether the mark begins at no byte of a text, whatever follows it
+-- whether the mark begins at no byte of a text, given what follows it
 abbrev pub is_free : List ℕ → List ℕ → List ℕ → Bool
 is_free mark [] rest = true
 is_free mark (byte ∷ text) rest = elim (after mark (byte ∷ text ++ rest)) [
@@ -61,7 +62,7 @@ is_free mark (byte ∷ text) rest = elim (after mark (byte ∷ text ++ rest)) [
 abbrev free_step : Bool → Option (List ℕ) → Bool
 free_step later found = elim found [ Some _ ↦ false | None ↦ later ]
 
--- past such a text
+-- the search passes over a text in which the mark begins at no byte
 pub past_free : (mark text rest : List ℕ) → is_free mark text rest ≡ true → cut_at mark (text ++ rest) ≡ with_front text (cut_at mark rest)
 past_free mark [] rest h = sym (with_front-nil (cut_at mark rest))
 past_free mark (byte ∷ text) rest h = elim (option_cases (after mark (byte ∷ text ++ rest))) [
@@ -82,7 +83,7 @@ run_on passes run (byte ∷ text) rest h =
     ∙ run_on passes (run ++ byte ∷ []) text rest h.1
     ∙ ap (λ r. after_last_from passes r rest) (append_assoc run (byte ∷ []) text)
 
--- a text without blanks, or one that begins with none
+-- a text without whitespace, and one that does not begin with whitespace
 pub no_blanks : (text : List ℕ) → NonePasses is_blank text → without_blanks text ≡ text
 unfolding without_blanks
 no_blanks [] h = refl

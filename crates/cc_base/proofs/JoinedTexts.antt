@@ -4,7 +4,7 @@ use Rattle.std.proofs.lemmas.List.{append-nil}
 use Rattle.std.proofs.Math.Bool.{or_assoc}
 use Rattle.cc_base.specs.Joined.{has_texts, joined_after, with_pieces}
 
--- the texts of two lists
+-- the texts of two lists, joined
 pub joined_append : (between : List ℕ) (begun : Bool) (texts more : List (List ℕ)) →
     joined_after between begun (texts ++ more)
     ≡ joined_after between begun texts ++ joined_after between (begun || has_texts texts) more
@@ -24,7 +24,7 @@ pub has_texts_append : (texts more : List (List ℕ)) →
 has_texts_append [] more = refl
 has_texts_append (text ∷ texts) more = refl
 
--- after some of the texts are written, what was taken and the texts that are left make the whole
+-- after some texts are written, the bytes taken and the texts that remain make up the whole
 pub joined_step : (between : List ℕ) (begun now : Bool) (first rest : List (List ℕ))
     (before taken whole : List ℕ) →
     taken ≡ before ++ joined_after between begun first → now ≡ (begun || has_texts first) →
@@ -36,7 +36,7 @@ joined_step between begun now first rest before taken whole step is so_far =
     ∙ ap (λ b. before ++ (joined_after between begun first ++ joined_after between b rest)) is
     ∙ ap (λ t. before ++ t) (sym (joined_append between begun first rest)) ∙ so_far
 
--- and so of whether there is a text
+-- the same for whether there is a text
 pub begun_step : (begun now whole : Bool) (first rest : List (List ℕ)) →
     now ≡ (begun || has_texts first) →
     (begun || has_texts (first ++ rest)) ≡ whole → (now || has_texts rest) ≡ whole
@@ -44,7 +44,7 @@ begun_step begun now whole first rest is so_far =
     ap (λ b. b || has_texts rest) is ∙ or_assoc begun (has_texts first) (has_texts rest)
     ∙ ap (λ b. begun || b) (sym (has_texts_append first rest)) ∙ so_far
 
--- pieces after a text, the brackets aside
+-- pieces after a text, whatever the brackets
 pieces_after : {P : Type 0} (text : P → List ℕ) (before : List ℕ) (pieces : List P) →
     with_pieces text before pieces ≡ before ++ flat_map text pieces
 pieces_after text before [] = sym (append-nil before)

@@ -1,4 +1,4 @@
--- What readers want of the bytes of plain names.
+-- Facts about the bytes of plain names, for readers of scripts.
 use Rattle.std.proofs.Common.{◌≡◌, ◌≢◌, ◌==◌, ◌||◌, ℕ, Bool, true, false, cond, IsTrue, List, [], ◌∷◌, map, refl, sym, ◌∙◌, ap}
 use Rattle.std.proofs.lemmas.Bool.{ne_eqb}
 use Rattle.std.specs.Char.{is_ascii_alphanumeric}
@@ -23,7 +23,7 @@ of_bytes : (name : List ℕ) → AllByRecursion (λ byte. byte ≢ foreign) (map
 of_bytes [] h = tt
 of_bytes (byte ∷ name) h = (h.0, of_bytes name h.1)
 
--- those of a plain name may
+-- each byte of a plain name may occur in a name
 pub plain_bytes : (name : List ℕ) → IsTrue (is_plain_name name) → AreNameBytes name
 unfolding is_plain_name
 plain_bytes name h = of_bytes name (none_foreign (map name_byte name) h)
@@ -52,7 +52,7 @@ unfolding is_plain_name is_joined
 plain_some [] h = cc
 plain_some (byte ∷ name) h = λ e. cc
 
--- such a byte is a letter, a digit, a `-` or a `_`
+-- a byte that may occur in a name is a letter, a digit, a `-` or a `_`
 pub letter_or_joiner : (byte : ℕ) → name_byte byte ≢ foreign → (is_ascii_alphanumeric byte || (byte == dash || byte == underscore)) ≡ true
 unfolding name_byte
 letter_or_joiner byte h = by_tests (is_ascii_alphanumeric byte) (byte == dash || byte == underscore) h
@@ -62,13 +62,13 @@ letter_or_joiner byte h = by_tests (is_ascii_alphanumeric byte) (byte == dash ||
     by_tests false true k = refl
     by_tests false false k = absurd (k refl)
 
--- it begins with a letter or a digit
+-- a plain name begins with a letter or a digit
 first_letter : (kind : NameByte) (kinds : List NameByte) → IsTrue (is_joined (kind ∷ kinds)) → kind ≡ letter
 unfolding is_joined
 first_letter letter kinds h = refl
 first_letter kind kinds h = cc
 
--- so it does not begin with a `-` or a `_`
+-- so a plain name does not begin with a `-` or a `_`
 pub no_joiner_first : (special byte : ℕ) (name : List ℕ) → name_byte special ≡ joiner → IsTrue (is_plain_name (byte ∷ name)) → (special == byte) ≡ false
 unfolding is_plain_name
 no_joiner_first special byte name h plain =

@@ -1,4 +1,4 @@
--- What is shown holds no control character.
+-- A shown text holds no control character.
 use Rattle.std.proofs.Common.{◌≡◌, ◌&&◌, ℕ, Bool, true, false, List, [], ◌∷◌, ap₂, if◌then◌else◌, map, refl, subst, sym}
 use Rattle.std.proofs.lemmas.Str.{chars-encodes, scalars-chars}
 use Rattle.std.proofs.lemmas.Bool.{and_parts}
@@ -24,14 +24,14 @@ scalar_by : (control : Bool) (c : ℕ) → scalar c ≡ true → scalar (if cont
 scalar_by true c is = refl
 scalar_by false c is = is
 
--- what is shown of characters are characters
+-- shown characters are characters
 all_shown : (cs : List ℕ) → all_scalars cs ≡ true → all_scalars (map visible cs) ≡ true
 all_shown [] are = refl
 all_shown (c ∷ cs) are =
     let parts = and_parts (scalar c) (all_scalars cs) are in
     ap₂ (λ a b. a && b) (scalar_by (is_control c) c parts.0) (all_shown cs parts.1)
 
--- a text as it is shown holds no control character
+-- a text as `on_one_line` returns it holds no control character
 pub shown_holds_none : (text : List ℕ) → IsUtf8 text → HoldsNoControl (on_one_line text)
 shown_holds_none text utf8 =
     subst (AllByRecursion IsNoControl)

@@ -1,4 +1,4 @@
--- What a stable sort returns is the list in order, and what is in a list in order.
+-- A stable sort returns the list in order. A list in order has the elements of the list.
 use Rattle.std.proofs.Common.{◌≡◌, ℕ, zero, suc, ◌+◌, ◌<◌, ◌≤◌, Bool, true, false, cond, not, List, [], ◌∷◌, map, length, get_or, filter, inl, inr, refl, sym, ap, ◌∙◌, arith}
 use Rattle.std.specs.Cmp.{IsStrictWeakOrder}
 use Rattle.std.specs.List.{AllByRecursion}
@@ -59,7 +59,7 @@ module _ {X : Type 0} (lt : X → X → Bool) (o : IsStrictWeakOrder lt) where
   up-in_order [] = tt
   up-in_order (x ∷ xs) = up-insert x (in_order lt xs) (up-in_order xs)
 
-  -- where one of two elements is below the other, they do not both tie with z
+  -- if one of two elements is below the other, they do not both tie with `z`
   pub apart : (z x y : X) → lt y x ≡ true → ties lt z x ≡ true → ties lt z y ≡ true → ⊥
   apart z x y below one other =
       let a = and_parts (not (lt z x)) (not (lt x z)) one in
@@ -105,7 +105,7 @@ module _ {X : Type 0} (lt : X → X → Bool) (o : IsStrictWeakOrder lt) where
   below_all y z w below e = elim (cases_Bool (lt y w))
       [ inl t ↦ t | inr f ↦ let no : lt y z ≡ false = o.chain y w z f e in cc ]
 
-  -- nothing that is above y ties with it
+  -- no element above `y` ties with it
   none_tied : (y z : X) (zs : List X) → lt y z ≡ true → NoneBelow lt z zs → filter (ties lt y) zs ≡ []
   none_tied y z [] below h = refl
   none_tied y z (w ∷ zs) below h =
@@ -130,7 +130,7 @@ module _ {X : Type 0} (lt : X → X → Bool) (o : IsStrictWeakOrder lt) where
       by true e = cc
       by false e = e
 
-  -- two lists in order whose ties are alike are one
+  -- two ordered lists with the same ties are equal
   pub one_order : (ys zs : List X) → Up lt ys → Up lt zs →
       ((x : X) → filter (ties lt x) ys ≡ filter (ties lt x) zs) → ys ≡ zs
   one_order [] [] up down h = refl
@@ -157,17 +157,17 @@ module _ {X : Type 0} (lt : X → X → Bool) (o : IsStrictWeakOrder lt) where
       rw next (up_sorted (y ∷ xs) h.1 k d (omega arith) (omega arith))
   up_sorted xs h k d from below = absurd (omega arith)
 
-  -- what is in order is sorted
+  -- a list in order is sorted
   pub in_order-sorted : (xs : List X) → IsSortedBy lt (in_order lt xs)
   in_order-sorted xs = up_sorted (in_order lt xs) (up-in_order xs)
 
-  -- a list that is sorted and stable is the other in order
+  -- a sorted and stable list is the other list in order
   pub sorted_is : (xs ys : List X) → IsSortedBy lt ys → IsStableBy lt xs ys → ys ≡ in_order lt xs
   sorted_is xs ys sorted stable =
       one_order ys (in_order lt xs) (up_from ys (sorted_far lt o ys sorted)) (up-in_order xs)
       (λ x. stable x ∙ sym (stable-in_order x xs))
 
--- order by what a function makes of the elements
+-- elements ordered by the value of a function
 module _ {X Y : Type 0} (f : X → Y) (lt : Y → Y → Bool) where
   map-insert : (x : X) (ys : List X) →
       map f (insert (λ a b. lt (f a) (f b)) x ys) ≡ insert lt (f x) (map f ys)
@@ -185,7 +185,7 @@ module _ {X Y : Type 0} (f : X → Y) (lt : Y → Y → Bool) where
   map-in_order (x ∷ xs) = map-insert x (in_order (λ a b. lt (f a) (f b)) xs)
       ∙ ap (insert lt (f x)) (map-in_order xs)
 
--- the same elements in order
+-- the same elements, in order
 module _ {X : Type 0} (below : X → X → Bool) where
   IsIn-insert : (x y : X) (ys : List X) → IsIn (insert below x ys) y → IsIn (x ∷ ys) y
   unfolding insert
@@ -227,7 +227,7 @@ module _ {X : Type 0} (below : X → X → Bool) where
   in_order-IsIn (x ∷ xs) y (inr k) = insert-IsIn x y (in_order below xs)
       (inr (in_order-IsIn xs y k))
 
-  -- what is so of each is so of each in order
+  -- what holds for each element also holds for each once they are in order
   pub AllByRecursion-in_order : (P : X → Type 0) (xs : List X) → AllByRecursion P xs →
       AllByRecursion P (in_order below xs)
   AllByRecursion-in_order P xs h =

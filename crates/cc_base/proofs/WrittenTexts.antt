@@ -1,18 +1,18 @@
--- What is written, said of an equal text, and of one text written after another.
+-- `Writes` for an equal text, and for one text written after another.
 use Rattle.std.proofs.Common.{◌≡◌, ℕ, List, ◌++◌, Result, Ok, ap, ◌∙◌, append_assoc, subst}
 use Rattle.std.proofs.lemmas.Result.{on_ok_weaker}
 use Rattle.cc_base.specs.declared.error.Error.{Error}
 use Rattle.cc_base.specs.Sink.{Failures}
 use Rattle.cc_base.specs.Writes.{Writes, CountsWrite}
 
--- what is written is an equal text
+-- a call that writes a text also writes an equal text
 pub writes_same : {S : Type 0} {taken : S → List ℕ} {failed : S → Failures}
     {result : Result (Unit {0}) Error} {old new : S} (text other : List ℕ) → text ≡ other →
     Writes taken failed result old new text → Writes taken failed result old new other
 writes_same {S} {taken} {failed} {result} {old} {new} text other e w =
     let P : List ℕ → Type 0 = λ t. Writes taken failed result old new t in subst P e w
 
--- a text is written after another
+-- one text is written after another
 pub writes_then : {S : Type 0} {taken : S → List ℕ} {failed : S → Failures} {u : Unit {0}}
     {result : Result (Unit {0}) Error} {old mid new : S} (a b : List ℕ) →
     Writes taken failed (Ok u) old mid a → Writes taken failed result mid new b →

@@ -82,7 +82,7 @@ underscore = 95
 abbrev pub backtick : ℕ
 backtick = 96
 
--- `’`, the right single quotation mark U+2019, is three bytes
+-- the three bytes of `’`, the right single quotation mark U+2019
 abbrev pub right_quote_first : ℕ
 right_quote_first = 226
 
@@ -92,7 +92,7 @@ right_quote_second = 128
 abbrev pub right_quote_third : ℕ
 right_quote_third = 153
 
--- all three
+-- all three bytes
 abbrev pub right_quote : List ℕ
 right_quote = right_quote_first ∷ right_quote_second ∷ right_quote_third ∷ []
 

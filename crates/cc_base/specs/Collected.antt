@@ -1,9 +1,9 @@
--- What a clause reads of a sink in memory.
+-- The parts of a sink in memory that clauses read.
 use Rattle.std.specs.Prelude.{ℕ, List}
 use Rattle.cc_base.specs.declared.collected.Collected.{Collected}
 use Rattle.cc_base.specs.Sink.{Failures}
 
--- the bytes that it took
+-- the bytes taken
 abbrev pub collected_bytes : Collected → List ℕ
 collected_bytes collected = collected.bytes.items
 

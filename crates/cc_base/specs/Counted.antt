@@ -1,13 +1,13 @@
--- What a clause reads of a writer that is a sink.
+-- The parts of a counting sink that clauses read.
 use Rattle.std.specs.Prelude.{ℕ, List}
 use Rattle.cc_base.specs.declared.counted.Counted.{Counted}
 use Rattle.cc_base.specs.Sink.{Failures}
 
--- the writer that takes the bytes
+-- the writer to which the bytes are passed
 abbrev pub counted_writer : {W : Type 0} → Counted W → W
 counted_writer counted = counted.writer
 
--- the bytes that it took
+-- the bytes taken
 abbrev pub counted_bytes : {W : Type 0} → Counted W → List ℕ
 counted_bytes counted = counted.history.bytes
 

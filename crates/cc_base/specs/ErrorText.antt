@@ -1,9 +1,9 @@
--- What an error prints.
+-- The text that an error prints.
 use Rattle.std.specs.Prelude.{ℕ, List, ◌++◌, codes}
 use Rattle.cc_base.specs.declared.error.Error.{Error}
 use Rattle.cc_base.specs.declared.error.Error.TheVariants.{Memory, Write, LabelClash, NoCompletion, NoArguments, UnknownShell, InvalidVariant}
 
--- the text, with no line feed
+-- the text, to which no line feed is added
 abbrev pub error_text : Error → List ℕ
 error_text Memory = codes "out of memory"
 error_text (Write _) = codes "write failed"

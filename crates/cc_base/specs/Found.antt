@@ -3,7 +3,7 @@ use Rattle.std.specs.Prelude.{ℕ, Bool, true, false, List, [], ◌∷◌, ◌++
 use Rattle.std.specs.Option.{option_and_then}
 use Rattle.cc_base.specs.Bytes.{line_feed, is_blank}
 
--- the text after this front; none where it begins otherwise
+-- the text after a front; `None` if it does not begin with that front
 unfoldable pub after : List ℕ → List ℕ → Option (List ℕ)
 after [] text = Some text
 after (byte ∷ front) [] = None
@@ -12,18 +12,18 @@ after (byte ∷ front) (first ∷ text) = elim (byte == first) [
   | false ↦ None
 ]
 
--- the text before this ending; none where it ends otherwise
+-- the text before an ending; `None` if it does not end with that ending
 unfoldable pub before_ending : List ℕ → List ℕ → Option (List ℕ)
 before_ending ending text =
     option_map (λ front. reverse front) (after (reverse ending) (reverse text))
 
--- a cut with some text more before it
+-- a cut with `front` added to the text before it
 unfoldable pub with_front : List ℕ → Option (List ℕ × List ℕ) → Option (List ℕ × List ℕ)
 with_front front None = None
 with_front front (Some (before, rest)) = Some (front ++ before, rest)
 
--- the text before the first occurrence of a mark, and the text after the mark; none where there is
--- no occurrence
+-- the text before the first occurrence of a mark, and the text after that occurrence; `None` if the
+-- mark does not occur
 unfoldable pub cut_at : List ℕ → List ℕ → Option (List ℕ × List ℕ)
 cut_at mark [] = None
 cut_at mark (byte ∷ text) = elim (after mark (byte ∷ text)) [
@@ -35,15 +35,15 @@ cut_at mark (byte ∷ text) = elim (after mark (byte ∷ text)) [
 unfoldable pub up_to : List ℕ → List ℕ → Option (List ℕ)
 up_to mark text = option_map (λ cut. cut.0) (cut_at mark text)
 
--- the text after it
+-- the text after the first occurrence of a mark
 unfoldable pub after_mark : List ℕ → List ℕ → Option (List ℕ)
 after_mark mark text = option_map (λ cut. cut.1) (cut_at mark text)
 
--- the text between the first occurrence of a mark and the next occurrence of another
+-- the text between the first occurrence of one mark and the next occurrence of another
 unfoldable pub between : List ℕ → List ℕ → List ℕ → Option (List ℕ)
 between opening closing text = option_and_then (up_to closing) (after_mark opening text)
 
--- the text without the blanks that it begins with
+-- the text without the whitespace at its start
 unfoldable pub without_blanks : List ℕ → List ℕ
 without_blanks [] = []
 without_blanks (byte ∷ text) = elim (is_blank byte) [
@@ -51,7 +51,7 @@ without_blanks (byte ∷ text) = elim (is_blank byte) [
   | false ↦ byte ∷ text
 ]
 
--- the text after the last byte that passes, with what is before it since one passed
+-- the text after the last byte that passes a test; `run` is the text since such a byte so far
 unfoldable pub after_last_from : (ℕ → Bool) → List ℕ → List ℕ → List ℕ
 after_last_from passes run [] = run
 after_last_from passes run (byte ∷ text) = elim (passes byte) [
@@ -63,19 +63,19 @@ after_last_from passes run (byte ∷ text) = elim (passes byte) [
 unfoldable pub last_line : List ℕ → List ℕ
 last_line text = after_last_from (λ byte. byte == line_feed) [] text
 
--- what a text ends with, after its last blank
+-- the end of a text, after its last whitespace
 unfoldable pub last_run : List ℕ → List ℕ
 last_run text = after_last_from is_blank [] text
 
--- the word that a reader finds, after blanks
+-- the word that a reader finds after whitespace
 unfoldable pub word_by : (List ℕ → Option (List ℕ × List ℕ)) → List ℕ → Option (List ℕ)
 word_by reader text = option_map (λ read. read.0) (reader (without_blanks text))
 
--- that word after the first occurrence of a mark
+-- the word that a reader finds after the first occurrence of a mark
 unfoldable pub word_after : (List ℕ → Option (List ℕ × List ℕ)) → List ℕ → List ℕ → Option (List ℕ)
 word_after reader mark text = option_and_then (word_by reader) (after_mark mark text)
 
--- the pieces of a text between the occurrences of a byte, after the piece that is begun
+-- the pieces of a text between the occurrences of a byte; the first continues `piece`
 abbrev pub pieces_from : ℕ → List ℕ → List ℕ → List (List ℕ)
 pieces_from separator piece [] = piece ∷ []
 pieces_from separator piece (byte ∷ text) = elim (byte == separator) [
@@ -83,14 +83,14 @@ pieces_from separator piece (byte ∷ text) = elim (byte == separator) [
   | false ↦ pieces_from separator (piece ++ byte ∷ []) text
 ]
 
--- ---- words between blanks
+-- ---- words between whitespace
 
--- a word that ended, if it has a byte, before others
+-- a word followed by others; it is left out if it is empty
 unfoldable pub ended : List ℕ → List (List ℕ) → List (List ℕ)
 ended [] words = words
 ended (byte ∷ word) words = (byte ∷ word) ∷ words
 
--- the words of a text, after the one that is begun
+-- the words of a text; the first continues `word`
 unfoldable pub words_from : List ℕ → List ℕ → List (List ℕ)
 words_from word [] = ended word []
 words_from word (byte ∷ text) = elim (is_blank byte) [
@@ -98,7 +98,7 @@ words_from word (byte ∷ text) = elim (is_blank byte) [
   | false ↦ words_from (word ++ byte ∷ []) text
 ]
 
--- the word before the last, which must be this one
+-- the word before the last one; `None` unless the last one is `last`
 unfoldable pub before_last : List ℕ → List (List ℕ) → Option (List ℕ)
 before_last last [] = None
 before_last last (word ∷ []) = None

@@ -1,4 +1,4 @@
--- What a clause reads of a sink over a writer that tells what it holds.
+-- The parts of a `Held` sink that clauses read.
 use Rattle.std.specs.Prelude.{ℕ, List}
 use Rattle.std.specs.declared.option.Option.{Option}
 use Rattle.cc_base.specs.declared.held.Held.{Held}

@@ -1,4 +1,4 @@
--- Plain names: of ASCII letters and digits, with single `-` or `_` between them.
+-- Plain names: ASCII letters and digits, with single `-` or `_` between them.
 use Rattle.std.specs.Prelude.{ℕ, Bool, true, false, ◌||◌, List, [], ◌∷◌, ◌==◌, if◌then◌else◌, map}
 use Rattle.std.specs.Char.{is_ascii_alphanumeric}
 use Rattle.cc_base.specs.Bytes.{dash, underscore}
@@ -15,7 +15,7 @@ name_byte byte =
     if is_ascii_alphanumeric byte then letter else
     (if byte == dash || byte == underscore then joiner else foreign)
 
--- letters, with one joiner at most between two of them
+-- letters, with at most one joiner between two of them
 unfoldable pub is_joined : List NameByte → Bool
 is_joined (letter ∷ []) = true
 is_joined (letter ∷ letter ∷ bytes) = is_joined (letter ∷ bytes)

@@ -1,4 +1,4 @@
--- What a sink's failures are: how many puts and flushes failed, and the kind of the last failure.
+-- The failures of a sink: how many puts and flushes failed, and the kind of the last failure.
 use Rattle.std.specs.Prelude.{ℕ, ◌+◌, ◌-◌, ◌^◌, ◌==◌, nat_lt, ◌&&◌, if◌then◌else◌, List, length, Some, None, Result, Ok, Err}
 use Rattle.std.specs.declared.io.ErrorKind.{ErrorKind}
 use Rattle.std.specs.declared.io.ErrorKind.TheVariants.{WriteZero}
@@ -8,15 +8,15 @@ pub use Rattle.cc_base.specs.declared.failures.Failures.{Failures}
 abbrev pub none_failed : Failures
 none_failed = record { count = 0; last = None }
 
--- the failures after one more of this kind; the count stays at `u64::MAX`
+-- the failures after one more of the given kind; a count of `u64::MAX` stays as it is
 unfoldable pub add_failure : ErrorKind → Failures → Failures
 add_failure kind failures = record {
   count = if failures.count == 2 ^ 64 - 1 then failures.count else failures.count + 1;
   last = Some kind;
 }
 
--- the failures after a put: one more where it is an error, or where it took nothing of a slice that
--- isn't empty
+-- the failures after a put; it counts if it is an error, or if it took nothing of a slice that is
+-- not empty
 abbrev pub after_put : Result ℕ ErrorKind → List ℕ → Failures → Failures
 after_put (Ok count) bytes failures =
     if (count == 0) && nat_lt 0 (length bytes) then add_failure WriteZero failures else failures

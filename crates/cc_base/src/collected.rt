@@ -9,8 +9,8 @@ use crate::sink::Sink;
 use std::alloc::Global;
 use std::io::ErrorKind;
 
-/// A sink that keeps what it takes in memory. A put takes the whole slice, or fails with
-/// `OutOfMemory` and takes nothing.
+/// A sink that collects bytes in memory. A put takes the whole slice, or takes nothing and fails
+/// with `OutOfMemory`.
 #[derive(Drop)]
 pub struct Collected {
     bytes: Vec<u8>,
@@ -18,7 +18,7 @@ pub struct Collected {
 }
 
 impl Collected {
-    /// A sink that has taken nothing; it allocates from `alloc`.
+    /// Returns a sink that has taken nothing. It allocates from `alloc`.
     pub fn new(alloc: Global) -> Collected
         ensures bytes { collected_bytes result ≡ [] }
         ensures failures { collected_failures result ≡ none_failed }
@@ -29,14 +29,14 @@ impl Collected {
         }
     }
 
-    /// The bytes taken.
+    /// Returns the bytes taken.
     pub fn as_slice(&self) -> &[u8]
         ensures { result.now ≡ collected_bytes self.now }
     {
         self.bytes.as_slice()
     }
 
-    /// The bytes taken. Allocates nothing.
+    /// Returns the bytes taken, without allocating.
     pub fn into_vec(self) -> Vec<u8>
         ensures { result.items ≡ collected_bytes self }
     {

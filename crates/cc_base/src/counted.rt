@@ -1,4 +1,4 @@
-//! A writer of the standard library as a sink.
+//! A sink over a writer of the standard library.
 
 ghost use Rattle.std.specs.Prelude.{◌≡◌, ◌≤◌, [], ◌++◌, take, length, IfOk, IfErr, OnErr};
 ghost use Rattle.std.specs.Io.KnownBytes.{Keeps, WriteAppends};
@@ -12,13 +12,13 @@ use crate::history::History;
 use crate::sink::Sink;
 use std::io::{self, ErrorKind};
 
-/// A sink over any writer, which counts the failures. A put is one `write`; one that is
-/// interrupted failed like any other.
+/// A sink that passes bytes on to any writer and counts the failures. Each put is one `write`. An
+/// interrupted `write` counts as a failure like any other.
 ///
-/// The list of the bytes taken is kept for proofs alone and has no size. That they are passed on
-/// to the writer is shown by the short body of `put` and by a test; the contract of `put` says it
-/// only of a writer whose own contract tells what it holds. Over such a writer the bytes taken by a
-/// `Held` are those that the writer holds.
+/// The list of the bytes taken exists only for proofs and has no size. That the bytes reach the
+/// writer is shown by the short body of `put` and by a test. The contract of `put` says so only if
+/// the writer's own contract says what it holds. For such a writer use [`Held`](crate::Held), whose
+/// taken bytes are those that the writer holds.
 #[derive(Drop)]
 pub struct Counted<W> {
     writer: W,
@@ -27,7 +27,7 @@ pub struct Counted<W> {
 }
 
 impl<W> Counted<W> {
-    /// The writer as a sink that has taken nothing and has not failed.
+    /// Returns a sink over `writer` that has taken nothing and has not failed.
     pub fn new(writer: W) -> Counted<W>
         ensures writer { counted_writer result ≡ writer }
         ensures bytes { counted_bytes result ≡ [] }
@@ -40,14 +40,14 @@ impl<W> Counted<W> {
         }
     }
 
-    /// The writer.
+    /// Returns the writer.
     pub fn get_ref(&self) -> &W
         ensures { result.now ≡ counted_writer self.now }
     {
         &self.writer
     }
 
-    /// The writer, which is not flushed.
+    /// Returns the writer without flushing it.
     pub fn into_inner(self) -> W
         ensures { result ≡ counted_writer self }
     {
@@ -56,9 +56,11 @@ impl<W> Counted<W> {
 }
 
 impl<W: io::Write> Counted<W> {
-    /// Flushes the writer. A flush that fails is a failed write: it is counted.
+    /// Flushes the writer. A failed flush counts as a failed write.
     ///
-    /// Fails with `Write` and the kind of the writer's error.
+    /// # Errors
+    ///
+    /// `Write` with the kind of the writer's error.
     pub fn flush(&mut self) -> Result<(), Error>
         ensures bytes { counted_bytes self.new ≡ counted_bytes self.old }
         ensures failures { CountsWrite result

@@ -9,22 +9,22 @@ use std::alloc::{AllocError, AllocFailed};
 use std::fmt;
 use std::io::ErrorKind;
 
-/// Why a call of this library failed.
+/// The reason why a call of this library failed.
 #[derive(Debug, Drop)]
 pub enum Error {
     /// An allocation failed.
     Memory,
-    /// A put or a flush of the sink failed in this call, with this kind.
+    /// A put or a flush of the sink failed during the call. The field is the kind of its error.
     Write(ErrorKind),
-    /// Two commands have this label in a bash script.
+    /// Two commands have the same label in a bash script. The field is the label.
     LabelClash(Text),
-    /// The index of the word to complete is not in range.
+    /// The index of the word to complete is out of range.
     NoCompletion,
     /// The list of arguments is empty.
     NoArguments,
-    /// No shell has the name that was looked for. It holds the whole message.
+    /// No shell has the requested name. The field is the whole message.
     UnknownShell(Text),
-    /// A text names no shell. It holds the whole message.
+    /// The text is not the name of a shell. The field is the whole message.
     InvalidVariant(Text),
 }
 

@@ -5,7 +5,7 @@ ghost use Rattle.cc_base.specs.Sink.{none_failed, add_failure};
 
 use std::io::ErrorKind;
 
-/// How many puts and flushes of a sink failed, and the kind of the last failure.
+/// The number of puts and flushes of a sink that failed, and the kind of the last failure.
 #[derive(Clone, Copy, Debug)]
 pub struct Failures {
     count: u64,
@@ -13,7 +13,7 @@ pub struct Failures {
 }
 
 impl Failures {
-    /// No failure so far.
+    /// Returns the record of a sink that has not failed.
     pub fn none() -> Failures
         ensures { result ≡ none_failed }
     {
@@ -23,7 +23,7 @@ impl Failures {
         }
     }
 
-    /// Counts a failure of this kind. The count stays at `u64::MAX` once it is there.
+    /// Counts a failure of the given `kind`. A count of `u64::MAX` stays as it is.
     #[cold]
     #[inline(never)]
     #[tactic(auto, unfolding(crate::specs::Sink::add_failure))]
@@ -34,14 +34,14 @@ impl Failures {
         self.last = Some(kind);
     }
 
-    /// How many failed.
+    /// Returns how many puts and flushes failed.
     pub fn count(&self) -> u64
         ensures { result ≡ self.now.count }
     {
         self.count
     }
 
-    /// The kind of the last failure; `None` where nothing failed.
+    /// Returns the kind of the last failure, or `None` if nothing failed.
     pub fn last(&self) -> Option<ErrorKind>
         ensures { result ≡ self.now.last }
     {

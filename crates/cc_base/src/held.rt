@@ -1,4 +1,4 @@
-//! A sink over a writer that tells what it holds.
+//! A sink over a writer whose contract says what it holds.
 
 ghost use Rattle.std.specs.Prelude.{◌≡◌, ◌≤◌, ◌++◌, take, length, Some, IfOk, IfErr, OnErr};
 ghost use Rattle.cc_base.specs.Sink.{after_put, none_failed};
@@ -11,8 +11,8 @@ use crate::error::Error;
 use crate::sink::Sink;
 use std::io::{self, ErrorKind};
 
-/// A sink over a writer whose contract says what it holds, as a `Vec`, or a `BufWriter` over one.
-/// The bytes taken are the bytes that the writer holds, those that it held before among them.
+/// A sink over a writer whose contract says what it holds, such as a `Vec` or a `BufWriter` over
+/// one. The bytes taken are all bytes that the writer holds, including those that it held before.
 #[derive(Drop)]
 pub struct Held<W: io::Write> {
     sink: Counted<W>,
@@ -22,7 +22,7 @@ pub struct Held<W: io::Write> {
 impl<W: io::Write> Held<W> {
     ghost use Rattle.cc_base.specs.Held.{held_bytes, held_failures, held_writer};
 
-    /// The writer as a sink that has not failed.
+    /// Returns a sink over `writer` that has not failed.
     pub fn new(writer: W) -> Held<W>
         requires { Tells (W.contents writer) }
         ensures writer { held_writer result ≡ writer }
@@ -34,7 +34,7 @@ impl<W: io::Write> Held<W> {
         }
     }
 
-    /// The writer.
+    /// Returns the writer.
     pub fn get_ref(&self) -> &W
         ensures writer { result.now ≡ held_writer self.now }
         ensures bytes { W.contents result.now ≡ Some (held_bytes W.contents self.now) }
@@ -42,7 +42,7 @@ impl<W: io::Write> Held<W> {
         self.sink.get_ref()
     }
 
-    /// The writer, which is not flushed.
+    /// Returns the writer without flushing it.
     pub fn into_inner(self) -> W
         ensures writer { result ≡ held_writer self }
         ensures bytes { W.contents result ≡ Some (held_bytes W.contents self) }
@@ -50,9 +50,11 @@ impl<W: io::Write> Held<W> {
         self.sink.into_inner()
     }
 
-    /// Flushes the writer, as `Counted::flush` does.
+    /// Flushes the writer, as [`Counted::flush`] does.
     ///
-    /// Fails with `Write` and the kind of the writer's error.
+    /// # Errors
+    ///
+    /// `Write` with the kind of the writer's error.
     pub fn flush(&mut self) -> Result<(), Error>
         ensures bytes { held_bytes W.contents self.new ≡ held_bytes W.contents self.old }
         ensures failures { CountsWrite result (held_failures self.old) (held_failures self.new) }

@@ -1,4 +1,4 @@
-//! The bytes that a sink took, as proofs alone see them.
+//! The bytes that a sink took, for proofs only.
 
 ghost use Rattle.std.specs.Prelude.{◌≡◌, ℕ, List, [], ◌++◌};
 ghost use Rattle.std.specs.Borrow.{ftrue};
@@ -6,8 +6,7 @@ ghost use Rattle.std.specs.Coded.{coded_ℕ, coded_list};
 
 use std::marker::Model;
 
-/// A list of bytes that only clauses read: it has no size, and its methods do nothing when they
-/// run.
+/// A list of bytes that only clauses read. It has no size, and its methods do nothing at run time.
 #[derive(Drop)]
 pub(crate) struct History {
     pub ghost bytes: { List ℕ } by { coded_list coded_ℕ },

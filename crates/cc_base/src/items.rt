@@ -1,4 +1,4 @@
-//! A list as the type of a field.
+//! A list for use as a field type.
 
 ghost use Rattle.std.specs.Prelude.{◌≡◌, List, [], ◌∷◌, ◌++◌, IfOk, if◌then◌else◌, is_ok};
 
@@ -6,8 +6,7 @@ use crate::text::Text;
 use std::alloc::{AllocError, AllocFailed, Global};
 use std::marker::Model;
 
-/// A list. A clause sees its items alone, so that two lists are equal exactly where their items
-/// are.
+/// A list. Clauses see only its items, so two lists are equal if and only if their items are.
 #[derive(Drop, Debug)]
 pub struct Items<T> {
     items: Vec<T>,
@@ -28,7 +27,7 @@ impl<T> From<Vec<T>> for Items<T> {
 }
 
 impl<T> Items<T> {
-    /// The empty list; it allocates from `alloc`.
+    /// Returns an empty list that allocates from `alloc`.
     pub fn new(alloc: Global) -> Items<T>
         ensures empty { result ≡ [] }
     {
@@ -37,23 +36,25 @@ impl<T> Items<T> {
         }
     }
 
-    /// Adds an item at the end.
+    /// Adds `item` at the end.
     ///
-    /// Fails where the allocation does, and the error holds the item.
+    /// # Errors
+    ///
+    /// `AllocFailed`, which holds the item, if an allocation fails.
     pub fn push(&mut self, item: T) -> Result<(), AllocFailed<T>>
         ensures pushed { self.new ≡ (if is_ok result then self.old ++ item ∷ [] else self.old) }
     {
         self.items.push(item)
     }
 
-    /// The items in order.
+    /// Returns the items in order.
     pub fn as_slice(&self) -> &[T]
         ensures items { result.now ≡ self.now }
     {
         self.items.as_slice()
     }
 
-    /// The items as a `Vec`. Allocates nothing.
+    /// Returns the items as a `Vec`, without allocating.
     pub fn into_vec(self) -> Vec<T>
         ensures items { result.items ≡ self }
     {
@@ -62,7 +63,11 @@ impl<T> Items<T> {
 }
 
 impl<T: Copy> Items<T> {
-    /// A copy of borrowed items. Fails where memory runs out.
+    /// Copies the borrowed `items` into a new list.
+    ///
+    /// # Errors
+    ///
+    /// `AllocError` if an allocation fails.
     pub fn copy_of(alloc: Global, items: &[T]) -> Result<Items<T>, AllocError>
         ensures copied { IfOk result (λ copy. copy ≡ items.now) }
     {
@@ -73,7 +78,11 @@ impl<T: Copy> Items<T> {
 }
 
 impl Items<Text> {
-    /// A copy of borrowed texts, each text copied. Fails where memory runs out.
+    /// Copies the borrowed `texts`, each with its bytes, into a new list.
+    ///
+    /// # Errors
+    ///
+    /// `AllocError` if an allocation fails.
     pub fn copy_of_texts(alloc: Global, texts: &[Text]) -> Result<Items<Text>, AllocError>
         ensures copied { IfOk result (λ copy. copy ≡ texts.now) }
     {

@@ -8,11 +8,13 @@ use crate::pieces::{put_piece, put_pieces};
 use crate::sink::Sink;
 use std::io::ErrorKind;
 
-/// Puts the separator where a text was put before, as `begun` says. A text is put next, so `begun`
-/// is true afterwards.
+/// Puts the separator `between` if a text was put before, as `begun` says. Sets `begun`, because a
+/// text follows.
 ///
-/// Fails with the kind of the put that failed. How much of the separator was taken is then open,
-/// and the contract says nothing of `begun`.
+/// # Errors
+///
+/// The kind of the put that failed. The contract then says neither how much of the separator was
+/// taken nor what `begun` is.
 pub fn put_separator<S: Sink>(
     sink: &mut S,
     between: &str,
@@ -29,10 +31,12 @@ pub fn put_separator<S: Sink>(
     Ok(())
 }
 
-/// Puts a word, these dashes and a name, with a space before it where a word was put before, as
-/// `begun` says.
+/// Puts `dashes` and `name` as one word, after a space if a word was put before, as `begun` says.
+/// Sets `begun`.
 ///
-/// Fails with the kind of the put that failed.
+/// # Errors
+///
+/// The kind of the put that failed. The contract then says nothing of `begun`.
 pub fn put_word<S: Sink>(
     sink: &mut S,
     dashes: &str,

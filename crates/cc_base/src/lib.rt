@@ -1,6 +1,24 @@
-//! What every crate of the library uses: the field types whose contents clauses compare, the
-//! library's error, the sink that a script or a reply is written to, which names are plain, the
-//! numbers by which a tree names completers, and texts from outside as messages show them.
+//! Types and functions that every crate of the library uses:
+//!
+//! - field types that clauses compare by their contents: [`Text`], [`TextRef`] and [`Items`];
+//! - the library's [`Error`];
+//! - the [`Sink`] to which scripts and replies are written;
+//! - the test for plain names, [`is_plain_name`];
+//! - the numbers by which a tree refers to completers and lists of candidates;
+//! - texts from outside, as messages show them: [`on_one_line`].
+//!
+//! A sink counts its failures, and [`Collected`] is a sink in memory:
+//!
+//! ```rattle
+//! use cc_base::{Collected, Error, put_all};
+//! use std::alloc::Global;
+//!
+//! fn first_line(alloc: Global) -> Result<Vec<u8>, Error> {
+//!     let mut sink = Collected::new(alloc);
+//!     put_all(&mut sink, "#compdef app\n".as_bytes())?;
+//!     Ok(sink.into_vec())
+//! }
+//! ```
 #![tactic(auto)]
 
 mod collected;

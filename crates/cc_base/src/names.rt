@@ -5,7 +5,7 @@ ghost use Rattle.std.specs.Char.{is_ascii_alphanumeric};
 ghost use Rattle.cc_base.specs.Bytes.{dash, underscore};
 ghost use Rattle.cc_base.specs.PlainName.{is_plain_name};
 
-/// Whether the name is plain: made of ASCII letters and digits with single `-` or `_` between them.
+/// Returns whether `name` is plain: ASCII letters and digits, with single `-` or `_` between them.
 #[tactic(auto, using(crate::proofs::PlainNames::plain_after_start))]
 pub fn is_plain_name(name: &str) -> bool
     ensures { result ≡ is_plain_name name.now }
@@ -20,7 +20,7 @@ pub fn is_plain_name(name: &str) -> bool
     after_letter
 }
 
-// A letter or digit may always be in a name, a `-` or a `_` after one of those.
+// A letter or a digit may come anywhere in a name. A `-` or a `_` must follow one of those.
 fn may_follow(byte: u8, after_letter: bool) -> bool
     ensures { result ≡ (is_ascii_alphanumeric byte
         || (after_letter && (byte == dash || byte == underscore))) }

@@ -1,4 +1,4 @@
-//! Numbers of completers and lists of candidates, as an argument or a command holds them.
+//! Numbers by which an argument or a command refers to completers and lists of candidates.
 
 ghost use Rattle.std.specs.Prelude.{◌≡◌, IfOk};
 
@@ -12,15 +12,19 @@ pub struct ArgValueCompleter {
 }
 
 impl ArgValueCompleter {
-    /// The completer of this number, counted from 0.
+    /// Returns a reference to the completer with the given `number`, counted from 0.
     pub fn new(number: usize) -> ArgValueCompleter
         ensures { result.number ≡ number }
     {
         ArgValueCompleter { number }
     }
 
-    /// The candidates for a text that is the first value; none where there is no such completer.
-    /// Fails where memory runs out.
+    /// Returns the candidates for `text` as the first value, or none if `completers` has no such
+    /// completer.
+    ///
+    /// # Errors
+    ///
+    /// `AllocError` if an allocation fails.
     pub fn complete<S: CandidateSources>(
         &self,
         alloc: Global,
@@ -33,8 +37,12 @@ impl ArgValueCompleter {
         completers.complete_at(alloc, self.number, 0, text)
     }
 
-    /// The candidates for a text that is the value of this number, counted from 0; none where there
-    /// is no such completer. Fails where memory runs out.
+    /// Returns the candidates for `text` as the value with the given `number`, counted from 0.
+    /// Returns none if `completers` has no such completer.
+    ///
+    /// # Errors
+    ///
+    /// `AllocError` if an allocation fails.
     pub fn complete_at<S: CandidateSources>(
         &self,
         alloc: Global,
@@ -56,14 +64,18 @@ pub struct ArgValueCandidates {
 }
 
 impl ArgValueCandidates {
-    /// The list of this number, counted from 0.
+    /// Returns a reference to the list with the given `number`, counted from 0.
     pub fn new(number: usize) -> ArgValueCandidates
         ensures { result.number ≡ number }
     {
         ArgValueCandidates { number }
     }
 
-    /// The candidates; none where there is no such list. Fails where memory runs out.
+    /// Returns the candidates of the list, or none if `completers` has no such list.
+    ///
+    /// # Errors
+    ///
+    /// `AllocError` if an allocation fails.
     pub fn candidates<S: CandidateSources>(
         &self,
         alloc: Global,
@@ -82,14 +94,18 @@ pub struct SubcommandCandidates {
 }
 
 impl SubcommandCandidates {
-    /// The list of this number, counted from 0.
+    /// Returns a reference to the list with the given `number`, counted from 0.
     pub fn new(number: usize) -> SubcommandCandidates
         ensures { result.number ≡ number }
     {
         SubcommandCandidates { number }
     }
 
-    /// The candidates; none where there is no such list. Fails where memory runs out.
+    /// Returns the candidates of the list, or none if `completers` has no such list.
+    ///
+    /// # Errors
+    ///
+    /// `AllocError` if an allocation fails.
     pub fn candidates<S: CandidateSources>(
         &self,
         alloc: Global,

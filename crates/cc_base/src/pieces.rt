@@ -1,5 +1,5 @@
-//! Pieces of a text, put one after another. The error is the kind of the put that failed, which is
-//! smaller than the library's error, so that a row of many pieces takes fewer instructions.
+//! Functions that put pieces of a text one after another. Their error is the kind of the put that
+//! failed. It is smaller than the library's error, so many pieces in a row take fewer instructions.
 
 ghost use Rattle.std.specs.Prelude.{◌≡◌, [], ◌++◌, IsOk};
 ghost use Rattle.cc_base.specs.Joined.{with_pieces};
@@ -8,9 +8,11 @@ ghost use Rattle.cc_base.specs.Writes.{Writes, as_write};
 use crate::sink::Sink;
 use std::io::ErrorKind;
 
-/// Puts a text until all is taken or a put fails. An empty text is not put.
+/// Puts all of `text`, stopping at the first put that fails. Does nothing if `text` is empty.
 ///
-/// Fails with the kind of the put that failed, which is `WriteZero` where it took nothing.
+/// # Errors
+///
+/// The kind of the put that failed. It is `WriteZero` if that put took nothing.
 #[inline(always)]
 pub fn put_piece<S: Sink>(sink: &mut S, text: &str) -> Result<(), ErrorKind>
     ensures written { Writes S.taken S.failed (as_write result) sink.old sink.new text.now }
@@ -19,7 +21,7 @@ pub fn put_piece<S: Sink>(sink: &mut S, text: &str) -> Result<(), ErrorKind>
     put_bytes(sink, text.as_bytes())
 }
 
-// Puts until all is taken or a put fails.
+// Puts all bytes, stopping at the first put that fails.
 #[inline(always)]
 pub(crate) fn put_bytes<S: Sink>(sink: &mut S, bytes: &[u8]) -> Result<(), ErrorKind>
     ensures written { Writes S.taken S.failed (as_write result) sink.old sink.new bytes.now }
@@ -36,7 +38,7 @@ pub(crate) fn put_bytes<S: Sink>(sink: &mut S, bytes: &[u8]) -> Result<(), Error
     }
 }
 
-// What is left after a put that took a part.
+// Puts the bytes that remain after a put that took only some.
 #[cold]
 #[inline(never)]
 fn put_rest<S: Sink>(sink: &mut S, bytes: &[u8]) -> Result<(), ErrorKind>
@@ -53,7 +55,11 @@ fn put_rest<S: Sink>(sink: &mut S, bytes: &[u8]) -> Result<(), ErrorKind>
     Ok(())
 }
 
-/// Puts each piece in turn. Fails with the kind of the put that failed.
+/// Puts each of the `pieces` in turn.
+///
+/// # Errors
+///
+/// The kind of the put that failed.
 #[inline(always)]
 pub fn put_pieces<S: Sink>(sink: &mut S, pieces: &[&str]) -> Result<(), ErrorKind>
     ensures { Writes S.taken S.failed (as_write result) sink.old sink.new
@@ -65,7 +71,11 @@ pub fn put_pieces<S: Sink>(sink: &mut S, pieces: &[&str]) -> Result<(), ErrorKin
     Ok(())
 }
 
-/// Puts a text between two others. Fails with the kind of the put that failed.
+/// Puts `before`, `text` and `after`.
+///
+/// # Errors
+///
+/// The kind of the put that failed.
 #[inline(always)]
 pub fn put_around<'a, S: Sink>(
     sink: &mut S,

@@ -1,4 +1,4 @@
-//! Texts that come from outside, as they are shown on one line of a message.
+//! Texts from outside, as messages show them on one line.
 
 ghost use Rattle.std.specs.Prelude.{◌≡◌, IfOk, false};
 ghost use Rattle.std.specs.Char.{is_control};
@@ -7,9 +7,9 @@ ghost use Rattle.cc_base.specs.Shown.{HoldsNoControl, on_one_line, visible};
 
 use std::alloc::{AllocError, Global};
 
-/// Returns a text with each control character as `?`. A name, a value or a path that comes from a
-/// file or from a caller may hold a character that ends the line, or one that a terminal takes for
-/// a command.
+/// Returns `text` with `?` instead of each control character. A name, a value or a path from a file
+/// or from a caller may hold a character that ends the line, or one that a terminal takes as a
+/// command.
 ///
 /// # Errors
 ///
@@ -21,7 +21,7 @@ pub fn on_one_line(alloc: Global, text: &str) -> Result<String, AllocError>
     text.chars().map(visible).collect(alloc)
 }
 
-/// Returns a character as it is shown: a control character as `?`.
+/// Returns `character`, or `?` if it is a control character.
 pub fn visible(character: char) -> char
     ensures shown { result ≡ visible character }
     ensures no_control { is_control result ≡ false }

@@ -1,24 +1,28 @@
-//! What completers and lists of candidates may return.
+//! Completers and lists of candidates, as the crates that call them see them.
 
 ghost use Rattle.std.specs.Prelude.{ℕ, List, IfOk};
 
 use std::alloc::{AllocError, Global};
 
-/// Completers, and lists of candidates, by their numbers. What each may return is stated by
-/// relations, of which clauses speak.
+/// Completers and lists of candidates, called by their numbers. Relations state what each may
+/// return, and clauses cite these relations.
 pub trait CandidateSources {
-    /// What they return.
+    /// The type of the candidates.
     type Candidate;
 
-    // the lists that the completer of a number may return, for the number of the value and the text
-    // to complete
+    // the lists that the completer with a number may return, given the number of the value and the
+    // text to complete
     ghost may_complete: { Self → ℕ → ℕ → List ℕ → List Self.Candidate → Type 0 };
 
-    // the lists that the list of a number may return
+    // the candidates that the list with a number may return
     ghost may_list: { Self → ℕ → List Self.Candidate → Type 0 };
 
-    /// What the completer of this number returns for a text that is the value of a number, counted
-    /// from 0; nothing where there is no such completer. Fails where memory runs out.
+    /// Returns what the completer with the number `completer` returns for `text`. That text is the
+    /// value with the given `number`, counted from 0. Returns none if there is no such completer.
+    ///
+    /// # Errors
+    ///
+    /// `AllocError` if an allocation fails.
     fn complete_at(
         &self,
         alloc: Global,
@@ -29,8 +33,11 @@ pub trait CandidateSources {
         ensures { IfOk result (λ found. may_complete self.now completer number text.now
             found.items) };
 
-    /// The candidates of the list of this number; none where there is no such list. Fails where
-    /// memory runs out.
+    /// Returns the candidates of the list with the number `list`, or none if there is no such list.
+    ///
+    /// # Errors
+    ///
+    /// `AllocError` if an allocation fails.
     fn candidates(&self, alloc: Global, list: usize) -> Result<Vec<Self::Candidate>, AllocError>
         ensures { IfOk result (λ found. may_list self.now list found.items) };
 }

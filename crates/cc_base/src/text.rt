@@ -1,4 +1,4 @@
-//! A text as the type of a field.
+//! A text for use as a field type.
 
 ghost use Rattle.std.specs.Prelude.{◌≡◌, ℕ, List, IfOk};
 ghost use Rattle.std.specs.Option.{option_copied};
@@ -8,8 +8,7 @@ use std::alloc::{AllocError, Global};
 use std::fmt;
 use std::marker::Model;
 
-/// A text. A clause sees its bytes alone, so that two texts are equal exactly where they read the
-/// same.
+/// A text. Clauses see only its bytes, so two texts are equal if and only if their bytes are.
 #[derive(Drop)]
 pub struct Text {
     inner: String,
@@ -21,7 +20,7 @@ impl Model for Text {
     ghost view = { λ text. string_bytes text.inner };
 }
 
-/// As the `Debug` of a `str`.
+/// Formats the text as `str` does.
 impl fmt::Debug for Text {
     fn fmt<W: fmt::Write>(&self, f: &mut fmt::Formatter<W>) -> fmt::Result {
         fmt::Debug::fmt(self.as_str(), f)
@@ -37,7 +36,11 @@ impl From<String> for Text {
 }
 
 impl Text {
-    /// A copy of a borrowed text. Fails where memory runs out.
+    /// Copies the borrowed `text`.
+    ///
+    /// # Errors
+    ///
+    /// `AllocError` if an allocation fails.
     pub fn copy_of(alloc: Global, text: &str) -> Result<Text, AllocError>
         ensures copied { IfOk result (λ copy. copy ≡ text.now) }
     {
@@ -46,21 +49,25 @@ impl Text {
         })
     }
 
-    /// The text.
+    /// Returns the text.
     pub fn as_str(&self) -> &str
         ensures text { result.now ≡ self.now }
     {
         self.inner.as_str()
     }
 
-    /// The text as a `String`. Allocates nothing.
+    /// Returns the text as a `String`, without allocating.
     pub fn into_string(self) -> String
         ensures text { string_bytes result ≡ self }
     {
         self.inner
     }
 
-    /// A copy of a borrowed text, where there is one. Fails where memory runs out.
+    /// Copies the borrowed `text`, if there is one.
+    ///
+    /// # Errors
+    ///
+    /// `AllocError` if an allocation fails.
     pub fn copy_of_some(alloc: Global, text: Option<&str>) -> Result<Option<Text>, AllocError>
         ensures copied { IfOk result (λ copy. copy ≡ option_copied text.entry) }
     {
@@ -70,7 +77,11 @@ impl Text {
         }
     }
 
-    /// A copy of the text. Fails where memory runs out.
+    /// Copies the text.
+    ///
+    /// # Errors
+    ///
+    /// `AllocError` if an allocation fails.
     pub fn try_clone(&self, alloc: Global) -> Result<Text, AllocError>
         ensures equal { IfOk result (λ copy. copy ≡ self.now) }
     {

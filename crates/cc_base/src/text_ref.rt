@@ -1,4 +1,4 @@
-//! A borrowed text as the type of a field.
+//! A borrowed text for use as a field type.
 
 ghost use Rattle.std.specs.Prelude.{◌≡◌, ℕ, List, Some, bytes_eq, refl};
 ghost use Rattle.std.specs.Cmp.{partial_equiv_from_equiv};
@@ -8,8 +8,8 @@ ghost use Rattle.std.specs.Ordering.{nat_cmp};
 use std::cmp::Ordering;
 use std::marker::Model;
 
-/// A borrowed text, ordered by its bytes. A clause sees its bytes alone, so that a struct or an
-/// enum that holds it is the same type in code and in definitions.
+/// A borrowed text, ordered by its bytes. Clauses see only its bytes, so a struct or an enum that
+/// holds it is the same type in code and in definitions.
 #[derive(Drop)]
 pub struct TextRef<'a> {
     text: &'a str,
@@ -22,14 +22,14 @@ impl<'a> Model for TextRef<'a> {
 }
 
 impl<'a> TextRef<'a> {
-    /// This text, borrowed.
+    /// Returns `text` as a `TextRef`.
     pub fn new(text: &'a str) -> TextRef<'a>
         ensures { result ≡ text.now }
     {
         TextRef { text }
     }
 
-    /// The text.
+    /// Returns the text.
     pub fn as_str(&self) -> &'a str
         ensures { result.now ≡ self.now }
     {

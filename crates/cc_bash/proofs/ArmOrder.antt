@@ -1,4 +1,4 @@
--- What sorting nodes gives.
+-- The nodes after sorting.
 use Rattle.std.proofs.Common.{◌≡◌, List, map, ◌∙◌, ap}
 use Rattle.std.specs.Cmp.{IsStrictWeakOrder}
 use Rattle.std.specs.Cmp.Lexicographic.{nat_list_cmp_total}
@@ -15,7 +15,7 @@ pub nodes_order : IsStrictWeakOrder (λ (x y : LabelledNode).
     arm_below (labelled_of x) (labelled_of y))
 nodes_order = ranks_by nat_list_cmp_total (λ x. x.sort_text)
 
--- what a stable sort of nodes gives
+-- a stable sort returns the nodes in order
 pub nodes_in_order : (xs ys : List LabelledNode) →
     IsSortedBy (λ x y. arm_below (labelled_of x) (labelled_of y)) ys →
     IsStableBy (λ x y. arm_below (labelled_of x) (labelled_of y)) xs ys →

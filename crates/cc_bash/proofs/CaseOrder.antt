@@ -1,4 +1,4 @@
--- What sorting cases gives.
+-- The cases after sorting.
 use Rattle.std.proofs.Common.{◌≡◌, List, map, ◌∙◌, ap}
 use Rattle.std.specs.Cmp.{IsTotalOrder, IsStrictWeakOrder, on_total, then_total}
 use Rattle.std.specs.Ordering.{nat_cmp, ordering_then}
@@ -21,7 +21,7 @@ total = then_total (on_total (λ c. c.from) nat_list_cmp_total)
 below_order : IsStrictWeakOrder (λ (x y : CaseValue). case_below (case_of x) (case_of y))
 below_order = ranks_by total case_of
 
--- what a stable sort of cases gives
+-- a stable sort returns the cases in order
 pub cases_in_order : (xs ys : List CaseValue) →
     IsSortedBy (λ x y. case_below (case_of x) (case_of y)) ys →
     IsStableBy (λ x y. case_below (case_of x) (case_of y)) xs ys

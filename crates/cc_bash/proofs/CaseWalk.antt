@@ -1,4 +1,4 @@
--- The case table of a tree takes any words along the labels of the walk by visible names.
+-- For any words, the case table of a tree leads along the labels of the walk by visible names.
 use Rattle.std.proofs.Common.{◌≡◌, ℕ, suc, IsTrue, List, [], ◌∷◌, ◌++◌, length, map, flat_map, Some, None, inl, inr, refl, sym, ap, ◌∙◌, subst}
 use Rattle.cc_base.specs.Sorting.{in_order}
 use Rattle.cc_base.proofs.Cases.{option_cases}
@@ -38,7 +38,7 @@ root_node tree = record {
 abbrev nodes : Tree → List Labelled
 nodes tree = root_node tree ∷ labelled_commands tree
 
--- where no label occurs twice, two nodes with one label are one
+-- if no label occurs twice, two nodes with the same label are equal
 one_node : (tree : Tree) (one other : Labelled) → shared_label tree ≡ None → IsIn (nodes tree) one →
     IsIn (nodes tree) other → one.label ≡ other.label → one ≡ other
 one_node tree one other clear h k e =
@@ -66,7 +66,7 @@ child_of tree node child (inl e) s =
 child_of tree node child (inr h) s =
     children_listed (root_label tree) 2 tree.children node child h s
 
--- the children of each differ
+-- the children of each node differ
 differ_at : (tree : Tree) (node : Labelled) → IsTrue (is_plain_tree tree) → IsIn (nodes tree) node →
     IsTrue (siblings_differ node.tree.children)
 differ_at tree node plain h =
@@ -121,7 +121,7 @@ pub length-more : (path : List (List ℕ)) (name : List ℕ) →
 length-more [] name = refl
 length-more (n ∷ path) name = ap (λ k. suc k) (length-more path name)
 
--- a node of the list is this node
+-- a node of the list is the given node
 record StandsAt (tree : Tree) (here : PathNode) : Type 0 where
   pub node : Labelled
   pub listed : IsIn (nodes tree) node
@@ -139,7 +139,7 @@ root_stands tree = record {
   level = refl;
 }
 
--- below a node of the list its child is one too
+-- below a node of the list, its child is in the list
 child_stands : (tree : Tree) (here : PathNode) (child : Tree) → StandsAt tree here →
     IsSibling here.tree.children child →
     StandsAt tree (record { path = here.path ++ child.node.name ∷ []; tree = child })
@@ -155,7 +155,7 @@ child_stands tree here child at s =
       level = ap (λ k. suc k) (at.level ∙ length-more here.path child.node.name);
     }
 
--- one is where a word leads
+-- the node to which a word leads is in the list
 next_stands : (tree : Tree) (here : PathNode) (word : List ℕ) → StandsAt tree here →
     StandsAt tree (next_path_node here word)
 next_stands tree here word at = elim (option_cases (visible_child here.tree.children word)) [
@@ -170,7 +170,7 @@ stands_after tree [] here at = at
 stands_after tree (word ∷ words) here at =
     stands_after tree words (next_path_node here word) (next_stands tree here word at)
 
--- one word takes the table from the label of a node to that of the next
+-- for one word, the table leads from the label of a node to the label of the next
 step : (tree : Tree) → IsTrue (is_plain_tree tree) → shared_label tree ≡ None →
     (here : PathNode) (word : List ℕ) → StandsAt tree here →
     next_label (tree_cases tree) (path_node_label tree here) word
@@ -208,7 +208,7 @@ step tree plain clear here word at =
       ]
     ]
 
--- so any words do
+-- the same for any words
 run_from : (tree : Tree) → IsTrue (is_plain_tree tree) → shared_label tree ≡ None →
     (words : List (List ℕ)) (here : PathNode) → StandsAt tree here →
     run (tree_cases tree) (path_node_label tree here) words
@@ -227,7 +227,7 @@ pub table_walks : (tree : Tree) → IsTrue (is_plain_tree tree) → shared_label
 table_walks tree plain clear words =
     run_from tree plain clear words (root_path_node tree) (root_stands tree)
 
--- the last of the nodes is that of the walk
+-- the last of the nodes is the last node of the walk
 last_path_node : (tree : Tree) (text : List ℕ) (here : PathNode) (words : List (List ℕ)) →
     last_or text (map (path_node_label tree) (path_nodes here words))
     ≡ path_node_label tree (walk here words)
@@ -245,7 +245,7 @@ table_ends tree plain clear words =
 
 -- ---- the arm where the walk ends
 
--- the arm of one of some nodes is found, where no other has its label
+-- the arm of a node is found, if no other node has its label
 arm_found : (xs : List Labelled) (node : Labelled) →
     ((one : Labelled) → IsIn xs one → one.label ≡ node.label → one ≡ node) → IsIn xs node →
     arm_at (map node_arm xs) node.label ≡ Some (node_arm node)
@@ -258,7 +258,7 @@ arm_found (x ∷ xs) node alone h = elim (bytes_tells x.label node.label) [
   ])
 ]
 
--- the root first, the others in order
+-- a node of the list is in the order of the arms: the root first, then the others
 in_arms : (tree : Tree) (node : Labelled) → IsIn (nodes tree) node →
     IsIn (root_node tree ∷ in_order arm_below (labelled_commands tree)) node
 in_arms tree node (inl e) = inl e
@@ -276,7 +276,7 @@ arm_of_node tree node clear h =
     arm_found (root_node tree ∷ in_order arm_below (labelled_commands tree)) node
     (λ one at e. one_node tree one node clear (from_arms tree one at) h e) (in_arms tree node h)
 
--- at the label to which words lead is the arm of the node
+-- the arm at the label to which words lead is the arm of the node
 pub arm_stands : (tree : Tree) → shared_label tree ≡ None → (words : List (List ℕ)) →
     arm_at (tree_arms tree) (path_node_label tree (walk (root_path_node tree) words))
     ≡ Some (path_node_arm tree (walk (root_path_node tree) words))
@@ -288,7 +288,7 @@ arm_stands tree clear words =
     ∙ ap (λ k. Some (arm_of (path_node_label tree end) k at.node.tree)) at.level
     ∙ ap (λ t. Some (arm_of (path_node_label tree end) (level_of end) t)) at.same
 
--- so it does at the label to which the table's own cases lead
+-- the same for the label to which the table's own cases lead
 pub arm_at_end : (tree : Tree) → IsTrue (is_plain_tree tree) → shared_label tree ≡ None →
     (words : List (List ℕ)) →
     arm_at (tree_arms tree) (run_end (tree_cases tree) (root_label tree) words)

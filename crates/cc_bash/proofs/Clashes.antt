@@ -1,4 +1,4 @@
--- Which labels occur twice.
+-- Labels that occur twice.
 use Rattle.std.proofs.Common.{◌≡◌, ◌≢◌, ℕ, IsTrue, List, [], ◌∷◌, ◌++◌, false, map, Some, None, inl, inr, sym, ap, ◌∙◌, subst}
 use Rattle.std.proofs.lemmas.Bool.{cases_Bool}
 use Rattle.cc_base.specs.Differ.{AllDifferBy}
@@ -7,7 +7,7 @@ use Rattle.cc_command.specs.Names.{contains_name}
 use Rattle.cc_command.proofs.SiblingNames.{contains_name-IsIn}
 use Rattle.cc_bash.specs.Labels.{first_again}
 
--- what no text that occurs again says of the first of them
+-- if no text occurs again, the first text is new
 first_is_new : (before texts : List (List ℕ)) (text : List ℕ) →
     first_again before (text ∷ texts) ≡ None →
     (contains_name before text ≡ false) × (first_again (before ++ text ∷ []) texts ≡ None)
@@ -16,7 +16,7 @@ first_is_new before texts text h = elim (cases_Bool (contains_name before text))
   | inr f ↦ (f, rw f at h)
 ]
 
--- none of them comes before
+-- a text of the list does not come before it
 none_before : (before texts : List (List ℕ)) (text : List ℕ) → first_again before texts ≡ None →
     IsIn texts text → IsIn before text → ⊥
 none_before before [] text h at earlier = absurd at
@@ -29,7 +29,7 @@ none_before before (t ∷ texts) text h (inr at) earlier =
     none_before (before ++ t ∷ []) texts text (first_is_new before texts t h).1 at
     (IsIn-append_left before (t ∷ []) text earlier)
 
--- where none occurs again all differ
+-- if no text occurs again, all differ
 pub texts_differ : (before texts : List (List ℕ)) → first_again before texts ≡ None →
     AllDifferBy (λ text. text) texts
 texts_differ before [] h = tt
@@ -42,7 +42,7 @@ texts_differ before (text ∷ texts) h =
     )
 
 module _ {A B : Type 0} (value : A → B) where
-  -- elements whose values differ
+  -- elements with different values differ
   pub AllDifferBy-map : (xs : List A) → AllDifferBy (λ y. y) (map value xs) → AllDifferBy value xs
   AllDifferBy-map [] h = tt
   AllDifferBy-map (x ∷ xs) h = (
@@ -52,7 +52,7 @@ module _ {A B : Type 0} (value : A → B) where
     AllDifferBy-map xs h.1,
   )
 
-  -- two elements with one value are one
+  -- two elements with the same value are equal, if values differ
   pub same_element : (xs : List A) (x y : A) → AllDifferBy value xs → IsIn xs x → IsIn xs y →
       value x ≡ value y → x ≡ y
   same_element [] x y h a b e = absurd a

@@ -1,4 +1,4 @@
--- The arms of a tree are those of its nodes, each at its label.
+-- The arms of a tree are the arms of its nodes, each at its label.
 use Rattle.std.proofs.Common.{◌≡◌, ℕ, suc, List, [], ◌∷◌, ◌++◌, length, map}
 use Rattle.std.proofs.Common.{refl, sym, ap, ◌∙◌, subst}
 use Rattle.std.specs.List.Sorted.{IsPermutation}
@@ -44,7 +44,7 @@ arms_below tree path label level (more node below rest) at deep =
     ∙ sym (map-append (path_node_arm tree) (path_nodes_below own below)
     (path_nodes_below path rest)))
 
--- the arms of a tree are, but for their order, those of its nodes
+-- the arms of a tree are those of its nodes, in another order
 pub arms_of_path_nodes : (tree : Tree) →
     IsPermutation (map (path_node_arm tree) (all_path_nodes tree)) (tree_arms tree)
 unfolding tree_arms

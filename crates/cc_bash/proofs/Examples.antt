@@ -1,4 +1,4 @@
--- Tables, walks and scripts of small trees, as the definitions have them.
+-- Examples of tables, walks and scripts of small trees.
 use Rattle.std.proofs.Common.{◌≡◌, Bool, true, List, [], ◌∷◌, map, Some, None, codes, refl}
 use Rattle.std.specs.Option.{option_map}
 use Rattle.std.specs.Char.{encode_utf8}
@@ -26,7 +26,7 @@ use Rattle.cc_bash.specs.Reader.{pattern_of, assigned, bare_text, double_text, i
 use Rattle.cc_bash.specs.Script.{case_text, offered_text, reply_text, mode_word, mode_text, moded_text, detail_text, arm_text, head_text, tail_text, script_text}
 use Rattle.cc_bash.specs.Texts.{function_begins, function_head, cases_begin, arms_begin, arms_end, unsorted_options, otherwise, sorted_options, script_ends, case_begins, case_comma, case_sets, case_ends, arm_begins, arm_words, arm_level, arm_details, arm_ends, detail_begins, detail_word_ends, keep_separator, separator_back, reply_begins, reply_ends, values_begin, values_end, offer_files, offer_word, mode_begins, mode_ends, detail_ends}
 
--- `my-app` with the child `test`, and all that building adds
+-- `my-app` with the child `test`, and everything that building adds
 abbrev my_app : Tree
 my_app = built_under (Some (codes "my-app"))
     (with_child (new_tree (codes "my-app")) (new_tree (codes "test")))
@@ -85,23 +85,23 @@ of_my_app :
       details = [];
     }
     ∷ [])
-    -- words that are no names stay where they are
+    -- words that are not names stay at the node
     × (run (tree_cases my_app) (codes "my__app")
     (codes "--flag" ∷ codes "test" ∷ codes "--" ∷ [])
     ≡ codes "my__app" ∷ codes "my__app" ∷ codes "my__app__subcmd__test"
     ∷ codes "my__app__subcmd__test" ∷ [])
-    -- the nodes of `my-app`, by their labels
+    -- the labels of the nodes of `my-app`
     × (map (path_node_label my_app) (all_path_nodes my_app)
     ≡ codes "my__app" ∷ codes "my__app__subcmd__test" ∷ codes "my__app__subcmd__help"
     ∷ codes "my__app__subcmd__help__subcmd__test" ∷ codes "my__app__subcmd__help__subcmd__help"
     ∷ [])
-    -- at the label to which words lead is the arm of the third level
+    -- the arm at the label to which words lead has the third level
     × (option_map (λ arm. arm.level) (arm_after
     (Some (record { root = codes "my__app"; cases = tree_cases my_app; arms = tree_arms my_app }))
     (codes "--flag" ∷ codes "help" ∷ codes "test" ∷ []))
     ≡ Some (codes "3"))
     × (shared_label my_app ≡ None)
-    -- `p` with `a-b`, then `a` that holds `b`
+    -- `p` with `a-b`, and with `a`, which has the child `b`
     × (shared_label (built_under (Some (codes "p"))
     (with_child (with_child (new_tree (codes "p")) (new_tree (codes "a-b")))
     (with_child (new_tree (codes "a")) (new_tree (codes "b")))))
@@ -109,7 +109,7 @@ of_my_app :
 unfolding insert in_order tree_cases help_argument version_argument help_name version_name tree_arms words_at details_at digits encode_utf8
 of_my_app = (refl, refl, refl, refl, refl, refl, refl)
 
--- an option with a value that is shown and one that is hidden, and a positional with the same values
+-- an option with a visible and a hidden value, and a positional with the same values
 abbrev color : Arg
 color = record (new_arg (codes "color")) {
   short = Some 99;
@@ -131,7 +131,7 @@ offering =
     built_under (Some (codes "app")) tree
 
 of_offering :
-    -- hidden values of positionals are offered, those of options are not
+    -- hidden values of positionals are offered, but not those of options
     (words_at offering
     ≡ codes "-c" ∷ codes "-h" ∷ codes "--color" ∷ codes "--help" ∷ codes "low" ∷ codes "high"
     ∷ codes "run" ∷ codes "help" ∷ [])

@@ -1,4 +1,5 @@
--- The nodes below a root in preorder, each labelled by the labels of the path to the one before it.
+-- The nodes below a root in preorder. Each is labelled by the labels of the path to the node before
+-- it.
 use Rattle.std.proofs.Common.{◌≡◌, ℕ, suc, ◌-◌, List, [], ◌∷◌, ◌++◌, length, take, get_or, refl, ap, ◌∙◌, sym, append_assoc, append-nil, arith}
 use Rattle.std.proofs.Math.Seq.{get_or-append_seam, take-append_seam}
 use Rattle.std.proofs.lemmas.List.{length-append}
@@ -8,7 +9,7 @@ use Rattle.cc_flat.specs.Preorder.{Levelled, preorder}
 use Rattle.cc_bash.specs.Labels.{Labelled, child_label, labelled_node, labelled_under}
 use Rattle.cc_bash.specs.Nodes.{last_label, next_labelled, next_path}
 
--- some nodes in preorder, each below the path to the one before it
+-- nodes in preorder, each after a path to the node before it
 abbrev pub labelled_along : List ℕ → List (List ℕ) → List Levelled → List Labelled
 labelled_along root path [] = []
 labelled_along root path (node ∷ nodes) =
@@ -58,7 +59,7 @@ module _ (root : List ℕ) where
       ∙ sym (append_assoc (labelled_under own (suc level) below)
       (labelled_under parent level siblings) after))
 
--- all of them, below no label but the root's
+-- all nodes, after an empty path
 pub labelled_in_preorder : (root : List ℕ) (forest : Forest) →
     labelled_along root [] (preorder 2 forest) ≡ labelled_under root 2 forest
 labelled_in_preorder root forest =

@@ -6,8 +6,8 @@ use Rattle.cc_command.specs.Tree.{Forest, none, more, Tree, IsSibling}
 use Rattle.cc_command.proofs.PlainParts.{plain_more}
 use Rattle.cc_bash.specs.Labels.{Labelled, child_label, labelled_node, labelled_under}
 
--- a node below the root is a child of a node with its parent's label: of one of the list, or of the
--- one above all
+-- a node below the root is a child of a node with its parent's label, which is in the list or above
+-- it
 pub record HasParent (label : List ℕ) (forest : Forest) (nodes : List Labelled) (node : Labelled)
     : Type 0 where
   pub own : node.label ≡ child_label node.parent node.tree.node.name
@@ -72,7 +72,7 @@ siblings_listed label level (more n below rest) child (inr h) =
     inr (IsIn-append_right (labelled_under (child_label label n.name) (suc level) below)
     (labelled_under label level rest) _ (siblings_listed label level rest child h))
 
--- so is each child of a node of the list
+-- each child of a node of the list is in the list
 pub children_listed : (label : List ℕ) (level : ℕ) (forest : Forest) (node : Labelled)
     (child : Tree) → IsIn (labelled_under label level forest) node →
     IsSibling node.tree.children child →

@@ -1,4 +1,4 @@
--- One step of the case table, and one of the walk by visible names.
+-- One step of the case table, and one step of the walk by visible names.
 use Rattle.std.proofs.Common.{◌≡◌, ◌⊎◌, ℕ, IsTrue, List, [], ◌∷◌, true, false, Some, inl, inr, refl, sym, ap, ◌∙◌, subst}
 use Rattle.std.specs.Str.{bytes_eq}
 use Rattle.std.proofs.lemmas.Bool.{cases_Bool}
@@ -11,7 +11,7 @@ use Rattle.cc_command.specs.Tree.{Forest, none, more, Tree, IsSibling}
 use Rattle.cc_command.proofs.SiblingNames.{contains_name-IsIn, first_differs, not_shared}
 use Rattle.cc_bash.specs.CaseTable.{Case, next_label}
 
--- two texts are the same or not
+-- two texts are equal or differ
 pub bytes_tells : (a b : List ℕ) → ((bytes_eq a b ≡ true) × (a ≡ b))
     ⊎ ((bytes_eq a b ≡ false) × (a ≡ b → ⊥))
 bytes_tells a b = elim (cases_Bool (bytes_eq a b)) [
@@ -19,7 +19,7 @@ bytes_tells a b = elim (cases_Bool (bytes_eq a b)) [
   | inr f ↦ inr (f, not_from_Decides (bytes_eq a b) (bytes_eq-Decides a b) f)
 ]
 
--- a name that is found is one of them
+-- a name that is found is in the list
 IsIn-contains_name : (names : List (List ℕ)) (name : List ℕ) → contains_name names name ≡ true →
     IsIn names name
 IsIn-contains_name [] name h = cc
@@ -30,7 +30,7 @@ IsIn-contains_name (n ∷ names) name h = elim (bytes_tells n name) [
 
 -- ---- the walk
 
--- a child is found by each of its visible names, where siblings differ
+-- a child is found by each of its visible names, if siblings differ
 pub visible_child-is : (forest : Forest) (child : Tree) (name : List ℕ) →
     IsTrue (siblings_differ forest) → IsSibling forest child →
     IsIn (visible_names child.node) name →
@@ -49,7 +49,7 @@ visible_child-is (more node below rest) child name differ (inr sibling) named =
       | inr is_none ↦ rw is_none (visible_child-is rest child name parts.later sibling named)
     ]
 
--- what is found is a child that shows the name
+-- the child that is found shows the name
 pub visible_child-of : (forest : Forest) (child : Tree) (name : List ℕ) →
     visible_child forest name ≡ Some child →
     IsSibling forest child × IsIn (visible_names child.node) name
@@ -68,7 +68,7 @@ visible_child-of (more node below rest) child name e =
 
 -- ---- the case table
 
--- some case fits and gives the next label, or none fits and the label stays
+-- a case fits and gives the next label, or no case fits and the label stays
 abbrev pub Next : List Case → List ℕ → List ℕ → Type 0
 Next cases label word =
     ((c : Case) × IsIn cases c × (c.from ≡ label) × (c.word ≡ word)

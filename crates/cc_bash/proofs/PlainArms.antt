@@ -1,4 +1,4 @@
--- The arms of a plain tree with quiet values can be read.
+-- The arms of a plain tree with quiet values are readable.
 use Rattle.std.proofs.Common.{◌≡◌, ◌==◌, ◌||◌, ℕ, Bool, false, IsTrue, List, [], ◌∷◌, ◌++◌, flat_map, map, filter, not, codes, encode_utf8, Option, Some, None, unwrap_or, refl, sym, subst, arith}
 use Rattle.std.specs.Prelude.{bytes_eq}
 use Rattle.std.specs.Char.{is_ascii_alphanumeric}
@@ -32,12 +32,12 @@ use Rattle.cc_quote.proofs.Digits.{decimal_word}
 use Rattle.cc_bash.proofs.ReadsArms.{IsReadableArm}
 use Rattle.cc_bash.proofs.ReadsDetails.{IsReadableDetail, IsReadableOffer}
 
--- ---- names as they are typed
+-- ---- names as a user types them
 
 encoded_short : (short : ℕ) → IsPlainShort short → short ∷ [] ≡ encode_utf8 short
 encoded_short short h = sym (encode_ascii short (grind (arith, nat_tests)))
 
--- a word that is no `*`
+-- a word other than `*`
 abbrev IsTyped : List ℕ → Type 0
 IsTyped word = IsPlainText word × (bytes_eq word (codes "*") ≡ false)
 
@@ -90,7 +90,7 @@ quiet_node node h =
     (λ argument k. quiet_words (possible_values argument) k)
     node.arguments (each_passes is_quiet_argument node.arguments h)
 
--- those that are shown are among them
+-- the visible values are among them
 shown_words : (possible : List PossibleValue) → AllByRecursion IsWord (names_of_values possible) →
     AllByRecursion IsWord (names_of_shown possible)
 shown_words possible h =

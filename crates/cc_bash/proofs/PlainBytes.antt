@@ -1,4 +1,4 @@
--- What the reader asks of the bytes of plain names, of labels and of quiet values.
+-- What the reader requires of the bytes of plain names, of labels and of quiet values.
 use Rattle.std.proofs.Common.{◌≡◌, ◌≢◌, ℕ, Bool, true, false, cond, ◌==◌, ◌||◌, IsTrue, List, [], ◌∷◌, ◌++◌, codes, refl, arith}
 use Rattle.std.specs.Char.{is_ascii_alphanumeric}
 use Rattle.std.specs.List.{AllByRecursion, list_all}
@@ -20,12 +20,12 @@ use Rattle.cc_bash.specs.Labels.{root_label, child_label}
 use Rattle.cc_command.specs.Quiet.{is_quiet_byte, is_quiet_value}
 use Rattle.cc_bash.proofs.WordsRead.{Lacks}
 
--- what the reader asks of a byte
+-- what the reader requires of a byte
 abbrev pub IsPlainByte : ℕ → Type 0
 IsPlainByte byte = (sign byte ≡ other byte)
     × (((byte == close_parenthesis) ≡ false) × ((byte == comma) ≡ false))
 
--- a letter, a digit, a `-` or a `_`
+-- whether a byte is a letter, a digit, a `-` or a `_`
 abbrev pub is_word_byte : ℕ → Bool
 is_word_byte byte = is_ascii_alphanumeric byte || (byte == dash || byte == underscore)
 
@@ -36,7 +36,7 @@ word_byte_plain byte h = (
   (grind (arith, nat_tests), grind (arith, nat_tests)),
 )
 
--- each byte is such
+-- each byte meets the requirement
 abbrev pub ArePlainBytes : List ℕ → Type 0
 ArePlainBytes text = AllByRecursion IsPlainByte text
 
@@ -44,7 +44,7 @@ pub words_plain : (text : List ℕ) → IsTrue (list_all is_word_byte text) → 
 words_plain text h = AllByRecursion-weaker (λ b. IsTrue (is_word_byte b)) IsPlainByte
     word_byte_plain text (each_passes is_word_byte text h)
 
--- such a text with a first byte
+-- such a text, with at least one byte
 abbrev pub IsPlainText : List ℕ → Type 0
 IsPlainText [] = ⊥
 IsPlainText (byte ∷ text) = ArePlainBytes (byte ∷ text)
@@ -94,7 +94,7 @@ replace_byte_plain byte by (b ∷ text) h k =
     one true = h
     one false = (k.0, tt)
 
--- what stands for the first byte of a name has a first byte
+-- a replaced name has a first byte
 replace_byte_text : (byte : ℕ) (by text : List ℕ) → IsPlainText by → IsPlainText text →
     IsPlainText (replace_byte byte by text)
 replace_byte_text byte by [] h k = absurd k
@@ -106,7 +106,7 @@ replace_byte_text byte by (b ∷ text) h k =
     one true rest = text_append by (replace_byte byte by text) h rest
     one false rest = (k.0, rest)
 
--- what occurs in labels beside names
+-- the text that labels have in addition to names
 subcmd_plain : ArePlainBytes (codes "__subcmd__")
 subcmd_plain = words_plain (codes "__subcmd__") refl
 

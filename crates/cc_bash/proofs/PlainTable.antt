@@ -1,4 +1,5 @@
--- The bash script of a plain tree reads to the tree's cases, and with quiet values to its arms.
+-- The bash script of a plain tree reads back to the tree's cases, and with quiet values also to its
+-- arms.
 use Rattle.std.proofs.Common.{◌≡◌, ℕ, suc, ◌&&◌, IsTrue, List, [], flat_map, Some, None, ap, ◌∙◌}
 use Rattle.std.specs.List.{AllByRecursion}
 use Rattle.std.proofs.lemmas.Bool.{and_parts}

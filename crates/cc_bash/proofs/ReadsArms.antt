@@ -1,4 +1,4 @@
--- The arms of a bash script are read back.
+-- The reading of the arms of a bash script.
 use Rattle.std.proofs.Common.{◌≡◌, ℕ, Bool, List, [], ◌∷◌, ◌++◌, flat_map, Some, codes, refl, ap, ◌∙◌}
 use Rattle.std.specs.List.{AllByRecursion}
 use Rattle.cc_base.specs.Bytes.{close_parenthesis, line_feed}
@@ -20,7 +20,7 @@ use Rattle.cc_bash.proofs.ReadsCases.{reading, pattern_found}
 use Rattle.cc_bash.proofs.ReadsDetails.{IsReadableDetail, detail_line, details_read}
 use Rattle.cc_bash.proofs.WordsRead.{Lacks, words_read, IsKept-words}
 
--- the arm can be read
+-- the arm is readable
 pub record IsReadableArm (arm : Arm) : Type 0 where
   pub label : IsWord arm.label
   pub no_paren : Lacks close_parenthesis arm.label
@@ -28,7 +28,7 @@ pub record IsReadableArm (arm : Arm) : Type 0 where
   pub words : AllByRecursion IsWord arm.words
   pub details : AllByRecursion IsReadableDetail arm.details
 
--- an arm begins a line, and so does what is left of it after the level
+-- an arm begins a line, and so does its rest after the level
 pub arm_line : (arm : Arm) (rest : List ℕ) → IsLine (arm_text arm ++ rest)
 unfolding arm_text arm_begins
 arm_line arm rest = line _
@@ -50,7 +50,7 @@ module _ (whole : Bool) where
   words_open table arm words h = ap (λ ws. after_words table (record arm { words = ws }))
       (words_read words h)
 
-  -- what is after the words, up to the level
+  -- the text after the words, up to the level
   level_read : (table : Table) (arm : Arm) (rest : List ℕ) →
       reading whole (after_words table arm) between
       (codes "if [[ ${cur} == -* || ${COMP_CWORD} -eq " ++ rest)

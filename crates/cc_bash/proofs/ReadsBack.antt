@@ -1,4 +1,4 @@
--- A bash script is read back to the table that it was written from.
+-- A bash script reads back to the table from which it was written.
 use Rattle.std.proofs.Common.{◌≡◌, ℕ, Bool, true, false, List, [], ◌∷◌, ◌++◌, flat_map, Some, codes, refl, ap, ◌∙◌, drop}
 use Rattle.std.specs.List.{AllByRecursion}
 use Rattle.cc_base.proofs.Lines.{IsLine}
@@ -18,11 +18,11 @@ use Rattle.cc_bash.specs.Texts.{function_begins, function_head, cases_begin, arm
 use Rattle.cc_bash.proofs.ReadsArms.{IsReadableArm, arm_line, arms_read}
 use Rattle.cc_bash.proofs.ReadsCases.{reading, IsReadableCase, case_line, cases_read}
 
--- a table of which only the root's label is read
+-- a table of which only the root's label has been read
 abbrev new_table : List ℕ → Table
 new_table label = record { root = label; cases = []; arms = [] }
 
--- ---- what is around the cases and the arms
+-- ---- the texts around the cases and the arms
 
 module _ (whole : Bool) where
   root_closes : (label rest : List ℕ) → IsLine rest →
@@ -36,7 +36,7 @@ module _ (whole : Bool) where
   unfolding next assigned
   root_set label = refl
 
-  -- what is before the cases
+  -- the text before the cases
   head_reads : (label rest : List ℕ) → IsOther label → IsLine rest →
       reading whole begins between (head_text label ++ rest)
       ≡ reading whole (between_cases (new_table label)) between rest
@@ -59,21 +59,21 @@ tail_line : (label bin : List ℕ) → IsLine (tail_text label bin)
 unfolding tail_text arms_end
 tail_line label bin = line _
 
--- a closed table stays, whatever follows
+-- a closed table stays the same, whatever follows
 read_finished : (table : Table) (tokens : List Token) →
     read true (finished table) tokens ≡ Some table
 unfolding read next closed_table
 read_finished table [] = refl
 read_finished table (token ∷ tokens) = read_finished table tokens
 
--- what is between the cases and the arms
+-- the text between the cases and the arms
 arms_open : (table : Table) (rest : List ℕ) → IsLine rest →
     reading true (between_cases table) between (arms_begin ++ rest)
     ≡ reading true (between_arms table) between rest
 unfolding arms_begin sign byte_of cut is_word pattern_of assigned case_by next read
 arms_open table rest (line tail) = refl
 
--- what is after the arms
+-- the text after the arms
 tail_reads : (table : Table) (label bin : List ℕ) →
     reading true (between_arms table) between (tail_text label bin) ≡ Some table
 unfolding tail_text arms_end sign byte_of cut is_word pattern_of next read
@@ -104,7 +104,7 @@ bash_reads_back label bin cases arms h k m =
     (tail_line label bin)
     ∙ tail_reads (record { root = label; cases = cases; arms = arms }) label bin
 
--- the cases are read whatever is at the labels
+-- the cases are read, whatever the arms are
 read_cases_closed : (table : Table) (tokens : List Token) →
     read false (after_cases table) tokens ≡ Some table
 unfolding read next closed_table

@@ -1,4 +1,4 @@
--- The case table of a bash script is read back.
+-- The reading of the case table of a bash script.
 use Rattle.std.proofs.Common.{◌≡◌, ℕ, Bool, List, [], ◌∷◌, ◌++◌, flat_map, Option, Some, codes, refl, ap, ◌∙◌, append_assoc}
 use Rattle.std.specs.List.{AllByRecursion}
 use Rattle.cc_base.specs.Bytes.{comma, close_parenthesis}
@@ -17,11 +17,11 @@ use Rattle.cc_bash.specs.Script.{case_text}
 use Rattle.cc_bash.specs.Texts.{case_begins, case_comma, case_sets, case_ends}
 use Rattle.cc_bash.proofs.WordsRead.{Lacks, Lacks-append, parted_at}
 
--- what the reader gives from a state on, where the script is cut from a state of quotes on
+-- what the reader reads from a state on, if the script is cut from a quote state on
 abbrev pub reading : Bool → State → CutState → List ℕ → Option Table
 reading whole state quote script = read whole state (tokens_from quote script)
 
--- the case can be read
+-- the case is readable
 pub record IsReadableCase (c : Case) : Type 0 where
   pub from : IsWord c.from
   pub from_no_paren : Lacks close_parenthesis c.from

@@ -1,4 +1,4 @@
--- The details of a bash script are read back.
+-- The reading of the details of a bash script.
 use Rattle.std.proofs.Common.{◌≡◌, ℕ, Bool, false, List, [], ◌∷◌, ◌++◌, flat_map, Option, Some, None, codes, refl, ap, ◌∙◌, append_assoc}
 use Rattle.std.specs.Prelude.{bytes_eq}
 use Rattle.std.specs.List.{AllByRecursion}
@@ -20,12 +20,12 @@ use Rattle.cc_bash.specs.Texts.{detail_begins, detail_word_ends, keep_separator,
 use Rattle.cc_bash.proofs.ReadsCases.{reading, pattern_found}
 use Rattle.cc_bash.proofs.WordsRead.{Lacks, words_read, IsKept-words}
 
--- the values that are offered, where some are, are words
+-- the values that are offered, if there are any, are words
 abbrev pub IsReadableOffer : Offered → Type 0
 IsReadableOffer (values names) = AllByRecursion IsWord names
 IsReadableOffer _ = Unit {0}
 
--- the detail can be read
+-- the detail is readable
 pub record IsReadableDetail (detail : Detail) : Type 0 where
   pub word : IsWord detail.word
   pub no_paren : Lacks close_parenthesis detail.word

@@ -9,7 +9,7 @@ either true (Some y) = refl
 either false None = refl
 either false (Some y) = refl
 
--- a label that is kept is seen from then on
+-- a label that was kept has been seen from then on
 pub seen_more : (before after : List ℕ → Option (Unit {0})) (label : List ℕ) →
     ((word : List ℕ) → after word ≡ update bytes_eq before label (Some tt) word) →
     (word : List ℕ) → is_some (after word) ≡ (is_some (before word) || bytes_eq label word)

@@ -1,4 +1,4 @@
--- The script and the clash of a tree, by what the code computes.
+-- The script and the clash of a tree, as the code computes them.
 use Rattle.std.proofs.Common.{◌≡◌, ℕ, List, [], ◌∷◌, ◌++◌, map, flat_map, Option, Some, None, Result, Ok, Err, IfErr, inl, inr, refl, sym, ap, ◌∙◌, subst, append_assoc}
 use Rattle.cc_base.specs.declared.error.Error.{Error}
 use Rattle.cc_base.specs.declared.error.Error.TheVariants.{Memory, LabelClash}
@@ -18,13 +18,13 @@ use Rattle.cc_bash.specs.Texts.{arms_begin}
 use Rattle.cc_bash.specs.declared.nodes.LabelledNode.{LabelledNode}
 use Rattle.cc_bash.proofs.PlainTable.{bash_plain_reads}
 
--- the script of a root with this label and these nodes below it
+-- the script of a root with the given label and the given nodes below it
 abbrev pub script_by : List ℕ → Tree → List Labelled → List ℕ
 script_by root tree nodes =
     script_text root (full_name tree.node) (in_order case_below (flat_map node_cases nodes))
     (arm_of root 1 tree ∷ map node_arm (in_order arm_below nodes))
 
--- its pieces, in the order in which they are written
+-- the pieces of that script, in the order in which they are written
 pub script_pieces : (root bin : List ℕ) (tree : Tree) (lent nodes : List Labelled) →
     bin ≡ full_name tree.node → lent ≡ nodes →
     ((((head_text root ++ flat_map case_text (in_order case_below (flat_map node_cases lent)))
@@ -43,7 +43,7 @@ script_pieces root bin tree lent nodes is same =
     ∙ ap (λ b. ((before ++ one) ++ rest) ++ tail_text root b) is
     ∙ ap (λ t. t ++ tail_text root (full_name tree.node)) (append_assoc before one rest)
 
--- the nodes that were listed are the tree's
+-- the nodes of the list are the nodes of the tree
 pub nodes_are : (tree at : Tree) (root : List ℕ) (nodes : List LabelledNode) → at ≡ tree →
     root ≡ root_label tree → map labelled_of nodes ≡ labelled_under root 2 at.children →
     map labelled_of nodes ≡ labelled_commands tree
@@ -62,7 +62,7 @@ map-label : (nodes : List LabelledNode) →
 map-label [] = refl
 map-label (n ∷ nodes) = ap (λ ls. n.label ∷ ls) (map-label nodes)
 
--- so is the label that two of them share
+-- the same for the label that two nodes share
 pub clash_is : (tree : Tree) (root : List ℕ) (nodes : List LabelledNode) → root ≡ root_label tree →
     map labelled_of nodes ≡ labelled_commands tree →
     first_again [] (root ∷ map (λ n. n.label) nodes) ≡ shared_label tree
@@ -70,10 +70,10 @@ clash_is tree root nodes label are =
     ap (λ ls. first_again [] (root ∷ ls)) (map-label nodes ∙ ap (λ ns. map (λ n. n.label) ns) are)
     ∙ ap (λ r. first_again [] (r ∷ map (λ n. n.label) (labelled_commands tree))) label
 
--- ---- what the call does
+-- ---- the effect of the call
 
 module _ {S : Type 0} {taken : S → List ℕ} {failed : S → Failures} where
-  -- it is out of memory before anything is written
+  -- the call fails with `Memory` before anything is written
   pub generates_memory : (tree : Tree) (sink : S) →
       Generates taken failed bash_spec tree (Err Memory) sink sink
   generates_memory tree sink = record {
@@ -100,7 +100,7 @@ module _ {S : Type 0} {taken : S → List ℕ} {failed : S → Failures} where
       by (Some other) is = let same : other
           ≡ label = cc in (inl (ap (λ l. Err (LabelClash l)) (sym same)), refl)
 
-  -- none do, and the script is written
+  -- no two nodes share a label, and the script is written
   pub generates_script : (tree : Tree) (result : Result (Unit {0}) Error) (old new : S)
       (root : List ℕ) (nodes : List LabelledNode) → root ≡ root_label tree →
       map labelled_of nodes ≡ labelled_commands tree →

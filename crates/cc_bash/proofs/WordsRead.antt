@@ -19,7 +19,7 @@ pub Lacks-append : (byte : ℕ) (text rest : List ℕ) → Lacks byte text → L
 Lacks-append byte [] rest h k = k
 Lacks-append byte (b ∷ text) rest h k = (h.0, Lacks-append byte text rest h.1 k)
 
--- a text is cut at the first such byte
+-- a text is cut at the first occurrence of a byte
 pub parted_at : (byte : ℕ) (before after : List ℕ) → Lacks byte before →
     parted byte (before ++ byte ∷ after) ≡ Some (before, after)
 parted_at byte [] after h = let e : (byte == byte) ≡ true = grind (arith, nat_tests) in rw e
@@ -66,7 +66,7 @@ more_read word (next ∷ words) h k =
     ∙ ap (λ ws. word ∷ ws) (word_begins next (words_after true words) k.0
     ∙ more_read next words k.0 k.1)
 
--- words that are joined by spaces are cut again
+-- words that are joined by spaces are cut into the same words
 pub words_read : (words : List (List ℕ)) → AllByRecursion IsWord words →
     words_from [] (words_text words) ≡ words
 words_read [] h = refl
@@ -83,7 +83,7 @@ spaced_kept (word ∷ words) h = (
       (spaced_kept words h.1),
 )
 
--- and double quotes keep them
+-- double quotes keep such words
 pub IsKept-words : (words : List (List ℕ)) → AllByRecursion IsWord words → IsKept (words_text words)
 IsKept-words [] h = tt
 IsKept-words (word ∷ words) h = IsKept-append word (words_after true words)

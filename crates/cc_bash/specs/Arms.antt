@@ -1,4 +1,4 @@
--- What a bash script offers at each command: the options and names, and what comes after an option.
+-- What a bash script offers at each command: words, and values after an option.
 use Rattle.std.specs.Prelude.{ℕ, List, [], ◌∷◌, ◌++◌, Bool, not, map, filter, flat_map, decimal, Option, Some, None, unwrap_or}
 use Rattle.std.specs.Ordering.{is_lt, nat_cmp}
 use Rattle.std.specs.Cmp.Lexicographic.{slice_cmp}
@@ -16,59 +16,59 @@ use Rattle.cc_generator.specs.ArgumentNames.{aliases_then, long_word, short_word
 use Rattle.cc_generator.specs.Subcommands.{sibling_names}
 use Rattle.cc_bash.specs.Labels.{Labelled, labelled_commands, root_label}
 
--- what is offered after an option: these values, files, the word as it is typed, or nothing
+-- what is offered after an option: the given values, files, the word as it is typed, or nothing
 pub data Offered : Type 0 where
   values : List (List ℕ) → Offered
   files : Offered
   typed : Offered
   nothing : Offered
 
--- what bash is told of an option's values: that they are names of files, that folders are offered
--- too, or that no space is to follow
+-- what bash learns about the values of an option: that they are names of files, that directories
+-- are offered too, or that no space follows
 pub data Mode : Type 0 where
   filenames : Mode
   plusdirs : Mode
   nospace : Mode
 
--- an option as it is typed, what is offered after it, and how
+-- an option as a user types it, what is offered after it, and how
 pub record Detail : Type 0 where
   pub word : List ℕ
   pub offered : Offered
   pub mode : Option Mode
 
--- what is at a label: the level in digits, the options and names, and the details
+-- what is offered at a label: the level in digits, the words, and the details of options
 pub record Arm : Type 0 where
   pub label : List ℕ
   pub level : List ℕ
   pub words : List (List ℕ)
   pub details : List Detail
 
--- the shorts of an argument as they are typed, and its longs: the visible aliases, then the name
+-- the shorts of an argument as a user types them, and its longs: the visible aliases, then the name
 abbrev pub short_words : Arg → List (List ℕ)
 short_words argument = map short_word (aliases_then argument.visible_short_aliases argument.short)
 
 abbrev pub long_words : Arg → List (List ℕ)
 long_words argument = map long_word (aliases_then argument.visible_aliases argument.long)
 
--- the names of some possible values, and of those that are shown
+-- the names of possible values, and of those that are not hidden
 abbrev pub names_of_values : List PossibleValue → List (List ℕ)
 names_of_values possible = map (λ value. value.name) possible
 
 abbrev pub names_of_shown : List PossibleValue → List (List ℕ)
 names_of_shown possible = names_of_values (filter (λ value. not value.hide) possible)
 
--- the names of an argument's possible values, hidden ones too
+-- the names of an argument's possible values, including hidden ones
 abbrev pub value_names : Arg → List (List ℕ)
 value_names argument = names_of_values (unwrap_or (possible_values argument) [])
 
--- what is offered where values were listed, and else by what the values are
+-- what is offered after an option: its possible values, or else what its value hint asks for
 abbrev pub offered_for : Option (List PossibleValue) → ValueHint → Offered
 offered_for (Some possible) hint = values (names_of_shown possible)
 offered_for None DirPath = nothing
 offered_for None Other = typed
 offered_for None _ = files
 
--- how values are offered, by what they are
+-- how values are offered, given the value hint
 abbrev pub mode_for : ValueHint → Option Mode
 mode_for FilePath = Some filenames
 mode_for DirPath = Some plusdirs
@@ -82,8 +82,7 @@ offered_by argument = offered_for (possible_values argument) argument.value_hint
 abbrev pub mode_of : Arg → Option Mode
 mode_of argument = mode_for argument.value_hint
 
--- the words at a node: the shorts, the longs, the values of positionals, and the names of the
--- children
+-- the words at a node: shorts, longs, values of positionals, and names of children
 unfoldable pub words_at : Tree → List (List ℕ)
 words_at tree =
     flat_map short_words tree.node.arguments
@@ -104,7 +103,7 @@ detail_of argument word = record {
   mode = mode_of argument;
 }
 
--- the details of an option: one for each of its words
+-- the details of an option, one for each of its words
 abbrev pub option_details : Arg → List Detail
 option_details argument = map (detail_of argument) (option_words argument)
 
@@ -112,7 +111,7 @@ option_details argument = map (detail_of argument) (option_words argument)
 unfoldable pub details_at : Node → List Detail
 details_at node = flat_map option_details (options node)
 
--- the arm of a node with this label, at this level
+-- the arm of a node with the given label and level
 abbrev pub arm_of : List ℕ → ℕ → Tree → Arm
 arm_of label level tree = record {
   label = label;
@@ -125,11 +124,11 @@ arm_of label level tree = record {
 abbrev pub node_arm : Labelled → Arm
 node_arm node = arm_of node.label node.level node.tree
 
--- whether one node's arm comes before another's
+-- whether the arm of one node comes before the arm of another
 abbrev pub arm_below : Labelled → Labelled → Bool
 arm_below one other = is_lt (slice_cmp nat_cmp one.sort_text other.sort_text)
 
--- the arms of a tree: the root's, then the others in order
+-- the arms of a tree: the root's arm, then the others in order
 unfoldable pub tree_arms : Tree → List Arm
 tree_arms tree =
     arm_of (root_label tree) 1 tree ∷ map node_arm (in_order arm_below (labelled_commands tree))

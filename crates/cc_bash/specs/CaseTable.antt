@@ -7,20 +7,20 @@ use Rattle.cc_command.specs.Tree.{Tree}
 use Rattle.cc_command.specs.Names.{visible_names}
 use Rattle.cc_bash.specs.Labels.{Labelled, labelled_commands}
 
--- from one label a word leads to another
+-- a case: from one label a word leads to another
 pub record Case : Type 0 where
   pub from : List ℕ
   pub word : List ℕ
   pub to : List ℕ
 
--- the cases that lead to a node: one for each of its visible names
+-- the cases that lead to a node, one for each of its visible names
 abbrev pub node_cases : Labelled → List Case
 node_cases node =
     map (λ name. let c : Case = record { from = node.parent; word = name; to = node.label } in c)
     (visible_names node.tree.node)
 
--- whether one case comes before another, by the bytes of the label that it leads from, then of the
--- word, then of the label that it leads to
+-- whether one case comes before another: by the bytes of the label from which it leads, then of the
+-- word, then of the label to which it leads
 abbrev pub case_below : Case → Case → Bool
 case_below one other =
     is_lt (ordering_then (slice_cmp nat_cmp one.from other.from)
@@ -30,19 +30,19 @@ case_below one other =
 unfoldable pub tree_cases : Tree → List Case
 tree_cases tree = in_order case_below (flat_map node_cases (labelled_commands tree))
 
--- the label to which the first case leads that fits the label and the word; the same label where
--- none fits
+-- the label to which the first case leads that fits the label and the word; the same label if none
+-- fits
 abbrev pub next_label : List Case → List ℕ → List ℕ → List ℕ
 next_label [] label word = label
 next_label (c ∷ cases) label word =
     if bytes_eq c.from label && bytes_eq c.word word then c.to else next_label cases label word
 
--- the label, and the labels after each of the words
+-- the label, and the label after each of the words
 abbrev pub run : List Case → List ℕ → List (List ℕ) → List (List ℕ)
 run cases label [] = label ∷ []
 run cases label (word ∷ words) = label ∷ run cases (next_label cases label word) words
 
--- the last of some texts, or this one where there is none
+-- the last of some texts, or the given text if there are none
 abbrev pub last_or : List ℕ → List (List ℕ) → List ℕ
 last_or text [] = text
 last_or text (next ∷ texts) = last_or next texts

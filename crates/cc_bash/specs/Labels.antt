@@ -1,4 +1,4 @@
--- The labels by which a bash script tells the commands of a tree apart.
+-- The labels by which a bash script distinguishes the commands of a tree.
 use Rattle.std.specs.Prelude.{ℕ, suc, List, [], ◌∷◌, ◌++◌, if◌then◌else◌, map, codes, Option, Some, None}
 use Rattle.cc_base.specs.Bytes.{space, dash}
 use Rattle.cc_quote.specs.Escapes.{replace_byte}
@@ -10,7 +10,8 @@ use Rattle.cc_command.specs.Names.{contains_name, full_name}
 abbrev pub root_label : Tree → List ℕ
 root_label tree = replace_byte dash (codes "__") (full_name tree.node)
 
--- the label of a child: its parent's, `__subcmd__`, and its name with `__subcmd__` for each `-`
+-- the label of a child: its parent's label, `__subcmd__`, and its name with `__subcmd__` for each
+-- `-`
 abbrev pub child_label : List ℕ → List ℕ → List ℕ
 child_label parent name =
     parent ++ codes "__subcmd__" ++ replace_byte dash (codes "__subcmd__") name
@@ -19,8 +20,8 @@ child_label parent name =
 abbrev pub sort_text : Node → List ℕ
 sort_text node = replace_byte space (codes "__subcmd__") (full_name node)
 
--- a node below the root, with its parent's label, its own, the text by which it is sorted, and its
--- level: how many names its path has, the root's included
+-- a node below the root, with its parent's label, its own label, the text by which it is sorted,
+-- and its level, which is the number of names in its path, including the root's
 pub record Labelled : Type 0 where
   pub parent : List ℕ
   pub label : List ℕ
@@ -28,7 +29,7 @@ pub record Labelled : Type 0 where
   pub level : ℕ
   pub tree : Tree
 
--- a node below a parent with this label, at this level
+-- a node below a parent with the given label, at the given level
 abbrev pub labelled_node : List ℕ → ℕ → Tree → Labelled
 labelled_node parent level tree = record {
   parent = parent;
@@ -38,8 +39,8 @@ labelled_node parent level tree = record {
   tree = tree;
 }
 
--- siblings at this level below a parent with this label: a node and all below it, then those after
--- it
+-- siblings at the given level below a parent with the given label: a node and everything below it,
+-- then the siblings after it
 abbrev pub labelled_under : List ℕ → ℕ → Forest → List Labelled
 labelled_under parent level none = []
 labelled_under parent level (more node below rest) =
@@ -51,16 +52,17 @@ labelled_under parent level (more node below rest) =
 abbrev pub labelled_commands : Tree → List Labelled
 labelled_commands tree = labelled_under (root_label tree) 2 tree.children
 
--- the labels of all nodes: the root's, then those of each child's whole subtree in turn
+-- the labels of all nodes: the root's label, then for each child the labels of the child and of
+-- everything below it
 abbrev pub labels : Tree → List (List ℕ)
 labels tree = root_label tree ∷ map (λ node. node.label) (labelled_commands tree)
 
--- the first of the texts that is among those before it, or among these
+-- the first text that occurs before it, in the same list or in `before`
 abbrev pub first_again : List (List ℕ) → List (List ℕ) → Option (List ℕ)
 first_again before [] = None
 first_again before (text ∷ texts) =
     if contains_name before text then Some text else first_again (before ++ text ∷ []) texts
 
--- the label of the first node whose label an earlier one has
+-- the label of the first node whose label an earlier node has
 abbrev pub shared_label : Tree → Option (List ℕ)
 shared_label tree = first_again [] (labels tree)

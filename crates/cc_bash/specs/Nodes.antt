@@ -1,4 +1,4 @@
--- What the code's nodes, its paths, its cases and its parts of the words stand for.
+-- The meaning of nodes, paths, cases and parts of the words in the code.
 use Rattle.std.specs.Prelude.{ℕ, ◌-◌, List, [], ◌∷◌, ◌++◌, length, take, slice_get, unwrap_or, if◌then◌else◌}
 use Rattle.cc_arg.specs.declared.parts.ArgParts.{ArgParts as Arg}
 use Rattle.cc_arg.specs.Arguments.{is_positional}
@@ -25,21 +25,21 @@ labelled_of node = record {
 abbrev pub case_of : CaseValue → Case
 case_of c = record { from = c.from.now; word = c.word.now; to = c.to.now }
 
--- the last of these labels, or the root's where there is none
+-- the last of the given labels, or the root's label if there are none
 abbrev pub last_label : List ℕ → List (List ℕ) → List ℕ
 last_label root path = unwrap_or (slice_get path (length path - 1)) root
 
--- a node that comes in preorder after one to which a path with these labels, the root's left out,
--- leads: its own path begins with as many of them as its level tells
+-- the node that comes next in preorder, after a path with the given labels, without the root's. Its
+-- own path begins with some of these labels, as many as its level requires.
 abbrev pub next_labelled : List ℕ → List (List ℕ) → Levelled → Labelled
 next_labelled root path node =
     labelled_node (last_label root (take (node.level - 2) path)) node.level node.tree
 
--- the labels of the path that leads to it
+-- the labels of the path to that node
 abbrev pub next_path : List ℕ → List (List ℕ) → Levelled → List (List ℕ)
 next_path root path node = take (node.level - 2) path ++ (next_labelled root path node).label ∷ []
 
--- an argument's words of a part
+-- the words of an argument that belong to a part
 abbrev pub part_words : Part → Arg → List (List ℕ)
 part_words Shorts argument = short_words argument
 part_words Longs argument = long_words argument

@@ -1,4 +1,4 @@
--- The case table and the arms that a bash script spells.
+-- The case table and the arms in a bash script.
 use Rattle.std.specs.Prelude.{ℕ, Bool, true, false, List, [], ◌∷◌, ◌++◌, ◌==◌, ◌&&◌, if◌then◌else◌, Option, Some, None, bytes_eq, codes, option_map}
 use Rattle.cc_base.specs.Bytes.{space, close_parenthesis, comma}
 use Rattle.cc_quote.specs.PosixTokens.{posix_tokens, is_double_quote}
@@ -7,14 +7,14 @@ use Rattle.cc_quote.specs.Tokens.Piece.{bare, quoted}
 use Rattle.cc_bash.specs.CaseTable.{Case}
 use Rattle.cc_bash.specs.Arms.{values, files, typed, nothing, Mode, filenames, plusdirs, nospace, Detail, Arm}
 
--- the text before the first such byte, and what is after it
+-- the text before the first occurrence of a byte, and the text after it
 abbrev pub parted : ℕ → List ℕ → Option (List ℕ × List ℕ)
 parted byte [] = None
 parted byte (b ∷ text) =
     if b == byte then Some ([], text)
     else option_map (λ parts. (b ∷ parts.0, parts.1)) (parted byte text)
 
--- the words of a text, cut at spaces, from the word on that has begun
+-- the words of a text, cut at spaces; the first word continues `run`
 abbrev pub words_from : List ℕ → List ℕ → List (List ℕ)
 words_from [] [] = []
 words_from (r ∷ run) [] = (r ∷ run) ∷ []
@@ -25,13 +25,13 @@ words_from (r ∷ run) (b ∷ text) = elim (b == space) [
   | false ↦ words_from ((r ∷ run) ++ b ∷ []) text
 ]
 
--- the table that a script spells: the root's label, the cases, and the arms
+-- what a script holds: the root's label, the cases, and the arms
 pub record Table : Type 0 where
   pub root : List ℕ
   pub cases : List Case
   pub arms : List Arm
 
--- how far the reader is, with what it has read
+-- the state of the reader, with what it has read
 pub data State : Type 0 where
   begins : State
   at_case : State
@@ -61,7 +61,7 @@ pub data State : Type 0 where
   finished : Table → State
   malformed : State
 
--- what is before the `)` that ends a pattern
+-- the text before the `)` that ends a pattern
 unfoldable pub pattern_of : Token → Option (List ℕ)
 pattern_of (bare run ∷ []) = elim (parted close_parenthesis run) [
   | Some parts ↦ (elim parts.1 as (λ rest. Option (List ℕ)) [ [] ↦ Some parts.0 | _ ∷ _ ↦ None ])
@@ -69,7 +69,7 @@ pattern_of (bare run ∷ []) = elim (parted close_parenthesis run) [
 ]
 pattern_of _ = None
 
--- the text between double quotes that is after this bare word
+-- the text between double quotes after the given bare word
 unfoldable pub assigned : List ℕ → Token → Option (List ℕ)
 assigned name (bare run ∷ quoted opening text ∷ []) =
     if bytes_eq run name && is_double_quote opening then Some text else None
@@ -102,7 +102,7 @@ is_typed_reply (bare run ∷ quoted opening text ∷ bare end ∷ []) =
     && (is_double_quote opening && (bytes_eq text (codes "${cur}") && bytes_eq end (codes ")")))
 is_typed_reply _ = false
 
--- whether a token offers what `compgen` gives
+-- whether a token offers what `compgen` returns
 unfoldable pub is_compgen_reply : Token → Bool
 is_compgen_reply token = is_word (codes "COMPREPLY=($(compgen") token
 
@@ -129,15 +129,15 @@ with_arm table arm = record table { arms = table.arms ++ arm ∷ [] }
 abbrev pub with_detail : Arm → Detail → Arm
 with_detail arm detail = record arm { details = arm.details ++ detail ∷ [] }
 
--- an arm of which only the label is read, and a detail of which only the word is
+-- an arm of which only the label has been read, and a detail of which only the word has been read
 abbrev pub new_arm : List ℕ → Arm
 new_arm label = record { label = label; level = []; words = []; details = [] }
 
 abbrev pub new_detail : List ℕ → Detail
 new_detail word = record { word = word; offered = nothing; mode = None }
 
--- The state after a token; what does not belong there is malformed. `whole`: the arms are
--- read too, else the reader stops at the first `esac`.
+-- The state after a token. A token that does not belong there makes the text malformed. If `whole`
+-- is true, the arms are read too; otherwise the reader stops at the first `esac`.
 unfoldable pub next : Bool → State → Token → State
 next whole begins token = if is_word (codes "case") token then at_case else begins
 next whole at_case token = if is_word (codes "in") token then at_root else at_case
@@ -225,21 +225,21 @@ next whole (after_details table arm) token =
 next whole (finished table) token = finished table
 next whole malformed token = malformed
 
--- what a closed table is; without the arms the first `esac` closes it
+-- the table of a state at which it is closed; without the arms, the first `esac` closes it
 unfoldable pub closed_table : Bool → State → Option Table
 closed_table true (finished table) = Some table
 closed_table false (after_cases table) = Some table
 closed_table _ _ = None
 
--- what the tokens give from a state on
+-- the table that tokens give from a state on
 unfoldable pub read : Bool → State → List Token → Option Table
 read whole state [] = closed_table whole state
 read whole state (token ∷ tokens) = read whole (next whole state token) tokens
 
--- the root's label and the cases that a script spells; the arms are left out
+-- the root's label and the cases of a script, without the arms
 unfoldable pub bash_cases : List ℕ → Option Table
 bash_cases script = read false begins (posix_tokens script)
 
--- these and the arms
+-- the root's label, the cases and the arms of a script
 unfoldable pub bash_table : List ℕ → Option Table
 bash_table script = read true begins (posix_tokens script)

@@ -1,4 +1,4 @@
--- What the bash script of a tree reads to.
+-- What the bash script of a tree reads back to.
 use Rattle.std.specs.Prelude.{◌≡◌, ℕ, List, [], ◌∷◌, ◌++◌, map, IsTrue, Option, Some, None}
 use Rattle.std.specs.Prelude.{bytes_eq, codes, if◌then◌else◌}
 use Rattle.std.specs.List.Sorted.{IsPermutation}
@@ -23,20 +23,21 @@ arm_at (arm ∷ arms) label = if bytes_eq arm.label label then Some arm else arm
 abbrev pub path_node_label : Tree → PathNode → List ℕ
 path_node_label tree here = label_at (root_label tree) here.path
 
--- the arm of a node of a tree, at that label
+-- the arm of a node of a tree, at the label of that node
 abbrev pub path_node_arm : Tree → PathNode → Arm
 path_node_arm tree here = arm_of (path_node_label tree here) (level_of here) here.tree
 
--- the arm that a table has at the label to which its cases lead from the root's over some words
+-- the arm of a table at the label to which its cases lead for some words, from the root's label on
 abbrev pub arm_after : Option Table → List (List ℕ) → Option Arm
 arm_after None words = None
 arm_after (Some table) words = arm_at table.arms (run_end table.cases table.root words)
 
--- The script of a tree reads to the tree's cases, and where its possible values are quiet to its
--- arms too. Over any words the cases lead along the labels of the walk by visible names, and so to
--- that of its last node. The arms are those of all nodes, one for each, at its label, and none
--- besides; so at the label to which words lead, also as it is read from the script, is the arm
--- of the node that the walk reaches. No two nodes have one label.
+-- The script of a tree reads back to the tree's cases, and also to its arms if its possible values
+-- are quiet. For any words, the cases lead along the labels of the walk by visible names, and so to
+-- the label of its last node. The arms are exactly those of all nodes, one for each, at its label.
+-- So the arm at the label to which words lead is the arm of the node that the walk reaches. If
+-- values are quiet, this also holds for the table read from the script. No two nodes have the same
+-- label.
 pub record BashReads (tree : Tree) : Type 0 where
   pub cases : bash_cases (bash_script tree)
       ≡ Some (record { root = root_label tree; cases = tree_cases tree; arms = [] })
@@ -57,7 +58,7 @@ pub record BashReads (tree : Tree) : Type 0 where
       ≡ Some (path_node_arm tree (walk (root_path_node tree) words))
   pub one_label : AllDifferBy (λ label. label) (labels tree)
 
--- what is said of the scripts
+-- the specification of the scripts
 abbrev pub bash_spec : ShellSpec
 bash_spec = record {
   script = λ tree. bash_script tree;

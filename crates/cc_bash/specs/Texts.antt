@@ -1,11 +1,11 @@
 -- The fixed texts of a bash script.
 use Rattle.std.specs.Prelude.{⊤, ℕ, List, ◌++◌, codes}
 
--- what a script begins with, up to the label of its root
+-- the text before the label of the root
 unfoldable pub function_begins : List ℕ
 function_begins = codes "_"
 
--- between the label and where the label is set
+-- the text between that label and the place where the label is set
 unfoldable pub function_head : List ℕ
 function_head =
     codes "() {\n"
@@ -26,11 +26,11 @@ function_head =
     ++ codes "            \",$1\")\n"
     ++ codes "                cmd=\""
 
--- between the root's label and the cases
+-- the text between the root's label and the cases
 unfoldable pub cases_begin : List ℕ
 cases_begin = codes "\"\n                ;;"
 
--- between the cases and the arms
+-- the text between the cases and the arms
 unfoldable pub arms_begin : List ℕ
 arms_begin =
     codes "\n"
@@ -41,7 +41,7 @@ arms_begin =
     ++ codes "\n"
     ++ codes "    case \"${cmd}\" in"
 
--- between the arms and the name of the function
+-- the text between the arms and the name of the function
 unfoldable pub arms_end : List ℕ
 arms_end =
     codes "\n"
@@ -52,51 +52,51 @@ arms_end =
     ++ codes "|| \"${BASH_VERSINFO[0]}\" -gt 4 ]]; then\n"
     ++ codes "    complete -F _"
 
--- between the name of the function and that of the program, where bash can keep an order
+-- the text between the names of the function and of the program, if bash can keep an order
 unfoldable pub unsorted_options : List ℕ
 unsorted_options = codes " -o nosort -o bashdefault -o default "
 
--- between that and the second name of the function
+-- the text between the name of the program and the second name of the function
 unfoldable pub otherwise : List ℕ
 otherwise = codes "\nelse\n    complete -F _"
 
--- between the name of the function and that of the program, where bash cannot keep an order
+-- the text between the names of the function and of the program, if bash cannot keep an order
 unfoldable pub sorted_options : List ℕ
 sorted_options = codes " -o bashdefault -o default "
 
--- what a script ends with
+-- the end of a script
 unfoldable pub script_ends : List ℕ
 script_ends = codes "\nfi\n"
 
--- before a case's first label
+-- the text before the first label of a case
 unfoldable pub case_begins : List ℕ
 case_begins = codes "\n            "
 
--- between the label and the word of a case
+-- the text between the label and the word of a case
 unfoldable pub case_comma : List ℕ
 case_comma = codes ","
 
--- between the pattern of a case and the label that it sets
+-- the text between the pattern of a case and the label that it sets
 unfoldable pub case_sets : List ℕ
 case_sets = codes ")\n                cmd=\""
 
--- what ends a case
+-- the end of a case
 unfoldable pub case_ends : List ℕ
 case_ends = codes "\"\n                ;;"
 
--- before the label of an arm
+-- the text before the label of an arm
 unfoldable pub arm_begins : List ℕ
 arm_begins = codes "\n        "
 
--- between the label of an arm and its words
+-- the text between the label of an arm and its words
 unfoldable pub arm_words : List ℕ
 arm_words = codes ")\n            opts=\""
 
--- between the words of an arm and its level
+-- the text between the words of an arm and its level
 unfoldable pub arm_level : List ℕ
 arm_level = codes "\"\n            if [[ ${cur} == -* || ${COMP_CWORD} -eq "
 
--- between the level of an arm and its details
+-- the text between the level of an arm and its details
 unfoldable pub arm_details : List ℕ
 arm_details =
     codes " ]] ; then\n"
@@ -105,7 +105,7 @@ arm_details =
     ++ codes "            fi\n"
     ++ codes "            case \"${prev}\" in"
 
--- what ends an arm
+-- the end of an arm
 unfoldable pub arm_ends : List ℕ
 arm_ends =
     codes "\n"
@@ -117,14 +117,15 @@ arm_ends =
     ++ codes "            return 0\n"
     ++ codes "            ;;"
 
--- before and after the word of a detail
+-- the texts before and after the word of a detail
 unfoldable pub detail_begins : List ℕ
 detail_begins = codes "\n                "
 
 unfoldable pub detail_word_ends : List ℕ
 detail_word_ends = codes ")"
 
--- what keeps the separator of words before names of files are offered, and what brings it back
+-- the text that keeps the separator of words before names of files are offered, and the text that
+-- restores it
 unfoldable pub keep_separator : List ℕ
 keep_separator =
     codes "\n"
@@ -141,28 +142,28 @@ separator_back =
     ++ codes "                        IFS=\"$oldifs\"\n"
     ++ codes "                    fi"
 
--- before and after what is offered
+-- the texts before and after what is offered
 unfoldable pub reply_begins : List ℕ
 reply_begins = codes "\n                    COMPREPLY=("
 
 unfoldable pub reply_ends : List ℕ
 reply_ends = codes ")"
 
--- before and after values that are offered
+-- the texts before and after values that are offered
 unfoldable pub values_begin : List ℕ
 values_begin = codes "$(compgen -W \""
 
 unfoldable pub values_end : List ℕ
 values_end = codes "\" -- \"${cur}\")"
 
--- what offers files, and what offers the word as it is typed
+-- the text that offers files, and the text that offers the word as it is typed
 unfoldable pub offer_files : List ℕ
 offer_files = codes "$(compgen -f \"${cur}\")"
 
 unfoldable pub offer_word : List ℕ
 offer_word = codes "\"${cur}\""
 
--- before and after a mode, which bash knows since version 4
+-- the texts before and after a mode, which bash knows since version 4
 unfoldable pub mode_begins : List ℕ
 mode_begins =
     codes "\n"
@@ -172,11 +173,11 @@ mode_begins =
 unfoldable pub mode_ends : List ℕ
 mode_ends = codes "\n                    fi"
 
--- what ends a detail
+-- the end of a detail
 unfoldable pub detail_ends : List ℕ
 detail_ends = codes "\n                    return 0\n                    ;;"
 
--- what opens each of them
+-- unfolds each of these texts
 unfoldable pub fixed_texts : ⊤
 unfolding function_begins function_head cases_begin arms_begin arms_end unsorted_options otherwise sorted_options script_ends case_begins case_comma case_sets case_ends arm_begins arm_words arm_level arm_details arm_ends detail_begins detail_word_ends keep_separator separator_back reply_begins reply_ends values_begin values_end offer_files offer_word mode_begins mode_ends detail_ends
 fixed_texts = tt

@@ -1,11 +1,11 @@
--- Words that are written one by one, with a space before each but the first.
+-- Words that are written one after another, with a space before each but the first.
 use Rattle.std.specs.Prelude.{ℕ, List, Bool, codes}
 use Rattle.cc_base.specs.Joined.{joined, joined_after}
 
--- some words, where it is told whether a word is before them
+-- words with spaces; the flag says whether a word comes before them
 abbrev pub words_after : Bool → List (List ℕ) → List ℕ
 words_after = joined_after (codes " ")
 
--- some words
+-- words with a space before each but the first
 abbrev pub words_text : List (List ℕ) → List ℕ
 words_text = joined (codes " ")

@@ -1,4 +1,4 @@
-//! What is offered at each command.
+//! The words and option values that a script offers at each command.
 
 ghost use Rattle.std.specs.Prelude.{◌≡◌, map, flat_map, OnOk};
 ghost use Rattle.std.specs.Ordering.{nat_cmp};
@@ -19,7 +19,7 @@ use std::alloc::{AllocError, Global};
 use std::cmp::Ordering;
 use std::io::ErrorKind;
 
-/// Puts nodes into the order of their arms.
+/// Sorts nodes into the order of their arms.
 pub(crate) fn sort_nodes(nodes: &mut Vec<LabelledNode<'_>>) -> Result<(), AllocError>
     ensures { OnOk result (map labelled_of nodes.new.items
         ≡ in_order arm_below (map labelled_of nodes.old.items)) }
@@ -47,7 +47,7 @@ pub(crate) fn write_arms<W: Sink>(
     Ok(())
 }
 
-/// The arm of a command with this label, at this level.
+/// Writes the arm of `command` with the given `label` and `level`.
 pub(crate) fn write_arm<W: Sink>(
     alloc: Global,
     sink: &mut W,
@@ -62,7 +62,7 @@ pub(crate) fn write_arm<W: Sink>(
     Ok(write_levelled(sink, label, level.as_str(), command)?)
 }
 
-// The level is in digits.
+// Writes an arm, given its level in digits.
 fn write_levelled<'a, W: Sink>(
     sink: &mut W,
     label: &'a str,

@@ -1,4 +1,4 @@
-//! The generator, and the whole script: its frame, in it the cases and the arms.
+//! The generator and the whole script: its frame, with the cases and the arms.
 
 ghost use Rattle.std.specs.Prelude.{◌≡◌, ◌∷◌, map, flat_map, IfOk};
 ghost use Rattle.cc_base.specs.Sorting.{in_order};
@@ -25,7 +25,7 @@ use cc_generator::Generator;
 use cc_quote::{Replace, escape_text};
 use std::alloc::{AllocError, Global};
 
-/// Writes bash scripts. The file of a program `N` is `N.bash`.
+/// The generator of bash scripts. The script of a program `N` goes into the file `N.bash`.
 #[derive(Clone, Copy, PartialEq, Eq, Debug)]
 pub struct Bash;
 
@@ -59,11 +59,14 @@ impl Generator for Bash {
     }
 }
 
-/// The label that two nodes of a command share, where there is one: that of the first node whose
-/// label an earlier one has. Of a command that is built under a bin name it is the label with which
-/// the generator fails, and without one it does not fail so.
+/// Returns the label that two nodes of `command` share, or `None` if all labels differ. It is the
+/// label of the first node whose label an earlier node has. If a command is built under a bin name,
+/// the generator fails with `LabelClash` if and only if there is such a label, and the error holds
+/// it.
 ///
-/// Fails where memory runs out.
+/// # Errors
+///
+/// `AllocError` if an allocation fails.
 pub fn clashing_label(alloc: Global, command: &Command) -> Result<Option<Text>, AllocError>
     ensures { IfOk result (λ shared. shared ≡ shared_label command.now) }
 {
@@ -77,7 +80,7 @@ pub fn clashing_label(alloc: Global, command: &Command) -> Result<Option<Text>, 
     shared_label(alloc, root.as_str(), &nodes)
 }
 
-// The root has this label, and below it are these nodes.
+// Writes the script, given the label of the root and the nodes below it.
 fn write_script<W: Sink>(
     alloc: Global,
     sink: &mut W,

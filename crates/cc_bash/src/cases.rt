@@ -13,7 +13,7 @@ use cc_base::{Sink, put_pieces};
 use std::alloc::{AllocError, Global};
 use std::io::ErrorKind;
 
-/// From one label a word leads to another.
+/// A case: from one label a word leads to another.
 #[derive(Clone, Copy, PartialEq, Eq, PartialOrd, Ord, Debug)]
 pub(crate) struct Case<'a> {
     from: &'a str,
@@ -21,7 +21,7 @@ pub(crate) struct Case<'a> {
     to: &'a str,
 }
 
-/// The cases that lead to some nodes, sorted by their bytes.
+/// Returns the cases that lead to the given `nodes`, sorted by their bytes.
 #[tactic(auto, using(crate::proofs::CaseOrder::cases_in_order))]
 pub(crate) fn sorted_cases<'a, 'b>(
     alloc: Global,
@@ -35,7 +35,7 @@ pub(crate) fn sorted_cases<'a, 'b>(
     Ok(cases)
 }
 
-// Node by node.
+// Returns the cases, node by node.
 fn cases_of<'a, 'b>(
     alloc: Global,
     nodes: &'a [LabelledNode<'b>],
@@ -50,7 +50,7 @@ fn cases_of<'a, 'b>(
     Ok(cases)
 }
 
-// One for each visible name.
+// Adds a case for each visible name of a node.
 fn push_cases<'a, 'b>(
     cases: &mut Vec<Case<'a>>,
     node: &'a LabelledNode<'b>,

@@ -1,4 +1,4 @@
-//! Two nodes with one label.
+//! The search for two nodes with the same label.
 
 ghost use Rattle.std.specs.Prelude.{◌≡◌, ◌∷◌, [], ◌||◌, not, ℕ, List, map, bytes_eq, IfOk, OnOk};
 ghost use Rattle.cc_bash.specs.Labels.{first_again};
@@ -9,8 +9,8 @@ use cc_base::Text;
 use std::alloc::{AllocError, Global};
 use std::collections::BTreeMap;
 
-/// The label of the first node whose label an earlier one has, in time that grows with the number
-/// of nodes times its logarithm.
+/// Returns the label of the first node whose label an earlier node has. The time grows with the
+/// number of nodes times its logarithm.
 pub(crate) fn shared_label(
     alloc: Global,
     root: &str,

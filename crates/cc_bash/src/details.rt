@@ -1,4 +1,4 @@
-//! What is offered after each option.
+//! The values that a script offers after each option.
 
 ghost use Rattle.std.specs.Prelude.{◌++◌, codes, map, flat_map};
 ghost use Rattle.cc_arg.specs.ShownNames.{shown_longs, shown_shorts};
@@ -21,7 +21,7 @@ use cc_base::{Sink, put_around, put_piece, put_pieces};
 use cc_command::Arguments;
 use std::io::ErrorKind;
 
-/// Flags and positionals have no details.
+/// Writes the details of `options`. Flags and positionals have no details.
 pub(crate) fn write_details<W: Sink>(sink: &mut W, options: Arguments<'_>) -> Result<(), ErrorKind>
     ensures { Writes W.taken W.failed (as_write result) sink.old sink.new
         (flat_map detail_text (flat_map option_details (arguments_left options.entry))) }
@@ -32,7 +32,7 @@ pub(crate) fn write_details<W: Sink>(sink: &mut W, options: Arguments<'_>) -> Re
     Ok(())
 }
 
-// For the longs, then for the shorts.
+// Writes the details of an argument's longs, then of its shorts.
 fn write_option<W: Sink>(sink: &mut W, argument: &Arg) -> Result<(), ErrorKind>
     ensures { Writes W.taken W.failed (as_write result) sink.old sink.new
         (flat_map detail_text (option_details argument.now)) }
@@ -64,7 +64,7 @@ fn write_short_details<W: Sink>(sink: &mut W, argument: &Arg) -> Result<(), Erro
     Ok(())
 }
 
-// For a name and the dashes before it.
+// Writes the detail of a name with its dashes.
 fn write_detail<'a, W: Sink>(
     sink: &mut W,
     argument: &Arg,
@@ -99,7 +99,7 @@ fn write_moded<W: Sink>(sink: &mut W, argument: &Arg) -> Result<(), ErrorKind>
     }
 }
 
-// Around names of files the separator of words is a line feed.
+// Writes a reply with names of files, for which the separator of words is a line feed.
 fn write_file_reply<W: Sink>(sink: &mut W, argument: &Arg) -> Result<(), ErrorKind>
     ensures { Writes W.taken W.failed (as_write result) sink.old sink.new
         (keep_separator ++ reply_text (offered_by argument.now) ++ separator_back
@@ -159,7 +159,7 @@ fn write_files<W: Sink>(sink: &mut W) -> Result<(), ErrorKind>
     put_piece(sink, OFFER_FILES)
 }
 
-// The word names the mode.
+// Writes the mode that `word` names.
 #[tactic(auto, unfolding(crate::specs::Texts::fixed_texts))]
 fn write_mode<W: Sink>(sink: &mut W, word: &str) -> Result<(), ErrorKind>
     ensures { Writes W.taken W.failed (as_write result) sink.old sink.new

@@ -14,14 +14,14 @@ use cc_quote::{Replace, escape_text, push_escaped};
 use cc_visits::SharedKey;
 use std::alloc::{AllocError, Global};
 
-// Comes before the name of a child in a label, and replaces a blank and a dash in it.
+// The text before the name of a child in a label. It also replaces each space and dash.
 const BEFORE_CHILD: &str = "__subcmd__";
 
 /// A node below the root, with its label.
 #[derive(Drop)]
 pub(crate) struct LabelledNode<'a> {
     pub(crate) command: &'a Command,
-    /// How many names its path has, the root's included.
+    /// The number of names in its path, including the root's.
     pub(crate) level: usize,
     /// The label of its parent.
     pub(crate) parent: SharedKey,
@@ -30,7 +30,8 @@ pub(crate) struct LabelledNode<'a> {
     pub(crate) sort_text: Text,
 }
 
-/// The nodes below a root with this label: a node, then each child's whole subtree in turn.
+/// Returns the nodes below a root with the label `root`, in preorder: each node is followed by
+/// everything below it.
 #[tactic(auto, using(crate::proofs::LabelledPath::labelled_in_preorder))]
 pub(crate) fn labelled_nodes<'a>(
     alloc: Global,
@@ -51,7 +52,7 @@ pub(crate) fn labelled_nodes<'a>(
 }
 
 // Labels the next node in preorder. `path` holds the labels from below the root to the previous
-// node, and then to this one.
+// node, and afterwards to the labelled node.
 fn next_labelled<'a>(
     alloc: Global,
     root: &SharedKey,

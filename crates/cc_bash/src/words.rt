@@ -1,4 +1,5 @@
-//! The options and names that are offered at a command.
+//! The words that a script offers at a command: its options, the values of its positionals, and the
+//! names of its children.
 
 ghost use Rattle.std.specs.Prelude.{◌≡◌, ◌++◌, ◌||◌, codes, flat_map, true, OnOk};
 ghost use Rattle.cc_base.specs.Joined.{has_texts, separator};
@@ -18,12 +19,12 @@ use cc_base::{Sink, put_word};
 use cc_command::Command;
 use std::io::ErrorKind;
 
-// The words of all arguments that are together.
+// The part of an argument's words that is written together.
 #[derive(Clone, Copy)]
 enum Part {
     Shorts,
     Longs,
-    // those of positionals
+    // the values of positionals
     Values,
 }
 
@@ -39,7 +40,7 @@ pub(crate) fn write_words<W: Sink>(sink: &mut W, command: &Command) -> Result<()
     write_children(sink, command.get_subcommands(), &mut begun)
 }
 
-// `begun` tells whether a word was written before.
+// Writes the words of one part of all arguments. `begun` says whether a word was written before.
 fn write_part<W: Sink>(
     sink: &mut W,
     arguments: &[Arg],
@@ -155,7 +156,7 @@ fn write_values<W: Sink>(
     Ok(())
 }
 
-/// The names of those of the values that are shown.
+/// Writes the names of the values that are not hidden.
 pub(crate) fn write_shown_values<W: Sink>(
     sink: &mut W,
     possible: &[PossibleValue],

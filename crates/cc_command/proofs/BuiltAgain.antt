@@ -14,7 +14,7 @@ use Rattle.cc_command.specs.Built.{with_missing, given_arguments, globals, propa
 
 -- ---- arguments
 
--- every id of the first is one of the second
+-- each id of the first list is in the second
 abbrev pub Within : List Arg → List Arg → Type 0
 Within others arguments = (id : List ℕ) → has_id others id ≡ true → has_id arguments id ≡ true
 
@@ -30,7 +30,7 @@ has_id-append (x ∷ xs) ys id =
 bytes_eq-self : (bytes : List ℕ) → bytes_eq bytes bytes ≡ true
 bytes_eq-self bytes = (bytes_eq-Decides bytes bytes).1 refl
 
--- one more argument adds its id, also where the id is there
+-- one more argument adds its id, even if the id is in the list already
 has_id-step : (xs : List Arg) (other : Arg) (id : List ℕ) (b s : Bool) → has_id xs other.id ≡ b → bytes_eq other.id id ≡ s →
     has_id (cond b xs (xs ++ other ∷ [])) id ≡ (has_id xs id || s)
 has_id-step xs other id false s there is =
@@ -39,7 +39,7 @@ has_id-step xs other id true false there is = sym (or-false (has_id xs id))
 has_id-step xs other id true true there is =
     ap (has_id xs) (sym ((bytes_eq-Decides other.id id).0 is)) ∙ there ∙ sym (or-true (has_id xs id))
 
--- after the adding the ids are those of both
+-- after adding, the ids are those of both lists
 has_id-with_missing : (xs others : List Arg) (id : List ℕ) → has_id (with_missing xs others) id ≡ (has_id xs id || has_id others id)
 has_id-with_missing xs [] id = sym (or-false (has_id xs id))
 has_id-with_missing xs (other ∷ others) id =
@@ -53,7 +53,7 @@ Within-with_missing xs others id there = has_id-with_missing xs others id ∙ ap
 kept-with_missing : (xs others : List Arg) → Within xs (with_missing xs others)
 kept-with_missing xs others id there = has_id-with_missing xs others id ∙ ap (λ b. b || has_id others id) there
 
--- where all ids are there nothing is added
+-- if no id is missing, nothing is added
 with_missing-there : (xs others : List Arg) → Within others xs → with_missing xs others ≡ xs
 with_missing-there xs [] there = refl
 with_missing-there xs (other ∷ others) there =
@@ -75,7 +75,7 @@ has_id-indexed position (x ∷ xs) id =
     ap (λ i. bytes_eq i id || has_id (indexed (next_index position x) xs) id) (with_index-id position x) ∙
     ap (λ b. bytes_eq x.id id || b) (has_id-indexed (next_index position x) xs id)
 
--- an argument that has its index lacks none
+-- an argument with an index does not lack one
 lacks_index-with : (position : ℕ) (x : Arg) (b : Bool) → lacks_index x ≡ b → lacks_index (cond b (record x { index = Some position }) x) ≡ false
 lacks_index-with position x true is = and-false (is_positional x)
 lacks_index-with position x false is = is
@@ -84,14 +84,14 @@ with_index-again : (later position : ℕ) (x : Arg) → with_index later (with_i
 with_index-again later position x =
     ap (λ b. cond b (record (with_index position x) { index = Some later }) (with_index position x)) (lacks_index-with position x (lacks_index x) refl)
 
--- indexes are given once
+-- indexes are set only once
 indexed-again : (later position : ℕ) (xs : List Arg) → indexed later (indexed position xs) ≡ indexed position xs
 indexed-again later position [] = refl
 indexed-again later position (x ∷ xs) =
     ap (λ y. y ∷ indexed (next_index later (with_index position x)) (indexed (next_index position x) xs)) (with_index-again later position x) ∙
     ap (λ ys. with_index position x ∷ ys) (indexed-again (next_index later (with_index position x)) (next_index position x) xs)
 
--- what is filled in stays
+-- values that were filled in do not change
 filled-with_index : (position : ℕ) (x : Arg) → filled (with_index position (filled x)) ≡ with_index position (filled x)
 filled-with_index position x =
     elim (lacks_index (filled x)) as (λ b. filled (cond b (record (filled x) { index = Some position }) (filled x)) ≡ cond b (record (filled x) { index = Some position }) (filled x)) [ true ↦ refl | false ↦ refl ]
@@ -102,19 +102,19 @@ filled-indexed position (x ∷ xs) =
     ap (λ y. y ∷ map filled (indexed (next_index position (filled x)) (map filled xs))) (filled-with_index position x) ∙
     ap (λ ys. with_index position (filled x) ∷ ys) (filled-indexed (next_index position (filled x)) xs)
 
--- ---- what is propagated
+-- ---- propagated arguments
 
 with_index-global : (position : ℕ) (x : Arg) → (with_index position x).global ≡ x.global
 with_index-global position x = elim (lacks_index x) as (λ b. (let y : Arg = cond b (record x { index = Some position }) x in y.global) ≡ x.global) [ true ↦ refl | false ↦ refl ]
 
--- one argument before the global ones
+-- one more argument before the global ones
 abbrev has_before : Bool → List ℕ → List Arg → List ℕ → Bool
 has_before global own rest id = cond global (bytes_eq own id || has_id (globals rest) id) (has_id (globals rest) id)
 
 has_id-globals : (x : Arg) (xs : List Arg) (id : List ℕ) → has_id (globals (x ∷ xs)) id ≡ has_before x.global x.id xs id
 has_id-globals x xs id = elim x.global as (λ b. has_id (cond b (x ∷ globals xs) (globals xs)) id ≡ has_before b x.id xs id) [ true ↦ refl | false ↦ refl ]
 
--- finishing keeps the ids of the global ones
+-- finishing keeps the ids of the global arguments
 has_id-finished : (position : ℕ) (xs : List Arg) (id : List ℕ) → has_id (globals (indexed position (map filled xs))) id ≡ has_id (globals xs) id
 has_id-finished position [] id = refl
 has_id-finished position (x ∷ xs) id =
@@ -125,7 +125,7 @@ has_id-finished position (x ∷ xs) id =
     ap (λ b. cond x.global (bytes_eq x.id id || b) b) (has_id-finished (next_index position (filled x)) xs id) ∙
     sym (has_id-globals x xs id)
 
--- none of them is global
+-- none of the generated arguments is global
 abbrev AreLocal : List Arg → Type 0
 AreLocal [] = Unit {0}
 AreLocal (x ∷ xs) = (x.global ≡ false) × AreLocal xs
@@ -134,7 +134,7 @@ globals-pushed : (xs : List Arg) (other : Arg) → other.global ≡ false → gl
 globals-pushed [] other local = ap (λ b. cond b (other ∷ []) []) local
 globals-pushed (x ∷ xs) other local = ap (λ ys. cond x.global (x ∷ ys) ys) (globals-pushed xs other local)
 
--- what is not global adds nothing to what is propagated
+-- arguments that are not global add nothing to the propagated ones
 pub globals-with_missing : (xs others : List Arg) → AreLocal others → globals (with_missing xs others) ≡ globals xs
 globals-with_missing xs [] local = refl
 globals-with_missing xs (other ∷ others) local =
@@ -154,7 +154,7 @@ AreLocal-generated node =
 
 -- ---- the arguments of a built node
 
--- the ids of what is given are those of the built arguments
+-- the ids of the given arguments are among those of the built ones
 kept-built : (inherited : List Arg) (node : Node) → Within (given_arguments inherited node) (built_arguments inherited node)
 kept-built inherited node id there =
     let all : List Arg = with_missing (given_arguments inherited node) (generated_arguments node) in
@@ -165,7 +165,7 @@ generated-built inherited node id there =
     let all : List Arg = with_missing (given_arguments inherited node) (generated_arguments node) in
     has_id-indexed 1 (map filled all) id ∙ has_id-filled all id ∙ Within-with_missing (given_arguments inherited node) (generated_arguments node) id there
 
--- what a node inherits is among its built arguments, also what it inherits of fewer ids
+-- the ids of the inherited arguments, or of a part of them, are among those of the built ones
 inherited-built : (again inherited : List Arg) (node : Node) (b : Bool) → node.generated ≡ b → Within again inherited →
     Within (cond b [] again) (built_arguments inherited node)
 inherited-built again inherited node true is within id there = Within-none (built_arguments inherited node) id there
@@ -174,7 +174,7 @@ inherited-built again inherited node false is within id there =
     (Within-with_missing node.arguments (inherited_by node inherited) id
     (ap (λ b. has_id (cond b [] inherited) id) is ∙ within id there))
 
--- a built node lacks nothing that its parent propagates
+-- a built node has all arguments that its parent propagates
 given-again : (again inherited : List Arg) (bin_name : Option (List ℕ)) (node : Node) → Within again inherited →
     given_arguments again (built_node inherited bin_name node) ≡ built_arguments inherited node
 given-again again inherited bin_name node within =
@@ -230,7 +230,7 @@ has_child-built inherited parent none word = refl
 has_child-built inherited parent (more node below rest) word =
     ap (λ t. has_name node word || t) (has_child-built inherited parent rest word)
 
--- where the help child is disabled none is missing
+-- if the child `help` is disabled, it is not missing
 needs_help_child-disabled : (node : Node) (forest : Forest) → node.disable_help_subcommand ≡ true → needs_help_child node forest ≡ false
 needs_help_child-disabled node none disabled = refl
 needs_help_child-disabled node (more child below rest) disabled =
@@ -241,7 +241,7 @@ help_child-disabled parent node forest disabled =
     ap (λ b. cond b (help_command parent (join (copies (joined_name parent help_name) 0 forest) (help_command (joined_name parent help_name) none))) none)
     (needs_help_child-disabled node forest disabled)
 
--- copies stay as they are
+-- building does not change copies
 pub built_forest-copies : (inherited : List Arg) (parent : List ℕ) (position : ℕ) (forest : Forest) →
     built_forest inherited parent (copies parent position forest) ≡ copies parent position forest
 built_forest-copies inherited parent position none = refl
@@ -255,7 +255,7 @@ built_forest-copies inherited parent position (more node below rest) =
     ap (λ f. more copy f (built_forest inherited parent (copies parent (suc position) rest))) (join-none (copies name 0 below)) ∙
     ap (λ f. more copy (copies name 0 below) f) (built_forest-copies inherited parent (suc position) rest)
 
--- what a generated `help` holds
+-- the children of a generated `help`
 abbrev pub helped : List ℕ → Forest → Forest
 helped name forest = join (copies name 0 forest) (help_command name none)
 
@@ -269,7 +269,7 @@ built_forest-helped inherited name forest =
     built_forest-join inherited name (copies name 0 forest) (help_command name none) ∙
     ap (λ f. join f (help_command name none)) (built_forest-copies inherited name 0 forest)
 
--- a generated `help` stays as it is
+-- building does not change a generated `help`
 built_forest-help_command : (inherited : List Arg) (parent : List ℕ) (forest : Forest) →
     let name : List ℕ = joined_name parent help_name in
     built_forest inherited parent (help_command parent (helped name forest)) ≡ help_command parent (helped name forest)
@@ -288,7 +288,7 @@ built_forest-help_child inherited parent node forest =
       | false ↦ refl
     ]
 
--- after building no help child is missing
+-- after building, no child `help` is missing
 missing_no_more : (d h : Bool) (parent : List ℕ) (children : Forest) →
     (d && not (h || has_child (cond (d && not h) (help_command parent children) none) help_name)) ≡ false
 unfolding help_name
@@ -308,7 +308,7 @@ needs_help_child-built inherited parent node again (more child below rest) same 
     ap (λ b. b || has_child (help_child parent node forest) help_name) (has_child-built inherited parent forest help_name)) ∙
     missing_no_more (not node.disable_help_subcommand) (has_child forest help_name) parent (helped (joined_name parent help_name) forest)
 
--- the children of a built node stay as they are
+-- building again does not change the children of a built node
 children-again : (again inherited : List Arg) (parent : List ℕ) (node after : Node) (forest : Forest) →
     after.disable_help_subcommand ≡ node.disable_help_subcommand →
     built_forest again parent (built_forest inherited parent forest) ≡ built_forest inherited parent forest →
@@ -339,7 +339,7 @@ built_forest-again again inherited parent (more node below rest) within =
     (built_forest-again (propagated again built) (propagated inherited node) name below (Within-propagated again inherited (Some name) node within))) ∙
     ap (λ f. more built children f) (built_forest-again again inherited parent rest within)
 
--- building a built tree changes nothing, whatever its parent propagated
+-- building a built tree changes nothing, whatever arguments its parent propagated
 pub built_below-again : (inherited : List Arg) (bin_name : Option (List ℕ)) (tree : Tree) →
     built_tree (built_below inherited bin_name tree) ≡ built_below inherited bin_name tree
 built_below-again inherited bin_name tree =
@@ -356,7 +356,7 @@ built_below-again inherited bin_name tree =
 pub built_tree-again : (bin_name : Option (List ℕ)) (tree : Tree) → built_tree (built_under bin_name tree) ≡ built_under bin_name tree
 built_tree-again bin_name tree = built_below-again [] bin_name tree
 
--- a generated tree whose children stay stays as it is
+-- building does not change a generated tree if it does not change the children
 pub built_tree-generated : (name bin_name : List ℕ) (about : Option (List ℕ)) (position : ℕ) (hide : Bool) (children : Forest) →
     built_forest [] bin_name children ≡ children →
     let tree : Tree = record { node = generated_node name bin_name about position hide; children = children } in

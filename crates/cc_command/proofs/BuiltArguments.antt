@@ -1,4 +1,4 @@
--- Tests of arguments that hold of all arguments of a built tree where they hold of those given.
+-- Tests that all arguments of a built tree pass if the given arguments pass them.
 use Rattle.std.proofs.Common.{◌≡◌, ℕ, List, [], ◌∷◌, ◌++◌, Bool, true, false, cond, not, ◌&&◌, IsTrue, Some, is_some, map, refl, ap, sym, subst, ◌∙◌}
 use Rattle.std.specs.List.{list_all}
 use Rattle.std.proofs.lemmas.Bool.{and_parts, and_from}
@@ -9,7 +9,7 @@ use Rattle.cc_command.specs.Names.{has_id}
 use Rattle.cc_command.specs.Generated.{help_argument, version_argument, generated_help, generated_version, generated_arguments}
 use Rattle.cc_command.specs.Built.{with_missing, lacks_index, with_index, next_index, indexed, inherited_by, given_arguments, globals, propagated, built_arguments}
 
--- filling in and numbering leave the test of an argument as it was, and the flags that building adds
+-- filling in and numbering do not change the test of an argument, and the flags that building adds
 -- pass it
 pub record IsKept (test : Arg → Bool) : Type 0 where
   pub when_filled : (x : Arg) → test (filled x) ≡ test x
@@ -83,12 +83,12 @@ all_globals test (x ∷ xs) h =
     among true p q = and_from (test x) (list_all test (globals xs)) p q
     among false p q = q
 
--- what a node propagates passes the test
+-- the arguments that a node propagates pass the test
 pub all_propagated : (test : Arg → Bool) (inherited : List Arg) (node : Node) → IsTrue (list_all test inherited) → IsTrue (list_all test node.arguments) →
     IsTrue (list_all test (propagated inherited node))
 all_propagated test inherited node above own = all_globals test (given_arguments inherited node) (all_given test inherited node above own)
 
--- the arguments that building leaves a node pass the test
+-- the arguments of a built node pass the test
 pub all_built : (test : Arg → Bool) → IsKept test → (inherited : List Arg) (node : Node) → IsTrue (list_all test inherited) → IsTrue (list_all test node.arguments) →
     IsTrue (list_all test (built_arguments inherited node))
 all_built test kept inherited node above own =

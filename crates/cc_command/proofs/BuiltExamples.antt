@@ -1,4 +1,4 @@
--- Trees that are built as the definitions say.
+-- Examples of built trees.
 use Rattle.std.proofs.Common.{◌≡◌, ℕ, List, [], ◌∷◌, ◌++◌, Some, map, codes, true, false, refl}
 use Rattle.cc_arg.specs.declared.parts.ArgParts.{ArgParts as Arg}
 use Rattle.cc_arg.specs.declared.action.ArgAction.TheVariants.{SetTrue}
@@ -21,7 +21,8 @@ app =
     let given = with_child (new_tree (codes "app")) (with_child (new_tree (codes "run")) (new_tree (codes "job"))) in
     record given { node = record given.node { version = Some (codes "1") } }
 
--- the full names of some siblings and of all below them: of a sibling, of all below it, then of the next
+-- the full names of some siblings and of all commands below them: a sibling, those below it, the
+-- next
 full_names : Forest → List (List ℕ)
 full_names none = []
 full_names (more node below rest) = full_name node ∷ full_names below ++ full_names rest
@@ -31,21 +32,21 @@ flags_added : map (λ argument. argument.id) (built_tree app).node.arguments ≡
 unfolding help_argument version_argument help_name version_name
 flags_added = refl
 
--- every child is named after its parent, and each `help` holds copies of the children and a `help`
+-- each child is named after its parent, and each `help` has copies of the children and a `help`
 children_named : full_names (built_tree app).children
     ≡ codes "app run" ∷ codes "app run job" ∷ codes "app run help" ∷ codes "app run help job" ∷ codes "app run help help"
     ∷ codes "app help" ∷ codes "app help run" ∷ codes "app help run job" ∷ codes "app help help" ∷ []
 unfolding full_names help_name
 children_named = refl
 
--- a new bin name renames them all
+-- a new bin name renames all of them
 children_renamed : full_names (built_under (Some (codes "z")) app).children
     ≡ codes "z run" ∷ codes "z run job" ∷ codes "z run help" ∷ codes "z run help job" ∷ codes "z run help help"
     ∷ codes "z help" ∷ codes "z help run" ∷ codes "z help run job" ∷ codes "z help help" ∷ []
 unfolding full_names help_name
 children_renamed = refl
 
--- with what building adds a plain tree is plain
+-- a plain tree stays plain when it is built
 plain_when_built : is_plain_tree (built_under (Some (codes "app")) app) ≡ true
 unfolding help_argument version_argument help_name version_name siblings_differ is_plain_name is_joined name_byte
 plain_when_built = refl
@@ -62,7 +63,7 @@ quiet_when_built : is_quiet_tree (built_under (Some (codes "app")) (app_choosing
 unfolding help_argument version_argument help_name version_name
 quiet_when_built = refl
 
--- with a blank in a value, or an empty one, it is not
+-- with a space in a value, or an empty value, it is not quiet
 not_quiet_with_blank : is_quiet_tree (app_choosing (codes "x86_64" ∷ codes "a b" ∷ [])) ≡ false
 not_quiet_with_blank = refl
 
@@ -74,7 +75,7 @@ not_plain_with_quote : is_plain_tree (record app { node = with_argument app.node
 unfolding siblings_differ is_plain_name is_joined name_byte
 not_plain_with_quote = refl
 
--- nor with two children of one name
+-- with two children of the same name it is not plain either
 not_plain_with_twins : is_plain_tree (with_child app (new_tree (codes "run"))) ≡ false
 unfolding siblings_differ is_plain_name is_joined name_byte
 not_plain_with_twins = refl
@@ -90,7 +91,7 @@ global_flag id = record (flag id) { global = true }
 abbrev with_flag : Tree → Arg → Tree
 with_flag tree argument = record tree { node = with_argument tree.node argument }
 
--- the ids of a tree's arguments, a list for each node, in the order of the full names
+-- the ids of the arguments of a tree: a list for each node, in the order of the full names
 ids_below : Forest → List (List (List ℕ))
 ids_below none = []
 ids_below (more node below rest) =
@@ -99,7 +100,7 @@ ids_below (more node below rest) =
 abbrev ids : Tree → List (List (List ℕ))
 ids tree = map (λ argument. argument.id) tree.node.arguments ∷ ids_below tree.children
 
--- the global `--json`, which excludes `--yaml`
+-- the global flag `--json`, which conflicts with `--yaml`
 abbrev json : Arg
 json = record (global_flag (codes "json")) { conflicts = codes "yaml" ∷ [] }
 
@@ -108,26 +109,27 @@ abbrev with_json : Tree
 with_json = with_flag (with_flag (with_child (new_tree (codes "app")) (new_tree (codes "run"))) json)
     (flag (codes "yaml"))
 
--- a global argument goes to the child, before its `help`, and to nothing that building made
+-- the child gets a global argument before its `help`, and generated commands do not get it
 global_propagated : ids (built_tree with_json)
     ≡ (codes "json" ∷ codes "yaml" ∷ codes "help" ∷ []) ∷ (codes "json" ∷ codes "help" ∷ [])
     ∷ [] ∷ [] ∷ [] ∷ []
 unfolding ids_below help_argument help_name
 global_propagated = refl
 
--- its conflicts are found among the arguments of the parent
+-- its conflicts are looked up among the arguments of the parent
 conflict_found : map (λ argument. argument.id) (conflicting with_json.node.arguments json)
     ≡ codes "yaml" ∷ []
 conflict_found = refl
 
--- one that is added after a build goes to the child after all that the child has by then
+-- if one is added after a build, the child gets it after all arguments that it has by then
 global_added_late : ids (built_tree (with_flag (built_tree with_json) (global_flag (codes "late"))))
     ≡ (codes "json" ∷ codes "yaml" ∷ codes "help" ∷ codes "late" ∷ [])
     ∷ (codes "json" ∷ codes "help" ∷ codes "late" ∷ []) ∷ [] ∷ [] ∷ [] ∷ []
 unfolding ids_below help_argument help_name
 global_added_late = refl
 
--- a command whose own argument with the id is not global passes nothing of that id on
+-- if a command has an argument of its own with the id, and it is not global, the children do not
+-- get it
 global_held_back : ids (built_tree (with_flag (with_child (new_tree (codes "app"))
     (with_flag (with_child (new_tree (codes "run")) (new_tree (codes "job"))) (flag (codes "json")))) json))
     ≡ (codes "json" ∷ codes "help" ∷ []) ∷ (codes "json" ∷ codes "help" ∷ []) ∷ (codes "help" ∷ [])

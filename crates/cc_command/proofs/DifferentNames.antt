@@ -1,4 +1,4 @@
--- Names that differ, list by list and sibling by sibling.
+-- Names that differ, for lists and for siblings.
 use Rattle.std.proofs.Common.{◌≡◌, ℕ, ◌+◌, ◌<◌, ◌≤◌, List, [], ◌∷◌, ◌++◌, length, drop, get_or, Bool, true, false, not, ◌&&◌, ◌||◌, refl, ap, ap₂, sym, ◌∙◌}
 use Rattle.std.specs.List.{list_all}
 use Rattle.std.specs.Str.{bytes_eq}
@@ -20,7 +20,7 @@ regroup false true true d e = refl
 regroup false true false d e = refl
 regroup false false c d e = refl
 
--- two lists together
+-- two lists, one after the other
 pub all_differ_append : (names others : List (List ℕ)) →
     all_differ (names ++ others) ≡ (all_differ names && (list_all (λ name. not (contains_name others name)) names && all_differ others))
 all_differ_append [] others = refl
@@ -30,13 +30,13 @@ all_differ_append (name ∷ names) others =
     regroup (contains_name names name) (contains_name others name) (all_differ names)
     (list_all (λ name. not (contains_name others name)) names) (all_differ others)
 
--- a command has its names and no other
+-- a command has exactly its names
 contains_name-names_of : (node : Node) (word : List ℕ) → contains_name (names_of node) word ≡ has_name node word
 contains_name-names_of node word =
     ap (λ b. bytes_eq node.name word || b) (contains_name_append node.visible_aliases node.aliases word) ∙
     sym (or_assoc (bytes_eq node.name word) (contains_name node.visible_aliases word) (contains_name node.aliases word))
 
--- one of some siblings has each of their names, and none has another
+-- a word is among the names of some siblings if one of them has it, and only then
 pub contains_name-names_of_all : (siblings : Forest) (word : List ℕ) → contains_name (names_of_all siblings) word ≡ has_child siblings word
 contains_name-names_of_all none word = refl
 contains_name-names_of_all (more node below rest) word =
@@ -47,7 +47,7 @@ contains_name-names_of_all (more node below rest) word =
 abbrev pub are_apart_from : Forest → List (List ℕ) → Bool
 are_apart_from siblings names = list_all (λ name. not (has_child siblings name)) names
 
--- so the names differ from all of theirs
+-- then the names differ from all names of the siblings
 none_contained : (siblings : Forest) (names : List (List ℕ)) →
     list_all (λ name. not (contains_name (names_of_all siblings) name)) names ≡ are_apart_from siblings names
 none_contained siblings [] = refl
@@ -58,8 +58,8 @@ siblings_differ-none : siblings_differ none ≡ true
 unfolding siblings_differ
 siblings_differ-none = refl
 
--- siblings differ where the names of the first one do, none after it has one of them, and those
--- after it differ
+-- the names of siblings differ if those of the first one do, no later sibling has one of them, and
+-- those of the later ones differ
 pub siblings_differ-more : (node : Node) (below rest : Forest) →
     siblings_differ (more node below rest) ≡
     (all_differ (names_of node) && (are_apart_from rest (names_of node) && siblings_differ rest))
@@ -84,13 +84,13 @@ siblings_differ-at siblings position sibling below is =
     (are_apart_from (forest_of (drop (position + 1) siblings)) (names_of sibling.node))
     (siblings_differ (forest_of (drop (position + 1) siblings))))
 
--- a sibling whose names do not differ
+-- a sibling whose own names do not differ
 pub siblings_differ-failed : (siblings : List Tree) (position : ℕ) (sibling : Tree) (whole : Bool) → position < length siblings → get_or siblings position sibling ≡ sibling →
     siblings_differ (forest_of (drop position siblings)) ≡ whole → differs_from sibling (drop (position + 1) siblings) ≡ false → false ≡ whole
 siblings_differ-failed siblings position sibling whole below at is failed =
     sym (ap (λ b. b && siblings_differ (forest_of (drop (position + 1) siblings))) failed) ∙ sym (siblings_differ-at siblings position sibling below at) ∙ is
 
--- a sibling whose names do
+-- a sibling whose own names differ
 pub siblings_differ-passed : (siblings : List Tree) (position : ℕ) (sibling : Tree) (whole : Bool) → position < length siblings → get_or siblings position sibling ≡ sibling →
     siblings_differ (forest_of (drop position siblings)) ≡ whole → differs_from sibling (drop (position + 1) siblings) ≡ true →
     siblings_differ (forest_of (drop (position + 1) siblings)) ≡ whole

@@ -1,4 +1,4 @@
--- A tree whose quotes are escaped builds to a tree whose quotes are escaped.
+-- If the quotes of a tree are escaped, those of the built tree are too.
 use Rattle.std.proofs.Common.{ℕ, suc, List, [], Bool, true, false, cond, ◌&&◌, IsTrue, Option, Some, refl}
 use Rattle.std.specs.List.{list_all}
 use Rattle.std.proofs.lemmas.Bool.{and_parts, and_from}
@@ -22,7 +22,7 @@ escaped_kept = record {
   of_version = refl;
 }
 
--- the about and the arguments of an escaped node
+-- the description and the arguments of an escaped node
 pub record IsEscapedNode (node : Node) : Type 0 where
   pub about : IsTrue (passes_if_some is_escaped_text node.about)
   pub arguments : IsTrue (list_all is_escaped_argument node.arguments)
@@ -32,7 +32,7 @@ escaped_node node h =
     let parts = and_parts (passes_if_some is_escaped_text node.about) (list_all is_escaped_argument node.arguments) h in
     record { about = parts.0; arguments = parts.1 }
 
--- the first of escaped siblings, what is below it, and those after it
+-- the first of escaped siblings, the commands below it, and the siblings after it
 pub record IsEscapedMore (node : Node) (below rest : Forest) : Type 0 where
   pub first : IsTrue (is_escaped_node node)
   pub lower : IsTrue (is_escaped_forest below)
@@ -50,7 +50,7 @@ more_escaped node below rest h k l =
     and_from (is_escaped_node node) (is_escaped_forest below && is_escaped_forest rest) h
     (and_from (is_escaped_forest below) (is_escaped_forest rest) k l)
 
--- copies keep their abouts and have no arguments
+-- copies keep their descriptions and have no arguments
 copies_escaped : (parent : List ℕ) (order : ℕ) (forest : Forest) → IsTrue (is_escaped_forest forest) → IsTrue (is_escaped_forest (copies parent order forest))
 copies_escaped parent order none h = refl
 copies_escaped parent order (more node below rest) h =
@@ -102,7 +102,7 @@ forest_escaped inherited parent (more node below rest) above h =
     (help_child_escaped name node below each.lower))
     (forest_escaped inherited parent rest above each.later)
 
--- under any bin name, or without one
+-- with any bin name, or without one
 pub escaped_built_under : (bin_name : Option (List ℕ)) (tree : Tree) → IsTrue (is_escaped_tree tree) → IsTrue (is_escaped_tree (built_under bin_name tree))
 escaped_built_under bin_name tree h =
     let parts = and_parts (is_escaped_node tree.node) (is_escaped_forest tree.children) h in

@@ -1,4 +1,4 @@
--- Definitions over forests, at the forest of a list of trees.
+-- Definitions on forests, applied to the forest of a list of trees.
 use Rattle.std.proofs.Common.{◌≡◌, ℕ, zero, suc, ◌+◌, ◌<◌, List, [], ◌∷◌, ◌++◌, length, get_or, not, ◌&&◌, ◌==◌, refl, ap, ◌∙◌, sym, arith, add-zero, zero-add, false}
 use Rattle.std.proofs.lemmas.Bool.Decides.{nat_tests}
 use Rattle.cc_command.specs.declared.node.Node.{Node}
@@ -25,7 +25,7 @@ below_is_smaller [] i d lt = omega (arith, lt)
 below_is_smaller (tree ∷ trees) zero d lt = omega arith
 below_is_smaller (tree ∷ trees) (suc i) d lt = omega (arith, below_is_smaller trees i d (omega (arith, lt)))
 
--- one more sibling is copied at the position after the others
+-- one more sibling is copied at the next position
 abbrev copy_of : List ℕ → ℕ → Tree → Forest → Forest
 copy_of parent position tree later =
     more (generated_node tree.node.name (joined_name parent tree.node.name) tree.node.about position tree.node.hide)
@@ -48,13 +48,13 @@ copies-push parent made trees tree copy so_far is =
     ap (join (copies parent 0 (forest_of trees))) is ∙
     sym (copies-append parent 0 trees tree ∙ ap (λ p. join (copies parent 0 (forest_of trees)) (copies parent p (forest_of (tree ∷ [])))) (zero-add (length trees)))
 
--- copies with a `help` after them are what a generated `help` holds
+-- the copies, then a child `help`, are the children of a generated `help`
 pub helped-push : (name : List ℕ) (made : List Tree) (forest : Forest) (last : Tree) →
     forest_of made ≡ copies name 0 forest → forest_of (last ∷ []) ≡ help_command name none → forest_of (made ++ last ∷ []) ≡ helped name forest
 helped-push name made forest last so_far is =
     forest_of-append made (last ∷ []) ∙ ap (λ f. join f (forest_of (last ∷ []))) so_far ∙ ap (join (copies name 0 forest)) is
 
--- the help child is missing from a list of children
+-- the child `help` is missing from a list of children
 pub needs_help_child-forest_of : (node : Node) (trees : List Tree) →
     needs_help_child node (forest_of trees) ≡ (not (length trees == 0) && (not node.disable_help_subcommand && not (has_child (forest_of trees) help_name)))
 needs_help_child-forest_of node [] = refl

@@ -1,4 +1,4 @@
--- A plain tree under a plain bin name builds to a plain tree.
+-- A plain tree with a plain bin name stays plain when it is built.
 use Rattle.std.proofs.Common.{◌≡◌, ℕ, suc, List, [], ◌∷◌, ◌++◌, Bool, true, false, cond, not, ◌&&◌, ◌||◌, IsTrue, Option, Some, refl, ap, sym, subst, ◌∙◌, append_assoc}
 use Rattle.std.specs.List.{list_all}
 use Rattle.std.specs.Str.{bytes_eq}
@@ -50,7 +50,7 @@ plain_propagated inherited node above h =
 
 -- ---- nodes
 
--- the last of four tests in place of another
+-- four tests of which the last one is replaced
 in_position_of_last : (a b c d e : Bool) → IsTrue (a && (b && (c && d))) → (IsTrue d → IsTrue e) → IsTrue (a && (b && (c && e)))
 in_position_of_last true true true d e h follows = follows h
 in_position_of_last true true false d e h follows = h
@@ -63,7 +63,7 @@ plain_built_node inherited bin_name node above h =
     in_position_of_last (is_plain_name node.name) (list_all is_plain_name node.visible_aliases) (list_all is_plain_name node.aliases)
     (list_all is_plain_argument node.arguments) (list_all is_plain_argument (built_arguments inherited node)) h (all_built is_plain_argument plain_kept inherited node above)
 
--- a generated node has a name and no other
+-- a generated node has its name and no alias
 plain_generated : (name bin_name : List ℕ) (about : Option (List ℕ)) (order : ℕ) (hide : Bool) → IsTrue (is_plain_name name) →
     IsTrue (is_plain_node (generated_node name bin_name about order hide))
 plain_generated name bin_name about order hide h = and_from (is_plain_name name) true h refl
@@ -79,7 +79,7 @@ names_of_all-built : (inherited : List Arg) (parent : List ℕ) (forest : Forest
 names_of_all-built inherited parent none = refl
 names_of_all-built inherited parent (more node below rest) = ap (λ names. names_of node ++ names) (names_of_all-built inherited parent rest)
 
--- a name that none has is one that no copy has
+-- if no command has a name, no copy has it
 copies_lack : (parent : List ℕ) (order : ℕ) (forest : Forest) (word : List ℕ) → IsTrue (not (has_child forest word)) → IsTrue (not (has_child (copies parent order forest) word))
 copies_lack parent order none word h = refl
 copies_lack parent order (more node below rest) word h =
@@ -90,7 +90,7 @@ copies_lack parent order (more node below rest) word h =
     (neither (bytes_eq node.name word || false) false (neither (bytes_eq node.name word) false c.0 refl) refl)
     (copies_lack parent (suc order) rest word a.1)
 
--- the names of the copies of siblings that differ differ
+-- if the names of siblings differ, those of their copies do too
 copies_differ : (parent : List ℕ) (order : ℕ) (forest : Forest) → IsTrue (siblings_differ forest) → IsTrue (all_differ (names_of_all (copies parent order forest)))
 copies_differ parent order none h = refl
 copies_differ parent order (more node below rest) h =
@@ -111,14 +111,14 @@ apart_from_one (name ∷ names) word h =
     (neither (bytes_eq word name) false (subst (λ b. IsTrue (not b)) (bytes_eq-turned name word) a.0) refl)
     (apart_from_one names word a.1)
 
--- names that differ, and one more that none of them is
+-- names that differ, with one more that is different from all of them
 one_more_differs : (names : List (List ℕ)) (word : List ℕ) → IsTrue (all_differ names) → IsTrue (not (contains_name names word)) → IsTrue (all_differ (names ++ word ∷ []))
 one_more_differs names word h k =
     subst IsTrue (sym (all_differ_append names (word ∷ [])))
     (and_from (all_differ names) (list_all (λ name. not (contains_name (word ∷ []) name)) names && true) h
     (and_from (list_all (λ name. not (contains_name (word ∷ []) name)) names) true (apart_from_one names word k) refl))
 
--- ---- what building adds below a node
+-- ---- the children that building adds
 
 plain_copies : (parent : List ℕ) (order : ℕ) (forest : Forest) → IsTrue (is_plain_forest forest) → IsTrue (is_plain_forest (copies parent order forest))
 unfolding siblings_differ
@@ -142,7 +142,7 @@ plain_join (more node below rest) b h k =
     (and_from (siblings_differ below) (is_plain_forest below && is_plain_forest (join rest b)) p.first.differ
     (and_from (is_plain_forest below) (is_plain_forest (join rest b)) p.first.children (plain_join rest b p.later k)))
 
--- siblings that differ, and after them one of a name that none of them has
+-- siblings whose names differ, then one more whose name none of them has
 last_differs : (forest last : Forest) (word : List ℕ) → IsTrue (all_differ (names_of_all forest)) → IsTrue (not (has_child forest word)) →
     names_of_all last ≡ word ∷ [] → IsTrue (siblings_differ (join forest last))
 unfolding siblings_differ
@@ -158,14 +158,14 @@ none_differ : IsTrue (siblings_differ none)
 unfolding siblings_differ
 none_differ = refl
 
--- a generated `help` over plain siblings that differ is plain
+-- a generated `help` is plain if the siblings are plain and their names differ
 plain_help : (parent : List ℕ) (children : Forest) → IsTrue (siblings_differ children) → IsTrue (is_plain_forest children) → IsTrue (is_plain_forest (help_command parent children))
 plain_help parent children differ h =
     and_from (is_plain_node (generated_node help_name (joined_name parent help_name) (Some help_about) last_order false)) (siblings_differ children && (is_plain_forest children && true))
     (plain_generated help_name (joined_name parent help_name) (Some help_about) last_order false help_name_plain)
     (and_from (siblings_differ children) (is_plain_forest children && true) differ (and_from (is_plain_forest children) true h refl))
 
--- where no child has the name `help`, so is the one that building adds
+-- the generated child `help` is plain if no sibling has that name and the siblings are plain
 plain_helped : (parent : List ℕ) (forest : Forest) → IsTrue (not (has_child forest help_name)) → IsTrue (siblings_differ forest) → IsTrue (is_plain_forest forest) →
     IsTrue (is_plain_forest (help_command parent (helped (joined_name parent help_name) forest)))
 plain_helped parent forest lacks differ h =
@@ -182,12 +182,12 @@ siblings_built_differ : (inherited : List Arg) (parent : List ℕ) (forest : For
 unfolding siblings_differ
 siblings_built_differ inherited parent forest differ = built_differ inherited parent forest differ
 
--- where building adds a `help` no child has that name
+-- if building adds a child `help`, no other child has that name
 lacks_help : (node : Node) (forest : Forest) → needs_help_child node forest ≡ true → IsTrue (not (has_child forest help_name))
 lacks_help node none is = refl
 lacks_help node (more child below rest) is = (and_parts (not node.disable_help_subcommand) (not (has_child (more child below rest) help_name)) is).1
 
--- the children of a built node: they differ, and they are plain
+-- the children of a built node are plain, and their names differ
 record ArePlainChildren (children : Forest) : Type 0 where
   pub differ : IsTrue (siblings_differ children)
   pub plain : IsTrue (is_plain_forest children)
@@ -224,7 +224,7 @@ plain_built_forest inherited parent (more node below rest) above h =
     (and_from (siblings_differ children) (is_plain_forest children && is_plain_forest (built_forest inherited parent rest)) c.differ
     (and_from (is_plain_forest children) (is_plain_forest (built_forest inherited parent rest)) c.plain (plain_built_forest inherited parent rest above p.later)))
 
--- under a plain bin name, or without one, a plain tree builds to a plain tree
+-- a plain tree, with a plain bin name or without one, stays plain when it is built
 pub plain_built_under : (bin_name : Option (List ℕ)) (tree : Tree) → IsTrue (passes_if_some is_plain_name bin_name) → IsTrue (is_plain_tree tree) →
     IsTrue (is_plain_tree (built_under bin_name tree))
 plain_built_under bin_name tree named h =

@@ -1,4 +1,4 @@
--- What the tests of plainness promise, part by part.
+-- The parts of the tests for plain trees.
 use Rattle.std.proofs.Common.{ℕ, Bool, ◌&&◌, IsTrue, List, Option, Some, None, unwrap_or, inl, inr, subst}
 use Rattle.std.specs.Char.{is_ascii_alphanumeric}
 use Rattle.std.specs.List.{AllByRecursion, list_all}
@@ -26,7 +26,7 @@ IsPlainShort short = IsTrue (is_ascii_alphanumeric short)
 abbrev pub HasNoQuote : List ℕ → Type 0
 HasNoQuote text = IsTrue (has_no_quote text)
 
--- the names of a plain argument, shown and hidden
+-- the names of a plain argument, visible and hidden
 pub record IsPlainArgument (argument : Arg) : Type 0 where
   pub id : HasNoQuote argument.id
   pub value_names : AllByRecursion HasNoQuote argument.value_names
@@ -37,7 +37,7 @@ pub record IsPlainArgument (argument : Arg) : Type 0 where
   pub longs : AllByRecursion IsPlainName argument.visible_aliases
   pub hidden_longs : AllByRecursion IsPlainName argument.aliases
 
--- the names of a plain argument that are shown
+-- the visible names of a plain argument
 pub shown_plain : {Name : Type 0} (is_plain : Name → Bool) (first : Option Name) (aliases : List Name) →
     IsTrue (passes_if_some is_plain first) → AllByRecursion (λ name. IsTrue (is_plain name)) aliases →
     AllByRecursion (λ name. IsTrue (is_plain name)) (with_aliases first aliases)
@@ -70,7 +70,7 @@ plain_argument argument h =
       hidden_longs = each_passes is_plain_name argument.aliases g.1;
     }
 
--- the names of a plain node, shown and hidden, and its arguments, of each kind too
+-- the names of a plain node, visible and hidden, and its arguments, also those of each kind
 pub record IsPlainNode (node : Node) : Type 0 where
   pub names : AllByRecursion IsPlainName (visible_names node)
   pub hidden_names : AllByRecursion IsPlainName node.aliases
@@ -94,7 +94,7 @@ plain_node node h =
       flags = AllByRecursion-filter IsPlainArgument is_flag node.arguments each;
     }
 
--- a plain node whose children differ, with plain nodes below it
+-- a plain node with plain nodes below it, whose children have different names
 pub record IsPlainBelow (tree : Tree) : Type 0 where
   pub node : IsTrue (is_plain_node tree.node)
   pub differ : IsTrue (siblings_differ tree.children)
@@ -112,7 +112,7 @@ plain_more node below rest h =
     let c = and_parts (is_plain_forest below) (is_plain_forest rest) b.1 in
     record { first = record { node = a.0; differ = b.0; children = c.0 }; later = c.1 }
 
--- one of plain siblings is plain, with all below it
+-- each of some plain siblings is plain, with all nodes below it
 pub plain_sibling : (forest : Forest) (child : Tree) → IsTrue (is_plain_forest forest) → IsSibling forest child → IsPlainBelow child
 plain_sibling none child h sibling = absurd sibling
 plain_sibling (more node below rest) child h (inl e) = subst IsPlainBelow e (plain_more node below rest h).first
@@ -130,7 +130,7 @@ plain_tree tree h =
     let c = and_parts (siblings_differ tree.children) (is_plain_forest tree.children) b.1 in
     record { bin_name = a.0; below = record { node = b.0; differ = c.0; children = c.1 } }
 
--- a plain tree is called by a plain name
+-- the full name of a plain tree is a plain name
 pub plain_full_name : (tree : Tree) → IsTrue (is_plain_tree tree) → IsPlainName (full_name tree.node)
 plain_full_name tree h =
     let plain = plain_tree tree h in

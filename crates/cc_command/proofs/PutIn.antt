@@ -1,4 +1,4 @@
--- Putting the additions to a tree into it builds it.
+-- Putting the additions into a tree builds it.
 use Rattle.std.proofs.Common.{◌≡◌, ℕ, suc, ◌+◌, ◌<◌, ◌≤◌, List, [], ◌∷◌, ◌++◌, length, get_or, take, drop, map, Option, Some, true, refl, ap, ◌∙◌, sym, subst, add-one, append_assoc, append-nil, arith}
 use Rattle.std.proofs.Math.Seq.{drop-cons}
 use Rattle.std.proofs.Math.ListN.{set}
@@ -66,12 +66,12 @@ first_sibling inherited parent tree rest [] later fit = absurd fit
 first_sibling inherited parent tree rest (addition ∷ additions) later fit =
     record { left = fit.1.left; ends = (fit.0, fit.1.ends); begins = fit.1.begins }
 
--- ---- making the list
+-- ---- how the list is made
 
 pub AreAfter-none : (inherited : List Arg) (parent : List ℕ) (before : List Addition) → AreAfter inherited parent none before before
 AreAfter-none inherited parent before = record { added = []; all = sym (append-nil before); fit = refl }
 
--- the additions to one more sibling are put after those to the others
+-- the additions to one more sibling come after those to the others
 pub AreAfter-push : (inherited : List Arg) (parent : List ℕ) (trees : List Tree) (tree : Tree) (before between after : List Addition) →
     AreAfter inherited parent (forest_of trees) before between →
     AreOfTreeAfter inherited (Some (joined_name parent tree.node.name)) tree between after →
@@ -85,13 +85,13 @@ AreAfter-push inherited parent trees tree before between after some one = record
       (one_sibling inherited parent tree one.added [] one.fit));
 }
 
--- what is added to a command is not propagated, save what it inherits
+-- the generated flags among the additions to a command are not propagated
 globals-addition : (inherited : List Arg) (bin_name : Option (List ℕ)) (node : Node) (children : Forest) (addition : Addition) →
     IsAddition inherited bin_name node children addition → globals (node.arguments ++ addition.arguments.items) ≡ propagated inherited node
 globals-addition inherited bin_name node children addition is =
     ap globals is.arguments ∙ globals-with_missing (given_arguments inherited node) (generated_arguments node) (AreLocal-generated node)
 
--- the additions to a command are put before those to its children
+-- the addition to a command comes before those to its children
 pub AreOfTreeAfter-of : (inherited : List Arg) (bin_name : Option (List ℕ)) (tree : Tree) (addition : Addition) (before between after : List Addition) (passed : List Arg) (name : List ℕ) →
     IsAddition inherited bin_name tree.node tree.children addition →
     passed ≡ globals (tree.node.arguments ++ addition.arguments.items) →
@@ -117,7 +117,7 @@ pub forest_of-none : (trees : List Tree) → length trees ≡ 0 → forest_of tr
 forest_of-none [] empty = refl
 forest_of-none (tree ∷ trees) empty = absurd (omega arith)
 
--- of a command without children the additions are one
+-- a command without children has one addition
 pub AreOfTreeAfter-leaf : (inherited : List Arg) (bin_name : Option (List ℕ)) (tree : Tree) (addition : Addition) (before after : List Addition) →
     IsAddition inherited bin_name tree.node tree.children addition → tree.children ≡ none →
     after ≡ before ++ addition ∷ [] → AreOfTreeAfter inherited bin_name tree before after
@@ -127,9 +127,9 @@ AreOfTreeAfter-leaf inherited bin_name tree addition before after own leaf pushe
   fit = (own, subst (λ siblings. AreAdditions (propagated inherited tree.node) (full_name (record tree.node { bin_name = bin_name })) siblings [] []) (sym leaf) refl);
 }
 
--- ---- putting it in
+-- ---- putting the additions in
 
--- a list that was replaced in full
+-- a list in which all items were replaced
 pub refilled : {A : Type 0} → (count : ℕ) (old new : List A) → length old ≡ count → length new ≡ count → take count (new ++ drop (length new) old) ≡ new
 refilled count old new old_count new_count =
     let same : length new ≡ length old = new_count ∙ sym old_count in
@@ -137,7 +137,7 @@ refilled count old new old_count new_count =
     let within : length new ≤ count = omega arith in
     ap (λ rest. take count (new ++ rest)) (drop_of_length-le old over) ∙ ap (take count) (append-nil new) ∙ take_all count new within
 
--- a command with its additions, over children that are built with theirs, is built
+-- a command with its additions is built if the children were built with theirs
 pub IsBuiltBy-of : (tree : Tree) (addition : Addition) (additions left : List Addition) (children : List Tree) →
     AreBuiltBy tree.children additions (forest_of children) left →
     IsBuiltBy tree (addition ∷ additions) (record {
@@ -160,7 +160,7 @@ IsBuiltBy-of tree addition additions left children below inherited bin_name late
       built.1,
     )
 
--- the same of a command that was changed field by field
+-- the same for a command that was changed field by field
 pub IsBuiltBy-fields : (tree : Tree) (list : List Addition) (addition : Addition) (rest left : List Addition) (inside node : Node) (old children grown : List Tree) →
     list ≡ addition ∷ rest →
     (let t : Tree = record { node = inside; children = forest_of old } in t) ≡ tree →
@@ -179,13 +179,13 @@ IsBuiltBy-fields tree list addition rest left inside node old children grown lis
     (subst (λ trees. IsBuiltBy (record { node = inside; children = forest_of old }) (addition ∷ rest) (record { node = node; children = forest_of trees }) left) (sym grows)
     (subst (λ n. IsBuiltBy (record { node = inside; children = forest_of old }) (addition ∷ rest) (record { node = n; children = forest_of (children ++ addition.children.items) }) left) (sym finished) whole)))
 
--- what is built by additions that suit it may be marked as built
+-- a command that was built by suitable additions can be marked as built
 pub stays : (tree : Tree) (additions left : List Addition) (built : Tree) → SuitTree tree additions → IsBuiltBy tree additions built left → built_tree built ≡ built
 stays tree additions left built suit by =
     let is = by suit.inherited suit.bin_name suit.later suit.fit in
     ap built_tree is.0 ∙ built_below-again suit.inherited suit.bin_name tree ∙ sym is.0
 
--- the list has room for the children, too
+-- the list has room for the children too
 pub children_room : (tree : Tree) (list : List Addition) (addition : Addition) (rest : List Addition) (count : ℕ) → SuitTree tree list → list ≡ addition ∷ rest →
     sibling_count tree.children ≡ count → HasRoom count addition.children
 children_room tree list addition rest count suit listed counted =
@@ -193,7 +193,7 @@ children_room tree list addition rest count suit listed counted =
     subst (λ all. AreOfTree suit.inherited suit.bin_name tree all suit.later) listed suit.fit in
     subst (λ n. HasRoom n addition.children) counted fit.0.children_room
 
--- the first siblings are built, the others and their additions are left
+-- the first siblings are built, and the others are left with their additions
 abbrev pub IsPutUpTo : Forest → List Addition → List Tree → List Tree → List Addition → Type 0
 IsPutUpTo siblings additions done rest left =
     (inherited : List Arg) (parent : List ℕ) (later : List Addition) → AreAdditions inherited parent siblings additions later →
@@ -212,7 +212,7 @@ IsPutUpTo-push siblings additions done tree rest now left built put one inherite
       subst (λ all. AreAdditions inherited parent (forest_of rest) all later) (sym is.1) first.begins,
     )
 
--- the same where one element of a list is changed
+-- the same if one item of a list is changed
 pub IsPutUpTo-set : (siblings : Forest) (additions : List Addition) (trees : List Tree) (i : ℕ) (tree : Tree) (now left : List Addition) (built : Tree) → i < length trees →
     IsPutUpTo siblings additions (take i trees) (drop i trees) now → IsBuiltBy (get_or trees i tree) now built left →
     IsPutUpTo siblings additions (take (i + 1) (set trees i built)) (drop (i + 1) (set trees i built)) left
@@ -234,7 +234,7 @@ IsPutUpTo-all siblings additions trees count left le put inherited parent later 
     let so_far = over inherited parent later fit in
     (sym (join-none (forest_of trees)) ∙ so_far.0, so_far.1)
 
--- the list suits the next of the siblings
+-- the list of additions suits the next sibling
 pub SuitTree-next : (siblings : Forest) (additions : List Addition) (trees : List Tree) (i : ℕ) (tree : Tree) (now : List Addition) → i < length trees →
     Suit siblings additions → IsPutUpTo siblings additions (take i trees) (drop i trees) now → SuitTree (get_or trees i tree) now
 SuitTree-next siblings additions trees i tree now lt suit put =

@@ -1,4 +1,4 @@
--- A tree whose possible values are quiet builds to a tree whose possible values are quiet.
+-- If the possible values of a tree are quiet, those of the built tree are too.
 use Rattle.std.proofs.Common.{ℕ, suc, List, [], Bool, true, false, cond, ◌&&◌, IsTrue, Option, Some, refl}
 use Rattle.std.specs.List.{list_all}
 use Rattle.std.proofs.lemmas.Bool.{and_parts, and_from}
@@ -68,7 +68,7 @@ quiet_built_forest inherited parent (more node below rest) above h =
     (quiet_help_child name node below))
     (quiet_built_forest inherited parent rest above q.1))
 
--- under any bin name, or without one, a tree with quiet values builds to one with quiet values
+-- with any bin name, or without one, a tree with quiet values still has them when it is built
 pub quiet_built_under : (bin_name : Option (List ℕ)) (tree : Tree) → IsTrue (is_quiet_tree tree) → IsTrue (is_quiet_tree (built_under bin_name tree))
 quiet_built_under bin_name tree h =
     let p = and_parts (is_quiet_node tree.node) (is_quiet_forest tree.children) h in

@@ -1,4 +1,4 @@
--- The names of siblings that differ: a name leads to one of them alone.
+-- Siblings whose names differ: each name belongs to only one of them.
 use Rattle.std.proofs.Common.{◌≡◌, ◌≢◌, ℕ, not, ◌&&◌, ◌||◌, IsTrue, List, [], ◌∷◌, ◌++◌, inl, inr, sym, subst}
 use Rattle.std.specs.Str.{bytes_eq}
 use Rattle.std.proofs.lemmas.Slice.Eq.{bytes_eq-Decides}
@@ -16,7 +16,7 @@ use Rattle.cc_command.proofs.DifferentNames.{are_apart_from, siblings_differ-mor
 pub same_text : (text other : List ℕ) → text ≡ other → IsTrue (bytes_eq text other)
 same_text text other e = (bytes_eq-Decides text other).1 e
 
--- a name among others is found
+-- a name in a list is found
 pub contains_name-IsIn : (names : List (List ℕ)) (name : List ℕ) → IsIn names name → IsTrue (contains_name names name)
 contains_name-IsIn [] name h = absurd h
 contains_name-IsIn (other ∷ names) name (inl e) = or_left (bytes_eq other name) (contains_name names name) (same_text other name e)
@@ -42,7 +42,7 @@ AllDiffer-all_differ (name ∷ names) others h =
       AllDiffer-all_differ names others k.1,
     )
 
--- siblings have a child of each visible name of theirs
+-- for each visible name of some siblings, one of them has it
 pub has_child-sibling : (forest : Forest) (child : Tree) (name : List ℕ) → IsSibling forest child → IsIn (visible_names child.node) name → IsTrue (has_child forest name)
 has_child-sibling none child name sibling named = absurd sibling
 has_child-sibling (more node below rest) child name (inl e) named =
@@ -58,8 +58,8 @@ not_shared node rest child name h of sibling named =
     (AllByRecursion-IsIn (λ name. IsTrue (not (has_child rest name))) (names_of node) name (each_passes (λ name. not (has_child rest name)) (names_of node) h)
     (IsIn-append_left (visible_names node) node.aliases name of))
 
--- what siblings that differ promise: the names of the first one differ, none after it has one of
--- them, and those after it differ
+-- if the names of siblings differ, those of the first one do, no later sibling has one of them, and
+-- those of the later ones differ
 pub record SiblingsDiffer (node : Node) (rest : Forest) : Type 0 where
   pub names : IsTrue (all_differ (names_of node))
   pub apart : IsTrue (are_apart_from rest (names_of node))

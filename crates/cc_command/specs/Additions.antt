@@ -1,4 +1,4 @@
--- What building adds to a tree, as a list that is allocated before the tree is changed.
+-- The additions that building makes to a tree: a list that is allocated before the tree changes.
 use Rattle.std.specs.Prelude.{◌≡◌, ℕ, suc, ◌+◌, ◌<◌, ◌≤◌, List, [], ◌∷◌, ◌++◌, length, Option, Some, Vec, vec_capacity}
 use Rattle.std.specs.declared.alloc.Global.{Global}
 use Rattle.cc_arg.specs.declared.parts.ArgParts.{ArgParts as Arg}
@@ -9,17 +9,17 @@ use Rattle.cc_command.specs.Names.{full_name, joined_name}
 use Rattle.cc_command.specs.Generated.{generated_arguments, help_child}
 use Rattle.cc_command.specs.Built.{with_missing, given_arguments, propagated, built_forest, built_below}
 
--- how many siblings are side by side
+-- the number of siblings
 abbrev pub sibling_count : Forest → ℕ
 sibling_count none = 0
 sibling_count (more node below rest) = suc (sibling_count rest)
 
--- a list has room for so many items besides its own; an empty one needs none
+-- a list has room for this many further items; an empty list needs no room
 abbrev pub HasRoom : {A : Type 0} → ℕ → Vec A Global → Type 0
 HasRoom count added = 0 < length added.items → count + length added.items ≤ vec_capacity added
 
--- what building adds to a node with these children, which gets this bin name, under a parent that
--- propagates these arguments; each list has room for what the command has of its own
+-- the addition to a node with these children, which gets this bin name, under a parent that
+-- propagates these arguments; each list has room for those that the command has already
 pub record IsAddition (inherited : List Arg) (bin_name : Option (List ℕ)) (node : Node)
     (below : Forest) (addition : Addition) : Type 0 where
   pub named : addition.bin_name ≡ bin_name
@@ -30,15 +30,15 @@ pub record IsAddition (inherited : List Arg) (bin_name : Option (List ℕ)) (nod
   pub room : HasRoom (length node.arguments) addition.arguments
   pub children_room : HasRoom (sibling_count below) addition.children
 
--- where in a list what the first speaks of ends and what the second speaks of begins
+-- a place in a list at which the items of the first fact end and those of the second begin
 pub record Between (first second : List Addition → Type 0) : Type 0 where
   pub left : List Addition
   pub ends : first left
   pub begins : second left
 
--- a list begins with the additions to some siblings and to all below them, those to a command
--- before those to its children, under a parent of this full name that propagates these arguments;
--- `later` is what is after them
+-- a list begins with the additions to some siblings and to all commands below them, under a parent
+-- of this full name that propagates these arguments. The addition to a command comes before those
+-- to its children, and `later` comes after all of them.
 abbrev pub AreAdditions : List Arg → List ℕ → Forest → List Addition → List Addition → Type 0
 AreAdditions inherited parent none additions later = additions ≡ later
 AreAdditions inherited parent (more node below rest) [] later = ⊥
@@ -48,7 +48,7 @@ AreAdditions inherited parent (more node below rest) (addition ∷ additions) la
     (joined_name parent node.name) below additions left)
     (λ left. AreAdditions inherited parent rest left later)
 
--- the same of a tree that gets this bin name
+-- the same for a tree that gets this bin name
 abbrev pub AreOfTree : List Arg → Option (List ℕ) → Tree → List Addition → List Addition → Type 0
 AreOfTree inherited bin_name tree [] later = ⊥
 AreOfTree inherited bin_name tree (addition ∷ additions) later =
@@ -56,14 +56,14 @@ AreOfTree inherited bin_name tree (addition ∷ additions) later =
     AreAdditions (propagated inherited tree.node)
     (full_name (record tree.node { bin_name = bin_name })) tree.children additions later
 
--- what was put after the earlier additions are those to some siblings
+-- the additions to some siblings were appended to the earlier ones
 pub record AreAfter (inherited : List Arg) (parent : List ℕ) (siblings : Forest)
     (before after : List Addition) : Type 0 where
   pub added : List Addition
   pub all : after ≡ before ++ added
   pub fit : AreAdditions inherited parent siblings added []
 
--- the same of a tree
+-- the same for a tree
 pub record AreOfTreeAfter (inherited : List Arg) (bin_name : Option (List ℕ)) (tree : Tree)
     (before after : List Addition) : Type 0 where
   pub added : List Addition
@@ -84,14 +84,14 @@ pub record SuitTree (tree : Tree) (additions : List Addition) : Type 0 where
   pub later : List Addition
   pub fit : AreOfTree inherited bin_name tree additions later
 
--- with the additions to them some siblings are built, and the later ones are left
+-- the additions to some siblings build them, and the later additions are left
 abbrev pub AreBuiltBy : Forest → List Addition → Forest → List Addition → Type 0
 AreBuiltBy siblings additions built left =
     (inherited : List Arg) (parent : List ℕ) (later : List Addition)
     → AreAdditions inherited parent siblings additions later →
     (built ≡ built_forest inherited parent siblings) × (left ≡ later)
 
--- the same of a tree
+-- the same for a tree
 abbrev pub IsBuiltBy : Tree → List Addition → Tree → List Addition → Type 0
 IsBuiltBy tree additions built left =
     (inherited : List Arg) (bin_name : Option (List ℕ)) (later : List Addition)

@@ -7,11 +7,11 @@ use Rattle.cc_arg.specs.declared.parts.ArgParts.{ArgParts as Arg}
 use Rattle.cc_arg.specs.Arguments.{is_positional, takes_values}
 use Rattle.cc_command.specs.declared.node.Node.{Node}
 
--- an option is no positional and takes values
+-- an option is not a positional, and takes values
 abbrev pub is_option : Arg → Bool
 is_option argument = not (is_positional argument) && takes_values argument
 
--- a flag is no positional and takes no values
+-- a flag is not a positional, and takes no values
 abbrev pub is_flag : Arg → Bool
 is_flag argument = not (is_positional argument) && not (takes_values argument)
 
@@ -33,8 +33,8 @@ first_with_id [] id = None
 first_with_id (argument ∷ arguments) id =
     if bytes_eq argument.id id then Some argument else first_with_id arguments id
 
--- the arguments that may not be given together with one: for each id that it names, in order, the
--- first of the arguments that has it; an id that none has is passed over
+-- the arguments that cannot be given together with one: for each id that it names, in order, the
+-- first of the arguments that has it. An id that no argument has is skipped.
 abbrev pub conflicting : List Arg → Arg → List Arg
 conflicting arguments argument =
     flat_map (λ id. option_to_list (first_with_id arguments id)) argument.conflicts

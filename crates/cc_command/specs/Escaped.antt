@@ -1,5 +1,5 @@
--- Which descriptions hold no quote that a PowerShell script leaves as it is: `'` and U+2019 are
--- escaped there, U+2018, U+201A and U+201B are not.
+-- The descriptions without a quote that a PowerShell script leaves unescaped. The script escapes
+-- `'` and U+2019, but not U+2018, U+201A and U+201B.
 use Rattle.std.specs.Prelude.{ℕ, Bool, true, ◌&&◌, ◌==◌, List, [], ◌∷◌, if◌then◌else◌, Option, Some, None, is_none}
 use Rattle.std.specs.List.{list_all}
 use Rattle.cc_arg.specs.declared.parts.ArgParts.{ArgParts as Arg}
@@ -13,16 +13,16 @@ quote_of_third byte =
     if byte == 152 then Some 8216
     else (if byte == 154 then Some 8218 else (if byte == 155 then Some 8219 else None))
 
--- the quote whose last two bytes a text begins with
+-- the quote whose last two bytes are the first two of a text
 abbrev pub quote_of_second : List ℕ → Option ℕ
 quote_of_second (second ∷ third ∷ _) = if second == 128 then quote_of_third third else None
 quote_of_second _ = None
 
--- the quote that a byte begins, where the rest follows it
+-- the quote that begins with this byte and continues in the rest
 abbrev pub quote_at : ℕ → List ℕ → Option ℕ
 quote_at byte rest = if byte == 226 then quote_of_second rest else None
 
--- the first, where there is one, else the second
+-- the first quote, or the second if there is no first
 abbrev pub first_of : Option ℕ → Option ℕ → Option ℕ
 first_of None later = later
 first_of (Some first) later = Some first
@@ -32,12 +32,12 @@ abbrev pub unescaped_quote : List ℕ → Option ℕ
 unescaped_quote [] = None
 unescaped_quote (byte ∷ rest) = first_of (quote_at byte rest) (unescaped_quote rest)
 
--- a text has none of these quotes
+-- a text contains none of these quotes
 abbrev pub is_escaped_text : List ℕ → Bool
 is_escaped_text text = is_none (unescaped_quote text)
 
--- the help of an argument, the about of a node and the helps of its arguments, and these of all
--- nodes have none
+-- none of these quotes is in the help text of an argument, in the texts of a node (its description
+-- and the help texts of its arguments), or in the texts of all nodes
 abbrev pub is_escaped_argument : Arg → Bool
 is_escaped_argument argument = passes_if_some is_escaped_text argument.help
 

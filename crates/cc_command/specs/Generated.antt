@@ -1,4 +1,4 @@
--- What building adds to a tree: the arguments `help` and `version`, and the child `help`.
+-- The flags `help` and `version`, and the child `help`, which building adds to a tree.
 use Rattle.std.specs.Prelude.{ℕ, suc, List, [], ◌∷◌, ◌++◌, Bool, true, false, not, if◌then◌else◌, ◌&&◌, Option, Some, is_some}
 use Rattle.cc_arg.specs.declared.parts.ArgParts.{ArgParts as Arg}
 use Rattle.cc_arg.specs.declared.action.ArgAction.{ArgAction}
@@ -10,7 +10,7 @@ use Rattle.cc_command.specs.Names.{has_child, joined_name}
 use Rattle.cc_command.specs.Made.{new_node}
 use Rattle.cc_command.specs.Texts.{help_name, help_short, help_help, help_about, version_name, version_short, version_help, last_order}
 
--- a flag with this id, which is its long too, a short, a help and an action
+-- a flag with this id, which is also its long, a short, a help text and an action
 abbrev pub generated_flag : List ℕ → ℕ → List ℕ → ArgAction → Arg
 generated_flag id short help action = record (new_arg id) {
   short = Some short;
@@ -32,16 +32,17 @@ version_argument = generated_flag version_name version_short version_help Versio
 abbrev pub generated_help : Node → List Arg
 generated_help node = if node.disable_help_flag then [] else help_argument ∷ []
 
--- the flag `version`, where there is a version and the flag is not disabled
+-- the flag `version`, if there is a version and the flag is not disabled
 abbrev pub generated_version : Node → List Arg
 generated_version node =
     if is_some node.version && not node.disable_version_flag then version_argument ∷ [] else []
 
--- the flags that building adds where no argument has their ids
+-- the flags that building adds if no argument has their ids
 abbrev pub generated_arguments : Node → List Arg
 generated_arguments node = generated_help node ++ generated_version node
 
--- a node that building makes: a name, a text about it and a display order, and nothing else
+-- a node that building makes: a name, a bin name, a description, a display order and whether it is
+-- hidden, and nothing else
 abbrev pub generated_node : List ℕ → List ℕ → Option (List ℕ) → ℕ → Bool → Node
 generated_node name bin_name about order hide = record (new_node name) {
   bin_name = Some bin_name;
@@ -55,8 +56,8 @@ generated_node name bin_name about order hide = record (new_node name) {
   built = true;
 }
 
--- the copies of some siblings and of all below them, under a parent of this full name, numbered
--- from this display order on
+-- the copies of some siblings and of all commands below them, under a parent of this full name. The
+-- first sibling gets this display order, and each further one the next.
 abbrev pub copies : List ℕ → ℕ → Forest → Forest
 copies parent order none = none
 copies parent order (more node below rest) =
@@ -70,13 +71,14 @@ help_command parent children =
     (Some help_about) last_order false) children none
 
 -- the child `help` is missing: there are children, none of them has the name or an alias `help`,
--- and it is not disabled
+-- and the child is not disabled
 abbrev pub needs_help_child : Node → Forest → Bool
 needs_help_child node none = false
 needs_help_child node (more child below rest) =
     not node.disable_help_subcommand && not (has_child (more child below rest) help_name)
 
--- the generated child `help`, where it is missing: copies of the children, and last a `help`
+-- the generated child `help`, if it is missing; its children are copies of the children, then a
+-- child `help`
 abbrev pub help_child : List ℕ → Node → Forest → Forest
 help_child parent node children =
     if needs_help_child node children

@@ -1,4 +1,4 @@
--- What the iterators over a command's names and arguments have left.
+-- The names and arguments that the iterators of a command still have to yield.
 use Rattle.std.specs.Prelude.{ℕ, List, ◌++◌, Bool, filter}
 use Rattle.std.specs.Option.{option_to_list, option_copied}
 use Rattle.cc_arg.specs.declared.parts.ArgParts.{ArgParts as Arg}
@@ -15,10 +15,10 @@ is_of_kind Option = is_option
 is_of_kind Flag = is_flag
 is_of_kind Positional = is_positional
 
--- the arguments of the kind still to come
+-- the arguments of the kind that are left
 abbrev pub arguments_left : Arguments → List Arg
 arguments_left left = filter (is_of_kind left.kind) left.arguments.now
 
--- the name, where it is still to come, and the aliases still to come
+-- the name, unless it was yielded already, then the aliases that are left
 abbrev pub names_left : NameAndVisibleAliases → List (List ℕ)
 names_left names = option_to_list (option_copied names.name) ++ names.visible_aliases.now

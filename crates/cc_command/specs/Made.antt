@@ -1,11 +1,11 @@
--- A command as it is made, and the trees that its builders make of others.
+-- A new command, and the trees that the builders return.
 use Rattle.std.specs.Prelude.{ℕ, List, [], ◌∷◌, ◌++◌, false, if◌then◌else◌, Some, None, unwrap_or, min, ◌+◌, ◌-◌, ◌^◌}
 use Rattle.cc_arg.specs.declared.parts.ArgParts.{ArgParts as Arg}
 use Rattle.cc_arg.specs.Arguments.{is_positional}
 use Rattle.cc_command.specs.declared.node.Node.{Node}
 use Rattle.cc_command.specs.Tree.{none, more, join, Tree}
 
--- a node of which only the name was given
+-- a node in which only the name is set
 abbrev pub new_node : List ℕ → Node
 new_node name = record {
   name = name;
@@ -33,29 +33,29 @@ new_node name = record {
   built = false;
 }
 
--- a tree of one node of which only the name was given
+-- a tree of one node in which only the name is set
 abbrev pub new_tree : List ℕ → Tree
 new_tree name = record { node = new_node name; children = none }
 
--- a tree of this node alone, which is not built
+-- a tree of this node only, which is not built
 abbrev pub of_node : Node → Tree
 of_node node = record { node = record node { built = false }; children = none }
 
--- the tree with its root changed so, which is then no longer built
+-- the tree with its root changed by this function; the root is then not built
 abbrev pub with_root : (Node → Node) → Tree → Tree
 with_root change tree = record tree { node = record (change tree.node) { built = false } }
 
--- the display order after another; the greatest is followed by itself
+-- the display order after this one; the greatest one is followed by itself
 abbrev pub next_order : ℕ → ℕ
 next_order order = min (order + 1) (2 ^ 64 - 1)
 
--- the argument with this display order, if it has none of its own
+-- the argument, with this display order if it has none
 abbrev pub ordered_argument : ℕ → Arg → Arg
 ordered_argument order argument =
     record argument { display_order = Some (unwrap_or argument.display_order order) }
 
--- the node with one more argument. One that is no positional takes the next display order, unless
--- it has its own; the order is used up all the same.
+-- the node with one more argument. An option or a flag uses up the next display order, and gets it
+-- unless it has a display order of its own.
 abbrev pub with_argument : Node → Arg → Node
 with_argument node argument =
     if is_positional argument
@@ -66,12 +66,12 @@ with_argument node argument =
       built = false;
     }
 
--- the node with this display order, if it has none of its own
+-- the node, with this display order if it has none
 abbrev pub ordered_node : ℕ → Node → Node
 ordered_node order node = record node { display_order = Some (unwrap_or node.display_order order) }
 
--- the tree with one more child, after the others. It takes the next display order, unless it
--- has its own; the order is used up all the same.
+-- the tree with one more child, after the others. The child uses up the next display order, and
+-- gets it unless it has a display order of its own.
 abbrev pub with_child : Tree → Tree → Tree
 with_child tree child = record {
   node = record tree.node { next_order = next_order tree.node.next_order; built = false };

@@ -1,4 +1,4 @@
--- Which trees are plain: those whose names a script can hold as they are.
+-- Plain trees: a script can contain their names unchanged.
 use Rattle.std.specs.Prelude.{ℕ, List, [], ◌∷◌, ◌++◌, Bool, true, not, ◌&&◌, ◌==◌, Option, Some, None}
 use Rattle.std.specs.List.{list_all}
 use Rattle.std.specs.Char.{is_ascii_alphanumeric}
@@ -9,7 +9,7 @@ use Rattle.cc_command.specs.Tree.{Forest, none, more, Tree}
 use Rattle.cc_base.specs.PlainName.{is_plain_name}
 use Rattle.cc_command.specs.Names.{contains_name}
 
--- the value, where there is one, passes
+-- the value passes the test, or there is no value
 abbrev pub passes_if_some : {A : Type 0} → (A → Bool) → Option A → Bool
 passes_if_some passes None = true
 passes_if_some passes (Some value) = passes value
@@ -18,7 +18,8 @@ passes_if_some passes (Some value) = passes value
 abbrev pub has_no_quote : List ℕ → Bool
 has_no_quote text = list_all (λ byte. not (byte == single_quote)) text
 
--- shorts are letters or digits, longs are plain names, and the id and the value names hold no quote
+-- shorts are letters or digits, longs are plain names, and the id and the value names contain no
+-- quote
 abbrev pub is_plain_argument : Arg → Bool
 is_plain_argument argument =
     has_no_quote argument.id &&
@@ -38,31 +39,32 @@ is_plain_node node =
     (list_all is_plain_name node.aliases &&
     list_all is_plain_argument node.arguments))
 
--- every name by which a command is called
+-- all names of a command
 abbrev pub names_of : Node → List (List ℕ)
 names_of node = node.name ∷ (node.visible_aliases ++ node.aliases)
 
--- no text is there twice
+-- no text appears twice
 abbrev pub all_differ : List (List ℕ) → Bool
 all_differ [] = true
 all_differ (name ∷ names) = not (contains_name names name) && all_differ names
 
--- every name by which some siblings are called, one sibling after another
+-- all names of some siblings, one sibling after another
 abbrev pub names_of_all : Forest → List (List ℕ)
 names_of_all none = []
 names_of_all (more node below rest) = names_of node ++ names_of_all rest
 
--- no two names or aliases of siblings are the same, those of one command among themselves too
+-- no two names or aliases of siblings are the same, also within one command
 unfoldable pub siblings_differ : Forest → Bool
 siblings_differ siblings = all_differ (names_of_all siblings)
 
--- every node of the forest is plain, and below each the names of siblings differ
+-- each node of the forest is plain, and the names of its children differ
 abbrev pub is_plain_forest : Forest → Bool
 is_plain_forest none = true
 is_plain_forest (more node below rest) =
     is_plain_node node && (siblings_differ below && (is_plain_forest below && is_plain_forest rest))
 
--- the tree is plain, and its bin name, where there is one, is a plain name
+-- the nodes of the tree are plain, the names of siblings differ, and the bin name is a plain name
+-- if there is one
 abbrev pub is_plain_tree : Tree → Bool
 is_plain_tree tree =
     passes_if_some is_plain_name tree.node.bin_name &&

@@ -1,4 +1,4 @@
--- Which possible values are quiet: those that are in a bash script as they are.
+-- Quiet possible values: a bash script can contain them unchanged.
 use Rattle.std.specs.Prelude.{ℕ, Bool, true, false, ◌&&◌, ◌||◌, ◌==◌, List, [], ◌∷◌, codes, Option, Some, None}
 use Rattle.std.specs.Char.{is_ascii_alphanumeric}
 use Rattle.std.specs.List.{list_all, list_any}
@@ -13,17 +13,17 @@ abbrev pub is_quiet_byte : ℕ → Bool
 is_quiet_byte byte =
     is_ascii_alphanumeric byte || list_any (λ sign. byte == sign) (codes "+-./:@_,=")
 
--- a text that is not empty, of such bytes
+-- a text that is not empty and consists of such bytes
 abbrev pub is_quiet_value : List ℕ → Bool
 is_quiet_value [] = false
 is_quiet_value (byte ∷ value) = list_all is_quiet_byte (byte ∷ value)
 
--- the names of some possible values are quiet, hidden ones too
+-- the names of some possible values are quiet, including hidden values
 abbrev pub are_quiet_values : Option (List PossibleValue) → Bool
 are_quiet_values None = true
 are_quiet_values (Some possible) = list_all (λ value. is_quiet_value value.name) possible
 
--- each possible value of an argument, of a node's arguments, and of all nodes is quiet
+-- each possible value of an argument, of all arguments of a node, or of all nodes is quiet
 abbrev pub is_quiet_argument : Arg → Bool
 is_quiet_argument argument = are_quiet_values (possible_values argument)
 

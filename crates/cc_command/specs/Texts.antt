@@ -1,15 +1,15 @@
--- The texts of what building adds.
+-- The texts of the flags and the child that building adds.
 use Rattle.std.specs.Prelude.{⊤, ℕ, List, codes}
 
--- the name, the id and the long of what shows the help
+-- the name of the child `help`, and the id and the long of the flag `help`
 unfoldable pub help_name : List ℕ
 help_name = codes "help"
 
--- the help of the flag `help`
+-- the help text of the flag `help`
 unfoldable pub help_help : List ℕ
 help_help = codes "Print help"
 
--- what the child `help` says of itself
+-- the description of the child `help`
 unfoldable pub help_about : List ℕ
 help_about = codes "Print this message or the help of the given subcommand(s)"
 
@@ -17,11 +17,11 @@ help_about = codes "Print this message or the help of the given subcommand(s)"
 unfoldable pub version_name : List ℕ
 version_name = codes "version"
 
--- the help of the flag `version`
+-- the help text of the flag `version`
 unfoldable pub version_help : List ℕ
 version_help = codes "Print version"
 
--- what opens each of them
+-- the name by which a proof unfolds all of them
 unfoldable pub fixed_texts : ⊤
 unfolding help_name help_help help_about version_name version_help
 fixed_texts = tt
@@ -34,6 +34,6 @@ help_short = 104
 abbrev pub version_short : ℕ
 version_short = 86
 
--- the display order of what building adds
+-- the display order of the flags and the child that building adds
 abbrev pub last_order : ℕ
 last_order = 999

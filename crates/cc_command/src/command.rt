@@ -1,4 +1,4 @@
-//! A command, and what it means.
+//! A command, and the tree by which clauses see it.
 
 ghost use Rattle.std.specs.Prelude.{◌≡◌};
 ghost use Rattle.std.specs.String.{string_bytes};
@@ -28,8 +28,8 @@ use std::marker::Model;
 
 /// A command with its arguments and its children.
 ///
-/// Builders take the command and return the changed one; those that grow a list fail with `Memory`
-/// where an allocation fails, and then drop it. Each of them marks the command as not built.
+/// Builders take the command and return the changed one, which then counts as not built. A builder
+/// that adds to a list can fail with `Memory`; it then drops the command.
 #[derive(Drop)]
 pub struct Command {
     node: Node,
@@ -57,7 +57,8 @@ impl Model for Command {
 }
 
 impl Command {
-    /// A command with this name and nothing else; its lists take memory from `alloc`.
+    /// Makes a command with this name, in which nothing else is set. Its lists allocate from
+    /// `alloc`.
     pub fn new(alloc: Global, name: String) -> Command
         ensures { result ≡ new_tree (string_bytes name) }
     {
@@ -68,16 +69,16 @@ impl Command {
     }
 }
 
-/// What the command holds besides its children. A free function, so that `clap_complete` need not
-/// re-export it.
+/// Returns the node of a command: all of it except the children. This is a free function, so that
+/// `clap_complete` does not re-export it.
 pub fn node_of(command: &Command) -> &Node
     ensures { result.now ≡ command.now.node }
 {
     &command.node
 }
 
-/// A command of this node alone, which is not built; its list of children allocates from `alloc`. A
-/// free function, so that `clap_complete` need not re-export it.
+/// Makes a command from a node, without children and not built. The list of children allocates from
+/// `alloc`. This is a free function, so that `clap_complete` does not re-export it.
 pub fn from_node(alloc: Global, mut node: Node) -> Command
     ensures { result ≡ of_node node }
 {

@@ -1,4 +1,12 @@
-//! The described command: a tree of nodes, its builders and getters, and the step that builds it.
+//! A described command: a tree of nodes, with builders and getters, and the step that builds it.
+//!
+//! ```rattle
+//! let out = Arg::new(alloc, String::from_str(alloc, "out")?).short('o');
+//! let mut command = Command::new(alloc, name).arg(out)?;
+//! ```
+//!
+//! These lines describe a command with an option `-o`. `command.build(alloc)` then adds the flag
+//! `-h`, `--help`, and fills in what was left open.
 #![tactic(auto)]
 
 mod command;

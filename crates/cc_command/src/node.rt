@@ -1,4 +1,4 @@
-//! What one command of a tree holds besides its children.
+//! The fields of one command of a tree, except its children.
 
 ghost use Rattle.std.specs.Prelude.{◌≡◌};
 
@@ -6,61 +6,61 @@ use cc_arg::Arg;
 use cc_base::{Items, SubcommandCandidates, Text};
 use std::alloc::Global;
 
-/// What one command of a tree holds besides its children.
+/// The fields of one command of a tree, except its children.
 #[derive(Drop)]
 pub struct Node {
-    /// The name by which it is called, besides its aliases.
+    /// The name.
     pub name: Text,
-    /// The name of the program; below the root, after a build, the command's name in full.
+    /// The name of the program. In a built tree, a command below the root has its full name here.
     pub bin_name: Option<Text>,
-    /// What the command says of itself.
+    /// The description.
     pub about: Option<Text>,
-    /// The version that its flag `version` shows.
+    /// The version, which the flag `--version` shows.
     pub version: Option<Text>,
-    /// What a parser's long help says in place of `about`.
+    /// The description in a parser's long help, instead of `about`.
     pub long_about: Option<Text>,
-    /// What a parser's help ends with.
+    /// The text at the end of a parser's help.
     pub after_help: Option<Text>,
-    /// Names that a parser takes and that are not shown.
+    /// Hidden aliases, which a parser accepts.
     pub aliases: Items<Text>,
-    /// Names that work and are shown.
+    /// Visible aliases.
     pub visible_aliases: Items<Text>,
-    /// The heading of its children, a tag of candidates.
+    /// The help heading of the children, which tags candidates.
     pub subcommand_help_heading: Option<Text>,
-    /// Its display order among its siblings, given or taken when it was added.
+    /// The display order among siblings, either set or filled in when the command was added.
     pub display_order: Option<usize>,
-    /// The display order of the next child, or argument that is no positional, added without one.
+    /// The display order for the next child that has none, or the next such option or flag.
     pub next_order: usize,
-    /// Its arguments, in the order in which they were added.
+    /// The arguments, in the order in which they were added.
     pub arguments: Items<Arg>,
-    /// Whether it is hidden.
+    /// True if the command is hidden.
     pub hide: bool,
-    /// Whether building adds no flag `help`.
+    /// True if building the command adds no flag `--help`.
     pub disable_help_flag: bool,
-    /// Whether building adds no flag `version`.
+    /// True if building the command adds no flag `--version`.
     pub disable_version_flag: bool,
-    /// Whether building adds no child `help`.
+    /// True if building the command adds no child `help`.
     pub disable_help_subcommand: bool,
-    /// Whether words that name no child are taken as the names of other programs.
+    /// True if a word that is not the name of a child is the name of another program.
     pub allow_external_subcommands: bool,
-    /// Whether the words of a call do not begin with the program's name.
+    /// True if the words of a command line do not begin with the program's name.
     pub no_binary_name: bool,
-    /// Whether a subcommand has to follow.
+    /// True if a parser requires a subcommand.
     pub subcommand_required: bool,
-    /// Whether a parser shows the help where there are no arguments.
+    /// True if a parser shows the help if there are no arguments.
     pub arg_required_else_help: bool,
-    /// The number of the list that names of other programs are taken from.
+    /// The number of the list that has the names of other programs.
     pub candidates: Option<SubcommandCandidates>,
-    /// Whether building made this node.
+    /// True if building a command made this node.
     pub generated: bool,
-    /// Whether this node and all below it are built.
+    /// True if this node and all nodes below it are built.
     pub built: bool,
 }
 
 impl Node {
     ghost use Rattle.cc_command.specs.Made.{new_node};
 
-    /// A node with this name and nothing else; its lists take memory from `alloc`.
+    /// Makes a node with this name, in which nothing else is set. Its lists allocate from `alloc`.
     pub fn new(alloc: Global, name: Text) -> Node
         ensures { result ≡ new_node name }
     {

@@ -1,4 +1,4 @@
--- The condition of a path is read back.
+-- The reading of a path's condition.
 use Rattle.std.proofs.Common.{◌≡◌, ℕ, true, false, List, [], ◌∷◌, ◌++◌, eqb, refl, ap, ◌∙◌, sym, append_assoc, append-nil, Option, Some, None, map, codes, Bool, cond, reverse, flat_map, option_map}
 use Rattle.std.proofs.lemmas.List.{reverse-append, reverse-reverse}
 use Rattle.std.proofs.lemmas.List.Folds.{list_all-append}
@@ -67,7 +67,7 @@ seen_pieces (name ∷ names) (k, ks) =
     ap (λ pieces. seen_function ∷ map without_semicolon pieces) (pieces_safe name [] (flat_map spaced_name names) k)
     ∙ ap (λ pieces. seen_function ∷ pieces) (names_pieces names name k ks)
 
--- a condition of which the function and a path were read, and the names that are excluded
+-- a condition whose function and path have been read, with the excluded names
 abbrev read_so : List ℕ → List (List ℕ) → List (List ℕ) → Condition
 read_so function path excluded = record { function = function; path = path; excluded = excluded }
 
@@ -119,7 +119,7 @@ function_reversed : (bin_name ending : List ℕ) → reverse (function_of bin_na
 function_reversed bin_name ending =
     reverse-append (codes "__fish_") (function_name bin_name ++ ending) ∙ ap (λ t. t ++ reverse (codes "__fish_")) (reverse-append (function_name bin_name) ending)
 
--- what the ending of the first piece tells, from the piece backwards
+-- the meaning of the first piece's ending, given the piece in reverse
 abbrev chosen : List ℕ → List (List ℕ) → Option Condition
 chosen backwards pieces = elim (option_map (λ front. reverse front) (after (reverse (codes "_using_subcommand")) backwards)) as (λ x. Option Condition) [
   | Some function ↦ condition_from a_name (asked function) pieces
@@ -129,7 +129,7 @@ chosen backwards pieces = elim (option_map (λ front. reverse front) (after (rev
   ]
 ]
 
--- the name of a function begins so
+-- the beginning of a function's name
 function_found : (bin_name : List ℕ) → reverse (reverse (function_name bin_name) ++ reverse (codes "__fish_")) ≡ function_begin bin_name
 function_found bin_name =
     reverse-append (reverse (function_name bin_name)) (reverse (codes "__fish_")) ∙ ap (λ t. codes "__fish_" ++ t) (reverse-reverse (function_name bin_name))
@@ -145,9 +145,9 @@ unfolding before_ending after
 using_read bin_name pieces =
     ap (λ t. chosen t pieces) (function_reversed bin_name (codes "_using_subcommand")) ∙ ap (λ function. condition_from a_name (asked function) pieces) (function_found bin_name)
 
--- ---- the whole
+-- ---- the whole condition
 
--- the condition says the path and the names that are excluded
+-- the condition states the path and the excluded names
 pub condition_read : (bin_name : List ℕ) (path : List (List ℕ)) (children : Forest) (text : List ℕ) → IsSafe bin_name → AllByRecursion IsSafe path → AllByRecursion IsSafe (sibling_names children)
     → path_condition bin_name path children ≡ Some text → condition_of text ≡ condition_at bin_name path children
 unfolding is_fish_safe
@@ -175,7 +175,7 @@ condition_read bin_name (first ∷ names) children text b (h, ks) hs e =
     regrouped : (function t : List ℕ) → codes "__fish_" ++ (function ++ (codes "_using_subcommand " ++ t)) ≡ (codes "__fish_" ++ (function ++ codes "_using_subcommand")) ++ space ∷ t
     regrouped function t = ap (λ x. codes "__fish_" ++ x) (sym (append_assoc function (codes "_using_subcommand") (space ∷ t)))
 
--- ---- and all its bytes stand for themselves between `"`
+-- ---- all its bytes stay as they are between two `"`
 
 safe_kept : (text : List ℕ) → IsSafe text → list_all is_kept text ≡ true
 unfolding is_fish_safe

@@ -1,4 +1,4 @@
--- Small scripts as they are read, and tables and texts of small trees.
+-- Examples of how small scripts are read, and of tables and texts of small trees.
 use Rattle.std.proofs.Common.{◌≡◌, ℕ, List, [], ◌∷◌, ◌++◌, Option, Some, None, Bool, true, false, codes, refl, is_some}
 use Rattle.std.specs.Char.{encode_utf8}
 use Rattle.std.specs.List.{list_any}
@@ -28,7 +28,7 @@ line text = text ++ 10 ∷ []
 abbrev at : List (List ℕ) → List (List ℕ) → Option Condition
 at path excluded = Some (record { function = codes "__fish_app"; path = path; excluded = excluded })
 
--- a record of `app` that says nothing but where it holds
+-- a record of `app` with nothing but its condition
 abbrev only_at : Option Condition → Record
 only_at when = record no_record { command = Some (codes "app"); when = when }
 
@@ -36,7 +36,7 @@ only_at when = record no_record { command = Some (codes "app"); when = when }
 abbrev child_at : Option Condition → List ℕ → Record
 child_at when name = record (only_at when) { marks = record no_record.marks { no_files = true }; offered = Some (name ∷ []) }
 
--- ---- scripts as they are read
+-- ---- scripts that are read
 
 records_read :
     -- children called `and` and `not`, one below the other
@@ -53,8 +53,8 @@ records_read :
     ∷ record (only_at (at (codes "and" ∷ codes "not" ∷ []) [])) { shorts = codes "v" ∷ [] }
     ∷ record (only_at (at (codes "not" ∷ codes "and" ∷ []) (codes "and" ∷ []))) { longs = codes "not" ∷ [] }
     ∷ []))
-    -- a comment, a command of another name, and a record three levels deep, with names, a help and
-    -- marks
+    -- a comment, a command of another name, and a record three levels deep, with names, a help text
+    -- and marks
     × (records
     (line (codes "# complete -c app -s x")
     ++ line (codes "    set -l complete (commandline -opc)")
@@ -67,7 +67,8 @@ records_read :
       marks = record { required = true; no_files = Bool.false; files = true };
     }
     ∷ []))
-    -- values that hold quotes, `$`, backslashes and a line feed, and a help that holds them too
+    -- values that hold quotes, `$`, backslashes and a line feed, and a help text that holds them
+    -- too
     × (records
     (codes "complete -c app -l o -d 'it\\'s \\\\ \"$x\"' -r -f -a \""
     ++ line (codes "'it\\\\'s \\\\\\\\ \\$x \\\"q\\\"")
@@ -83,7 +84,7 @@ records_read :
           ∷ (codes "plain" ++ 9 ∷ []) ∷ []);
     }
     ∷ []))
-    -- a help that is empty, and a list that offers nothing
+    -- an empty help text, and a list that offers nothing
     × (records (line (codes "complete -c app -s e -d '' -r -f -a \"\""))
     ≡ Some
     (record (only_at None) {
@@ -96,16 +97,16 @@ records_read :
 unfolding fish_sign fish_commands after before_ending
 records_read = (refl, refl, refl, refl)
 
--- ---- scripts that can't be read
+-- ---- malformed scripts
 
 unread : list_any (λ script. is_some (records script))
     -- a name after the function of the root
     (line (codes "complete -c app -n \"__fish_app_needs_command a\" -s v")
-    -- no name after that of a path
+    -- no name after the function of a path
     ∷ line (codes "complete -c app -n \"__fish_app_using_subcommand\" -s v")
-    -- a function that is neither of the two
+    -- a function that is not one of the two
     ∷ line (codes "complete -c app -n \"__fish_app_subcommand a\" -s v")
-    -- an option that is unknown
+    -- an unknown option
     ∷ line (codes "complete -c app -x -s v")
     -- an option without its operand
     ∷ line (codes "complete -c app -s")
@@ -125,7 +126,7 @@ unread = refl
 abbrev flag : List ℕ → ℕ → Arg
 flag id short = record (new_arg id) { short = Some short; action = Some SetTrue }
 
--- `app`, which holds `a`, which holds `b`, which holds `c` with a flag `-v`
+-- `app` with a child `a`, which has a child `b`, which has a child `c` with a flag `-v`
 abbrev deep : Tree
 deep = with_child (new_tree (codes "app")) (with_child (new_tree (codes "a")) (with_child (new_tree (codes "b"))
     (record { node = with_argument (new_tree (codes "c")).node (flag (codes "v") 118); children = none })))
@@ -142,12 +143,12 @@ deep_texts :
     ∷ child_at (at (codes "a" ∷ codes "b" ∷ []) (codes "c" ∷ [])) (codes "c")
     ∷ record (only_at (at (codes "a" ∷ codes "b" ∷ codes "c" ∷ []) [])) { shorts = codes "v" ∷ [] }
     ∷ [])
-    -- `app` without children, with what building adds
+    -- `app` without children, with everything that building adds
     × (fish_script (built_under (Some (codes "app")) (new_tree (codes "app"))) ≡ line (codes "complete -c app -s h -l help -d 'Print help'"))
 unfolding encode_utf8 paths_below body_text visit_text node_text options_text flags_text below_text argument_text values_text child_text names_text front_text key_condition not_seen help_argument version_argument help_name help_help version_name fish_escaped script_text head_text
 deep_texts = (refl, refl, refl)
 
--- an option with a value that is shown and one that is hidden
+-- an option with a visible and a hidden value
 abbrev color : Arg
 color = record (new_arg (codes "color")) {
   short = Some 99;
@@ -163,14 +164,14 @@ color_texts :
 unfolding encode_utf8 fish_escaped is_fish_safe fish_quoted fish_quoted_for_eval fish_help_for_eval_of value_text value_lines list_begin listed_text values_text names_text argument_text front_text spec_text
 color_texts = (refl, refl)
 
--- a flag whose long holds a quote
+-- a flag with a quote in its long
 abbrev quoted : Arg
 quoted = record (new_arg (codes "a")) { long = Some (codes "it's"); action = Some SetTrue }
 
 quoted_texts :
     (argument_text (front_text (codes "app") None) false quoted ≡ line (codes "complete -c app -l it\\'s"))
     × (spec_text quoted ≡ codes " it\\'s")
-    -- a value with a help that fish would expand
+    -- a value with a help text that fish would expand
     × (listed_text (record (new_possible_value (codes "v")) { help = Some (codes "$HOME \"x\"") } ∷ []) ≡ codes " -r -f -a \"v\\t'\\$HOME \\\"x\\\"'\"")
 unfolding fish_escaped values_text names_text argument_text front_text spec_text is_fish_safe fish_quoted fish_quoted_for_eval fish_help_for_eval_of value_text value_lines list_begin listed_text
 quoted_texts = (refl, refl, refl)

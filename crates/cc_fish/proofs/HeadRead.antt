@@ -31,14 +31,14 @@ head_then : (function specs rest : List ℕ) → head_around function specs ++ r
 unfolding functions_text
 head_then function specs rest = simp append_assoc
 
--- the pieces that are written
+-- the pieces, as they are written
 pub head_parts : (function : List ℕ) (root : Tree) (arguments : List Arg) → arguments ≡ root.node.arguments
     → has_nodes root.children ≡ true → head_around function (specs_text arguments) ≡ head_text function root
 unfolding head_text
 head_parts function root arguments are inhabited =
     ap (λ xs. head_around function (specs_text xs)) are ∙ rw inhabited refl
 
--- what is read in the word after these, which begins so
+-- what is read in the word after the given words, whose beginning is given
 abbrev read_in : List (List ℕ) → List ℕ → List ℕ → Option (List Record)
 read_in words word text = records_of (commands_from (in_word words (bare word)) text)
 
@@ -92,7 +92,7 @@ head_read function specs words rest h adds =
     ∙ using_subcommand_called (codes "__fish_" ++ function) function (using_subcommand_end ++ rest) h
     ∙ using_subcommand_read (codes "(__fish_" ++ function) rest
 
--- ---- what `argparse` is told of an argument is one word
+-- ---- what `argparse` receives for an argument is one word
 
 abbrev no_names : {X : Type 0} → List X → Bool
 no_names [] = true
@@ -112,7 +112,7 @@ unfolding is_fish_safe
 slash_safe [] = tt
 slash_safe (long ∷ longs) = (refl, tt)
 
--- the word of these names
+-- the word of the given names
 abbrev spec_of : List ℕ → List (List ℕ) → Bool → List ℕ
 spec_of shorts longs takes = first_short shorts longs ++ first_long longs ++ cond takes (codes "=") []
 
@@ -124,12 +124,12 @@ spec_named (short ∷ shorts) (long ∷ longs) takes (h, hs) (k, ks) e =
     named ((encode_utf8 short ++ codes "/") ++ fish_escaped long) (cond takes (codes "=") [])
     (named (encode_utf8 short ++ codes "/") (fish_escaped long) (named (encode_utf8 short) (codes "/") h (slash_safe (long ∷ longs))) (name_safe (fish_escaped long) (escaped_name long k))) (equals_safe takes)
 
--- a plain argument that is no positional
+-- a plain argument that is not positional
 record IsSpecified (argument : Arg) : Type 0 where
   plain : IsPlainArgument argument
   other : is_positional argument ≡ false
 
--- it has a short or a long
+-- such an argument has a short or a long
 has_names : (argument : Arg) → is_positional argument ≡ false → (no_names (shown_shorts argument) && no_names (shown_longs argument)) ≡ false
 has_names argument e = by argument.short argument.long e
   where

@@ -4,7 +4,7 @@ use Rattle.std.proofs.Common.{Result, Ok, Err, IfOk, append_assoc, nat_eq}
 use Rattle.cc_visits.specs.Visits.{joined}
 use Rattle.cc_fish.specs.Script.{fish_key}
 
--- a key that is not empty is made longer by one more name of its path
+-- a key that is not empty grows by one more name of its path
 pub further_key : {E : Type 0} {empty : Bool} (key name : List ℕ) (result : Result (List ℕ) E)
     → empty ≡ nat_eq (length key) 0 → empty ≡ false
     → IfOk result (λ text. text ≡ joined (codes "; and __fish_seen_subcommand_from ") key name)

@@ -21,7 +21,7 @@ use Rattle.cc_quote.proofs.FishWords.{IsSafe, safe_sign, safe_bare}
 use Rattle.cc_quote.proofs.FishCutting.{Spells}
 use Rattle.cc_generator.specs.Subcommands.{sibling_names}
 
--- bytes that need no quotes, one at least
+-- bytes that need no quotes, at least one
 abbrev pub IsName : List ℕ → Type 0
 IsName [] = ⊥
 IsName (byte ∷ bytes) = IsSafe (byte ∷ bytes)
@@ -39,11 +39,11 @@ name_spelled (byte ∷ bytes) h = record { begins = ap begins_word (safe_sign by
 name_escaped : (name : List ℕ) → IsName name → fish_escaped name ≡ name
 name_escaped name h = safe_escaped name (name_safe name h)
 
--- and a name as well
+-- the escape of a name is a name
 pub escaped_name : (name : List ℕ) → IsName name → IsName (fish_escaped name)
 escaped_name name h = subst IsName (sym (name_escaped name h)) h
 
--- which spells the name
+-- the escape of a name spells the name
 pub escaped_spelled : (name : List ℕ) → IsName name → Spells (fish_escaped name) name
 escaped_spelled name h = subst (λ text. Spells text name) (sym (name_escaped name h)) (name_spelled name h)
 

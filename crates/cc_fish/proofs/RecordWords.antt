@@ -29,7 +29,7 @@ use Rattle.cc_fish.proofs.Names.{IsName, letter_safe, dash_safe, name_safe, name
 
 -- ---- words in `"`
 
--- bytes that `"` keep as they are
+-- whether a byte stays as it is between two `"`
 abbrev pub is_kept : ℕ → Bool
 is_kept byte = not (eqb byte ascii.double_quote) && (not (eqb byte ascii.backslash) && not (eqb byte ascii.dollar))
 
@@ -42,11 +42,11 @@ kept_escaped (byte ∷ text) h =
     let parts = and_parts _ _ h in
     ap (λ bytes. bytes ++ double_escaped text) (kept_byte byte parts.0) ∙ ap (λ bytes. byte ∷ bytes) (kept_escaped text parts.1)
 
--- such a text stands for itself between `"`
+-- a text of such bytes stays as it is between two `"`
 pub kept_read : (text word : List ℕ) → list_all is_kept text ≡ true → advance (Some (in_double word)) text ≡ Some (in_double (word ++ text))
 kept_read text word h = ap (advance (Some (in_double word))) (sym (kept_escaped text h)) ∙ double_read text word
 
--- what is in `"`
+-- a text in `"`
 pub in_doubles : (inner word : List ℕ) → advance (Some (in_double [])) inner ≡ Some (in_double word) → Spells (ascii.double_quote ∷ (inner ++ ascii.double_quote ∷ [])) word
 unfolding fish_sign
 in_doubles inner word h = record {
@@ -77,7 +77,7 @@ condition_adds : (when : Option (List ℕ)) → IsKept when → Adds (condition_
 condition_adds None h = adds_none
 condition_adds (Some text) h = adds_operand (codes "-n") (ascii.double_quote ∷ (text ++ ascii.double_quote ∷ [])) text (option_spelled _ refl) (in_doubles text text (kept_read text [] h))
 
--- ---- names and help
+-- ---- names and help texts
 
 abbrev pub short_words : ℕ → List (List ℕ)
 short_words short = codes "-s" ∷ encode_utf8 short ∷ []
@@ -118,7 +118,7 @@ names_adds argument is =
 
 -- ---- listed values
 
--- a value as it is after the first reading
+-- a value after the first reading
 abbrev pub value_inner : PossibleValue → List ℕ
 value_inner value = fish_quoted value.name ++ (codes "\\t" ++ single_quoted (line_feeds_as_spaces (unwrap_or value.help [])))
 
@@ -137,7 +137,7 @@ value_once value word =
     ∙ tab_once (word ++ fish_quoted value.name) help
     ∙ ap (λ t. Some (in_double t)) (simp append_assoc)
 
--- some lines, where it is told whether a line is before them
+-- lines with separators; the flag says whether a line comes before them
 abbrev lines_after : Bool → List (List ℕ) → List ℕ
 lines_after begun lines = joined_after (ascii.line_feed ∷ []) begun lines
 
@@ -202,7 +202,7 @@ values_twice (value ∷ values) =
     ap joined_words (word_read (value_inner value) (value_word value) [] (lines_after true (map value_inner values)) (value_spelled value))
     ∙ further_twice values (value_word value)
 
--- ---- what an option's value may be
+-- ---- the values of an option
 
 abbrev pub hint_words : ValueHint → List (List ℕ)
 hint_words Unknown = codes "-r" ∷ []
@@ -244,7 +244,7 @@ hint_adds Username = adds_offer (codes "\"(__fish_complete_users)\"") _ (in_doub
 hint_adds Hostname = adds_offer (codes "\"(__fish_print_hostnames)\"") _ (in_doubles (codes "(__fish_print_hostnames)") _ refl)
 hint_adds hint = no_files_adds
 
--- the values of a list that are shown
+-- the listed values that are not hidden
 abbrev pub shown_of : List PossibleValue → List PossibleValue
 shown_of values = filter (λ value. not value.hide) values
 

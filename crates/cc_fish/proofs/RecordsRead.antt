@@ -1,4 +1,4 @@
--- The words of a record are read back to the record.
+-- The words of a record read back to the record.
 use Rattle.std.proofs.Common.{◌≡◌, ℕ, Bool, true, false, List, [], ◌∷◌, ◌++◌, refl, ap, ◌∙◌, sym, subst, append_assoc, append-nil, Option, Some, None, IsTrue, map, cond, codes, encode_utf8, is_some, option_map, not, flat_map}
 use Rattle.std.specs.List.{AllByRecursion}
 use Rattle.std.proofs.lemmas.List.Concat.{flat_map_single}
@@ -30,7 +30,7 @@ use Rattle.cc_fish.proofs.Conditions.{path_condition, condition_read, condition_
 
 -- ---- the words of a record, part by part
 
--- a record of which only the program and the condition were read
+-- a record of which only the program and the condition have been read
 abbrev at : List ℕ → Option Condition → Record
 at bin_name when = record no_record { command = Some bin_name; when = when }
 
@@ -102,7 +102,7 @@ unfolding fish_sign fish_commands
 hint_read Unknown bin_name when argument = refl
 hint_read hint bin_name when argument = refl
 
--- a record with what is offered, where that was read
+-- a record with the words that are offered, if these have been read
 abbrev offering : Record → List (List ℕ) → Option (List (List ℕ)) → Option Record
 offering read words offered =
     elim (option_map (λ offers. record read { offered = Some offers }) offered) as (λ x. Option Record) [ Some next ↦ record_from an_option next words | None ↦ None ]
@@ -116,7 +116,7 @@ option_read bin_name argument when = by (possible_values argument)
     by (Some values) = ap (offering (record (flag_record bin_name when argument) { marks = record { required = true; no_files = true; files = false } }) []) (values_twice (shown_of values))
     by None = hint_read argument.value_hint bin_name when argument
 
--- the record of an argument that takes values, or takes none
+-- the record of an argument; the flag says whether it takes values
 abbrev argument_record : Bool → List ℕ → Option Condition → Arg → Record
 argument_record true bin_name when argument = option_record bin_name when argument
 argument_record false bin_name when argument = flag_record bin_name when argument
@@ -142,9 +142,9 @@ child_words_read bin_name false about name when h =
     ∙ ap (record_from an_option (record (at bin_name when) { offered = Some (name ∷ []) })) (sym (append-nil (help_words about)))
     ∙ help_read about (record (at bin_name when) { offered = Some (name ∷ []) }) [] refl
 
--- ---- texts that are read to records
+-- ---- texts that read back to records
 
--- the text is read to these records, whatever follows it
+-- the text reads back to the given records, whatever follows it
 pub record Yields (text : List ℕ) (reads : List Record) : Type 0 where
   pub read : (rest : List ℕ) → records (text ++ rest) ≡ option_map (λ later. reads ++ later) (records rest)
 
@@ -175,13 +175,13 @@ yields_map P text read each xs h = subst (Yields (flat_map text xs)) (flat_map_s
 
 -- ---- the records of a node
 
--- the names at a path need no quotes: the command's, those of the path, those of the children
+-- the names at a path need no quotes: those of the command, of the path and of the children
 pub record IsAt (bin_name : List ℕ) (path : List (List ℕ)) (children : Forest) : Type 0 where
   pub command : IsName bin_name
   pub names : AllByRecursion IsSafe path
   pub excluded : AllByRecursion IsSafe (sibling_names children)
 
--- what each record of the node at a path begins with
+-- the beginning of each record of the node at a path
 abbrev pub path_front : List ℕ → List (List ℕ) → Forest → List ℕ
 path_front bin_name path children = front_text bin_name (path_condition bin_name path children)
 

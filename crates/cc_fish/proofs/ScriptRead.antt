@@ -1,4 +1,4 @@
--- The whole script of a plain tree is read back.
+-- The whole script of a plain tree reads back.
 use Rattle.std.proofs.Common.{◌≡◌, ℕ, Bool, List, [], ◌∷◌, ◌++◌, IsTrue, refl, ap, ◌∙◌, sym, subst, append_assoc, append-nil, Option, Some, Result, Ok, Err, map, flat_map, codes, not}
 use Rattle.std.proofs.lemmas.List.Concat.{flat_map-append}
 use Rattle.std.specs.List.{AllByRecursion}
@@ -41,7 +41,7 @@ path_key-longer (first ∷ names) name =
     ap (λ t. start ++ (first ++ t)) (flat_map-append seen_text names (name ∷ []) ∙ ap (λ t. flat_map seen_text names ++ t) (append-nil (seen_text name)))
     ∙ ap (λ t. start ++ t) (sym (append_assoc first (flat_map seen_text names) (seen_text name)))
 
--- the condition by the key is that by the path
+-- the condition given by the key is the condition given by the path
 key_condition-path_key : (bin_name : List ℕ) (path : List (List ℕ)) (children : Forest) → key_condition (function_name bin_name) (path_key path) children ≡ path_condition bin_name path children
 unfolding key_condition
 key_condition-path_key bin_name [] none = refl
@@ -70,7 +70,7 @@ unfolding body_text
 by_paths bin_name root =
     ap (flat_map (visit_text bin_name (function_name bin_name))) (sym (rekeyed-path_visits longer_path fish_key path_key path_key-longer [] root)) ∙ same_texts bin_name (path_visits longer_path [] root)
 
--- ---- what is read
+-- ---- the reading
 
 visit_yields : (bin_name : List ℕ) → IsName bin_name → (visit : Keyed (List (List ℕ))) → IsPlainVisit visit → Yields (path_text bin_name visit) (table bin_name visit)
 visit_yields bin_name named visit is =
@@ -119,7 +119,7 @@ hold_node bin_name when tree =
     (hold_append path of_options of_flags (hold_map path (option_record bin_name when) (λ argument. refl) (options tree.node)) (hold_map path (flag_record bin_name when) (λ argument. refl) (flags tree.node)))
     (hold_children bin_name when (not (has_positionals tree.node)) tree.children)
 
--- a condition is that of its path
+-- a condition has its path
 condition_at-path : (bin_name : List ℕ) (path : List (List ℕ)) (children : Forest) → condition_path (condition_at bin_name path children) ≡ path
 condition_at-path bin_name [] none = refl
 condition_at-path bin_name [] (more node below rest) = refl
@@ -132,16 +132,16 @@ hold_table bin_name visit =
 
 -- ---- for the code
 
--- the script of a plain tree reads to its tables
+-- the script of a plain tree reads back to its tables
 pub reads_back : (root : Tree) → IsTrue (is_plain_tree root) → FishReads root
 reads_back root h = record { tables = records_read root h; covers = paths_cover root h; states = hold_table (full_name root.node) }
 
--- where nodes are entered, their records
+-- the records of the nodes that are entered
 pub entered_texts : (bin_name function : List ℕ) (root : Tree) → flat_map (where_entered (visit_text bin_name function)) (path_steps fish_key [] root) ≡ body_text bin_name function root
 unfolding body_text
 entered_texts bin_name function root = entered_visits fish_key (visit_text bin_name function) [] root
 
--- what is taken where the script of the tree is written
+-- what the sink takes when the script of the tree is written
 pub generated : {S : Type 0} (taken : S → List ℕ) (failed : S → Failures) (root at : Tree) (result : Result (Unit {0}) Error) (old new : S) → at ≡ root
     → Writes taken failed result old new (fish_script at) → Generates taken failed fish_spec root result old new
 generated taken failed root at result old new is writes = of result (subst (λ tree. Writes taken failed result old new (fish_script tree)) is writes)

@@ -1,4 +1,4 @@
--- How a fish script is read: each command whose first word is `complete` is a record.
+-- The reading of a fish script: each command whose first word is `complete` is a record.
 use Rattle.std.specs.Prelude.{ℕ, List, [], ◌∷◌, ◌++◌, ◌==◌, true, false, Option, Some, None, if◌then◌else◌, codes, bytes_eq, map, option_map}
 use Rattle.cc_base.specs.Bytes.{space, semicolon}
 use Rattle.cc_base.specs.Found.{before_ending, pieces_from}
@@ -15,11 +15,11 @@ without_semicolon (byte ∷ bytes) = elim bytes [
   | _ ∷ _ ↦ byte ∷ without_semicolon bytes
 ]
 
--- the function that tells whether a name was seen
+-- the function that says whether a name was seen
 abbrev pub seen_function : List ℕ
 seen_function = codes "__fish_seen_subcommand_from"
 
--- what a piece is where no name is expected: `and`, `not`, the function, or none of them
+-- the meaning of a piece where no name is expected: `and`, `not`, the function, or none of them
 pub data PieceSign : Type 0 where
   is_and : PieceSign
   is_not : PieceSign
@@ -31,8 +31,8 @@ piece_sign piece =
     if bytes_eq piece (codes "and") then is_and else if bytes_eq piece (codes "not") then is_not
     else if bytes_eq piece seen_function then is_seen else is_other
 
--- what is expected next: a name of the path; `and`; after it `not` or the function; after `not` the
--- function; or nothing
+-- what is expected next: a name of the path; `and`; after that `not` or the function; after `not`
+-- the function; or nothing
 pub data Expected : Type 0 where
   a_name : Expected
   an_and : Expected
@@ -40,9 +40,9 @@ pub data Expected : Type 0 where
   a_seen : Expected
   nothing : Expected
 
--- The condition that the pieces give, after what was read of it so far: each name that follows the
--- function is the next of the path, and all names after `and not` and the function are excluded.
--- None where a piece is not what is expected.
+-- The condition of some pieces, after the part that has been read. Each name after the function is
+-- the next name of the path. All names after `and not` and the function are excluded. The result is
+-- `None` if a piece is not what is expected.
 abbrev pub condition_from : Expected → Condition → List (List ℕ) → Option Condition
 condition_from an_and when [] = Some when
 condition_from nothing when [] = Some when
@@ -64,12 +64,12 @@ condition_from a_seen when (piece ∷ pieces) = elim (piece_sign piece) [
 ]
 condition_from nothing when (piece ∷ pieces) = None
 
--- a condition that asks a function whose name begins so
+-- a condition that calls a function whose name begins with the given text
 abbrev pub asked : List ℕ → Condition
 asked function = record { function = function; path = []; excluded = [] }
 
--- the condition from the first piece on: after the function of a path its first name comes, after
--- that of the root nothing
+-- the condition from the first piece on: after the function of a path comes its first name, and
+-- after the function of the root comes nothing
 abbrev pub condition_of_pieces : List (List ℕ) → Option Condition
 condition_of_pieces [] = None
 condition_of_pieces (piece ∷ pieces) = elim (before_ending (codes "_using_subcommand") piece) [
@@ -80,25 +80,25 @@ condition_of_pieces (piece ∷ pieces) = elim (before_ending (codes "_using_subc
   ]
 ]
 
--- what the text of `-n` says
+-- the condition that the text of `-n` states
 abbrev pub condition_of : List ℕ → Option Condition
 condition_of text = condition_of_pieces (map without_semicolon (pieces_from space [] text))
 
 -- ---- the words of a record
 
--- the words of some commands, one after another; none where the last one is open at its end
+-- the words of some commands, one after another; `None` if the last command is open at its end
 abbrev pub joined_words : List (Option (List (List ℕ))) → Option (List (List ℕ))
 joined_words [] = Some []
 joined_words (None ∷ commands) = None
 joined_words (Some words ∷ commands) = option_map (λ later. words ++ later) (joined_words commands)
 
--- the words that the text of `-a` offers: it is read a second time, and a line feed there parts
--- words as a blank does
+-- the words that the text of `-a` offers; the text is read a second time, and a line feed in it
+-- separates words as a space does
 abbrev pub offered_of : List ℕ → Option (List (List ℕ))
 offered_of text = joined_words (fish_commands text)
 
--- what the word after an option of `complete` is: the program, the condition, a short, a long, the
--- description, or the text that is offered
+-- the meaning of the word after an option of `complete`: the program, the condition, a short, a
+-- long, the description, or the text that is offered
 pub data Operand : Type 0 where
   command : Operand
   condition : Operand
@@ -107,7 +107,7 @@ pub data Operand : Type 0 where
   description : Operand
   offer : Operand
 
--- what a word of a record is: an option that takes the next word, a mark, or neither
+-- the meaning of a word of a record: an option that takes the next word, a mark, or neither
 pub data OptionWord : Type 0 where
   takes : Operand → OptionWord
   marks_required : OptionWord
@@ -128,13 +128,13 @@ option_word word =
     else if bytes_eq word (codes "-F") then marks_files
     else unknown
 
--- what is told now, where nothing was told before
+-- a value, if none was given before
 abbrev pub told_once : {X Y : Type 0} → Option X → Option Y → Option Y
 told_once None now = now
 told_once (Some before) now = None
 
--- the record with one more operand; none where the condition or what is offered can't be read, or
--- where what a record says once is said again
+-- the record with one more operand; `None` if the condition or the offered text is malformed, or if
+-- the record gives twice what it may give once
 abbrev pub with_operand : Operand → List ℕ → Record → Option Record
 with_operand command word read = told_once read.command (Some (record read { command = Some word }))
 with_operand condition word read =
@@ -147,12 +147,12 @@ with_operand offer word read =
     told_once read.offered (option_map (λ words. record read { offered = Some words })
     (offered_of word))
 
--- the next word is an option or a mark, or an operand
+-- what the next word is: an option or a mark, or an operand
 pub data NextWord : Type 0 where
   an_option : NextWord
   the_operand : Operand → NextWord
 
--- the record that the words give, after what was read so far; none where a word is unknown or an
+-- the record that the words give, after the words read so far; `None` if a word is unknown or an
 -- operand is missing
 abbrev pub record_from : NextWord → Record → List (List ℕ) → Option Record
 record_from an_option read [] = Some read
@@ -186,8 +186,8 @@ no_record = record {
 
 -- ---- a script
 
--- the records of the commands whose first word is `complete`; none where one of them can't be read,
--- or where a quote or an escape is open at the end
+-- the records of the commands whose first word is `complete`; `None` if one of them is malformed,
+-- or if a quote or an escape is open at the end
 abbrev pub records_of : List (Option (List (List ℕ))) → Option (List Record)
 records_of [] = Some []
 records_of (None ∷ commands) = None

@@ -1,8 +1,8 @@
--- The records of a fish script, and when they hold.
+-- The records of a fish script, and the conditions under which they hold.
 use Rattle.std.specs.Prelude.{ℕ, List, [], Bool, Option, Some, None}
 
--- what is asked before a record holds: the beginning of the name of the function that is asked, the
--- names of a path, which were seen, and the names that are excluded, of which none was seen
+-- what a record requires: the beginning of the name of the function that is called, the names of a
+-- path, which must have been seen, and the excluded names, which must not have been seen
 pub record Condition : Type 0 where
   pub function : List ℕ
   pub path : List (List ℕ)
@@ -14,7 +14,7 @@ pub record Marks : Type 0 where
   pub no_files : Bool
   pub files : Bool
 
--- what a record says: the program, the condition where there is one, the shorts and longs, the
+-- the contents of a record: the program, the condition if there is one, the shorts and longs, the
 -- description, the marks, and the words that are offered
 pub record Record : Type 0 where
   pub command : Option (List ℕ)
@@ -25,7 +25,7 @@ pub record Record : Type 0 where
   pub marks : Marks
   pub offered : Option (List (List ℕ))
 
--- the path of a condition; without one it is that of the root
+-- the path of a condition; without a condition, the path of the root
 abbrev pub condition_path : Option Condition → List (List ℕ)
 condition_path None = []
 condition_path (Some condition) = condition.path

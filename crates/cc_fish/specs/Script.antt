@@ -17,7 +17,7 @@ use Rattle.cc_visits.specs.Visits.{Keyed, path_visits}
 use Rattle.cc_generator.specs.Subcommands.{sibling_names}
 use Rattle.cc_fish.specs.Table.{function_name, has_positionals}
 
--- ---- when the records of a node hold
+-- ---- the conditions of a node's records
 
 -- one more name of a path
 abbrev pub seen_text : List ℕ → List ℕ
@@ -30,17 +30,17 @@ spaced_name name = space ∷ name
 unfoldable pub not_seen : List ℕ
 not_seen = codes "; and not __fish_seen_subcommand_from"
 
--- that none of the children's names was seen, where there are children
+-- the text that excludes the names of the children, if there are children
 abbrev pub excluded_text : Forest → List ℕ
 excluded_text children =
     if has_nodes children then not_seen ++ flat_map spaced_name (sibling_names children) else []
 
--- the key of a node: the part of a condition that tells its path; the root's is empty
+-- the key of a node: the part of a condition that states its path, which is empty for the root
 abbrev pub fish_key : List ℕ → List ℕ → List ℕ
 fish_key [] name = codes "_using_subcommand " ++ name
 fish_key (byte ∷ bytes) name = (byte ∷ bytes) ++ seen_text name
 
--- the condition of the node with this key, from the name of the functions
+-- the condition of the node with the given key, from the name of the function on
 unfoldable pub key_condition : List ℕ → List ℕ → Forest → Option (List ℕ)
 key_condition function [] children =
     if has_nodes children then Some (codes "__fish_" ++ function ++ codes "_needs_command")
@@ -52,11 +52,11 @@ abbrev pub condition_text : Option (List ℕ) → List ℕ
 condition_text None = []
 condition_text (Some text) = codes " -n \"" ++ text ++ codes "\""
 
--- what each record of a node begins with
+-- the beginning of each record of a node
 unfoldable pub front_text : List ℕ → Option (List ℕ) → List ℕ
 front_text bin_name when = codes "complete -c " ++ bin_name ++ condition_text when
 
--- ---- the names and the help of an argument
+-- ---- the names and the help text of an argument
 
 abbrev pub short_text : ℕ → List ℕ
 short_text short = codes " -s " ++ encode_utf8 short
@@ -73,14 +73,14 @@ names_text argument =
     flat_map short_text (shown_shorts argument) ++ flat_map long_text (shown_longs argument)
     ++ help_text argument.help
 
--- ---- what an option's value may be
+-- ---- the values of an option
 
--- a value that is listed: its name, a tab and its help or nothing, quoted for two readings
+-- a listed value: its name, a tab and its help text if there is one, quoted to be read twice
 unfoldable pub value_text : PossibleValue → List ℕ
 value_text value = fish_quoted_for_eval value.name ++ codes "\\t"
     ++ fish_help_for_eval_of (unwrap_or value.help [])
 
--- the values of a list that are shown, each on a line of its own
+-- the listed values that are not hidden, each on its own line
 unfoldable pub value_lines : List PossibleValue → List ℕ
 value_lines values =
     joined (line_feed ∷ []) (map value_text (filter (λ value. not value.hide) values))
@@ -103,24 +103,24 @@ hint_text Username = codes " -r -f -a \"(__fish_complete_users)\""
 hint_text Hostname = codes " -r -f -a \"(__fish_print_hostnames)\""
 hint_text _ = codes " -r -f"
 
--- the listed values where there is a list, else what the hint tells
+-- the listed values if there are any, else what the hint asks for
 abbrev pub value_part : Option (List PossibleValue) → ValueHint → List ℕ
 value_part (Some values) hint = listed_text values
 value_part None hint = hint_text hint
 
--- what the value of an argument may be, where it takes one
+-- the values of an argument, if it takes any
 unfoldable pub values_text : Bool → Arg → List ℕ
 values_text true argument = value_part (possible_values argument) argument.value_hint
 values_text false argument = []
 
--- ---- the records of a node, each a line
+-- ---- the records of a node, each on a line
 
--- the record of an argument that takes values, or takes none
+-- the record of an argument; the flag says whether it takes values
 unfoldable pub argument_text : List ℕ → Bool → Arg → List ℕ
 argument_text front takes argument =
     front ++ names_text argument ++ values_text takes argument ++ line_feed ∷ []
 
--- the record of a child's name, which marks no files where the node has no positional
+-- the record of a child's name, which marks that no files are offered if the node has no positional
 unfoldable pub child_text : List ℕ → Bool → Option (List ℕ) → List ℕ → List ℕ
 child_text front no_files about name =
     front ++ (if no_files then codes " -f" else []) ++ codes " -a \"" ++ name ++ codes "\""
@@ -141,7 +141,7 @@ flags_text front node = flat_map (argument_text front false) (flags node)
 unfoldable pub below_text : List ℕ → Tree → List ℕ
 below_text front tree = children_text front (not (has_positionals tree.node)) tree.children
 
--- the records of a node: its options, its flags, its children's visible names
+-- the records of a node: of its options, of its flags, and of its children's visible names
 unfoldable pub node_text : List ℕ → Tree → List ℕ
 node_text front tree =
     options_text front tree.node ++ flags_text front tree.node ++ below_text front tree
@@ -154,7 +154,7 @@ visit_text bin_name function visit =
 
 -- ---- the head
 
--- a slash, where there is a long
+-- a slash, if there is a long
 abbrev pub slash_text : List (List ℕ) → List ℕ
 slash_text [] = []
 slash_text (long ∷ longs) = codes "/"
@@ -169,7 +169,7 @@ abbrev pub first_long : List (List ℕ) → List ℕ
 first_long [] = []
 first_long (long ∷ longs) = fish_escaped long
 
--- what `argparse` is told of an argument: short, slash and long, and `=` where it takes values
+-- what `argparse` receives for an argument: short, slash and long, and `=` if it takes values
 abbrev pub spec_word : Arg → List ℕ
 spec_word argument =
     first_short (shown_shorts argument) (shown_longs argument) ++ first_long (shown_longs argument)
@@ -178,59 +178,61 @@ spec_word argument =
 unfoldable pub spec_text : Arg → List ℕ
 spec_text argument = space ∷ spec_word argument
 
--- up to the program in the name of the function that prints what `argparse` is told
+-- the text before the program in the name of the function that prints what `argparse` receives
 unfoldable pub optspecs_begin : List ℕ
 optspecs_begin = codes "# Print an optspec for argparse to handle cmd's options that are independent of any subcommand.\nfunction __fish_"
 
--- from there up to what it prints
+-- the text after that, before what the function prints
 unfoldable pub optspecs_join : List ℕ
 optspecs_join = codes "_global_optspecs\n    string join \\n"
 
--- up to the program in the name of the function that tells whether no command was given yet
+-- the text before the program in the name of the function that says whether no command was given
+-- yet
 unfoldable pub needs_command_begin : List ℕ
 needs_command_begin = codes "\nend\n\nfunction __fish_"
 
--- from there up to the program in its call of the first function
+-- the text after that, before the program in the call of the first function
 unfoldable pub needs_command_parse : List ℕ
 needs_command_parse = codes "_needs_command\n    # Figure out if the current invocation already has a command.\n    set -l cmd (commandline -opc)\n    set -e cmd[1]\n    argparse -s (__fish_"
 
--- from there up to the program in the name of the function that tells which command was given
+-- the text after that, before the program in the name of the function that says which command was
+-- given
 unfoldable pub needs_command_end : List ℕ
 needs_command_end = codes "_global_optspecs) -- $cmd 2>/dev/null\n    or return\n    if set -q argv[1]\n        # Also print the command, so this can be used to figure out what it is.\n        echo $argv[1]\n        return 1\n    end\n    return 0\nend\n\nfunction __fish_"
 
--- from there up to the program in its call of the second function
+-- the text after that, before the program in the call of the second function
 unfoldable pub using_subcommand_call : List ℕ
 using_subcommand_call = codes "_using_subcommand\n    set -l cmd (__fish_"
 
--- from there on
+-- the text after that
 unfoldable pub using_subcommand_end : List ℕ
 using_subcommand_end =
     codes "_needs_command)\n    test -z \"$cmd\"\n    and return 1\n    contains -- $cmd[1] $argv\nend\n\n"
 
--- what `argparse` is told of the arguments that are no positionals
+-- what `argparse` receives for the arguments that are not positional
 abbrev pub specs_text : List Arg → List ℕ
 specs_text arguments =
     flat_map spec_text (filter (λ argument. not (is_positional argument)) arguments)
 
--- from the end of the first function on: the other two
+-- the text from the end of the first function on, with the other two
 unfoldable pub functions_text : List ℕ → List ℕ
 functions_text function =
     needs_command_begin ++ function ++ needs_command_parse ++ function ++ needs_command_end
     ++ function ++ using_subcommand_call ++ function ++ using_subcommand_end
 
--- the head, where the root has children: three functions, each named after the program
+-- the head, if the root has children: three functions, each named after the program
 unfoldable pub head_text : List ℕ → Tree → List ℕ
 head_text function root =
     if has_nodes root.children then optspecs_begin ++ function ++ optspecs_join
     ++ specs_text root.node.arguments ++ functions_text function
     else []
 
--- what opens the fixed texts of the other two
+-- unfolds the fixed texts of the other two
 unfoldable pub fixed_texts : ⊤
 unfolding needs_command_begin needs_command_parse needs_command_end using_subcommand_call using_subcommand_end
 fixed_texts = tt
 
--- ---- the whole
+-- ---- the whole script
 
 -- the records of all visible paths, path by path
 unfoldable pub body_text : List ℕ → List ℕ → Tree → List ℕ

@@ -1,4 +1,4 @@
-//! The fish script: a head where the root has children, then the records of each visible path.
+//! The fish script: a head if the root has children, then the records of each visible path.
 
 ghost use Rattle.std.specs.Prelude.{◌<◌, flat_map, length};
 ghost use Rattle.cc_base.specs.Writes.{Writes};
@@ -18,7 +18,7 @@ use cc_generator::Generator;
 use cc_visits::{PathStep, PathSteps};
 use std::alloc::Global;
 
-/// Writes fish scripts. The file of a program `N` is `N.fish`.
+/// The generator of fish scripts. The script of a program `N` goes into the file `N.fish`.
 #[derive(Clone, Copy, PartialEq, Eq, Debug)]
 pub struct Fish;
 

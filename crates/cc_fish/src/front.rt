@@ -1,4 +1,5 @@
-//! What each record of a node begins with: the command, and when the record holds.
+//! The beginning of each record of a node: the command, and the condition under which the record
+//! holds.
 
 ghost use Rattle.std.specs.Prelude.{◌≡◌, ◌++◌, [], flat_map, OnOk};
 ghost use Rattle.std.specs.String.{string_bytes};
@@ -17,7 +18,7 @@ use crate::texts::NOT_SEEN;
 use cc_command::Command;
 use std::alloc::AllocError;
 
-/// Puts what each record of a node begins with in place of the text.
+/// Replaces the text of `front` with the beginning of each record of a node.
 #[tactic(auto, unfolding(crate::specs::Script::front_text))]
 pub(crate) fn set_front(
     front: &mut String,
@@ -55,7 +56,8 @@ fn push_condition(
     front.push_str("\"")
 }
 
-// The records of the root hold until a subcommand is given. Without children there is none to give.
+// The records of the root hold until a subcommand is given. Without children, no subcommand can be
+// given.
 #[tactic(auto, unfolding(crate::specs::Script::key_condition))]
 fn push_root(front: &mut String, function: &str, command: &Command) -> Result<(), AllocError>
     ensures { OnOk result (string_bytes front.new ≡ string_bytes front.old
@@ -69,7 +71,7 @@ fn push_root(front: &mut String, function: &str, command: &Command) -> Result<()
     front.push_str("_needs_command\"")
 }
 
-// Once a child's name is given, the records of the child hold in place of these.
+// Once the name of a child is given, the records of the child hold instead.
 fn push_excluded(front: &mut String, command: &Command) -> Result<(), AllocError>
     ensures { OnOk result (string_bytes front.new
         ≡ string_bytes front.old ++ excluded_text command.now.children) }

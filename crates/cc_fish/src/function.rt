@@ -7,7 +7,7 @@ ghost use Rattle.cc_fish.specs.Table.{function_name};
 use cc_quote::{Replace, escape_text};
 use std::alloc::{AllocError, Global};
 
-/// The bin name with `-` as `_`.
+/// Returns the bin name with `_` for each `-`.
 pub(crate) fn function_name(alloc: Global, bin_name: &str) -> Result<String, AllocError>
     ensures { IfOk result (λ name. string_bytes name ≡ function_name bin_name.now) }
 {

@@ -1,4 +1,4 @@
-//! What a script begins with, where the root has children.
+//! The beginning of a script whose root has children.
 
 ghost use Rattle.std.specs.Prelude.{◌≡◌, filter, flat_map, not, codes, [], if◌then◌else◌};
 ghost use Rattle.cc_arg.specs.Arguments.{is_positional, takes_values};
@@ -23,7 +23,11 @@ use cc_command::Command;
 use cc_quote::{FishEscape, put_escaped};
 use std::io::ErrorKind;
 
-/// Fails with the kind of the put that failed.
+/// Writes the head, which is empty if the root has no children.
+///
+/// # Errors
+///
+/// The kind of the put that failed.
 #[tactic(auto, unfolding(crate::specs::Script::head_text))]
 pub(crate) fn write_head<W: Sink>(
     sink: &mut W,
@@ -41,7 +45,7 @@ pub(crate) fn write_head<W: Sink>(
     write_functions(sink, function)
 }
 
-// From the end of the first function on.
+// Writes the functions, from the end of the first one on.
 #[tactic(auto, unfolding(crate::specs::Script::functions_text, crate::specs::Script::fixed_texts))]
 fn write_functions<W: Sink>(sink: &mut W, function: &str) -> Result<(), ErrorKind>
     ensures { Writes W.taken W.failed (as_write result) sink.old sink.new
@@ -107,7 +111,7 @@ fn write_first_long<W: Sink>(sink: &mut W, argument: &Arg) -> Result<(), ErrorKi
     put_escaped(sink, &FishEscape, long)
 }
 
-// `argparse` takes a short and a long with a slash between them as one option.
+// Returns the slash between a short and a long, which `argparse` takes as one option.
 fn slash(argument: &Arg) -> &'static str
     ensures { result.now ≡ slash_text (shown_longs argument.now) }
 {
@@ -118,7 +122,7 @@ fn slash(argument: &Arg) -> &'static str
     }
 }
 
-// `argparse` takes `=` after the names to mean that a value follows.
+// Returns `=` if a value follows, as `argparse` expects it after the names.
 fn equals(argument: &Arg) -> &'static str
     ensures { result.now ≡ (if takes_values argument.now then codes "=" else []) }
 {

@@ -1,4 +1,4 @@
-//! The keys of nodes: the part of a condition that tells the path.
+//! The keys of nodes: the part of a condition that states the path.
 
 use cc_base::Text;
 use cc_visits::{Joined, KeyScheme};
@@ -12,7 +12,7 @@ const FURTHER: Joined<'static> = Joined {
     separator: "; and __fish_seen_subcommand_from ",
 };
 
-/// The part of a condition that tells the path of a node: empty at the root.
+/// The part of a condition that states the path of a node. It is empty for the root.
 #[derive(Drop)]
 pub struct FishKeys;
 

@@ -31,7 +31,8 @@ use cc_quote::{FishEscape, put_escaped};
 use cc_visits::Visit;
 use std::io::ErrorKind;
 
-/// `front` is where what each record begins with is made; what it holds before is dropped.
+/// Writes the records of a visit. `front` is a buffer for the beginning of each record; its old
+/// text is dropped.
 #[tactic(auto, unfolding(crate::specs::Script::visit_text))]
 pub(crate) fn write_visit<W: Sink>(
     sink: &mut W,
@@ -47,7 +48,7 @@ pub(crate) fn write_visit<W: Sink>(
     Ok(write_node(sink, front.as_str(), visit.command)?)
 }
 
-// Each record begins with the front.
+// Writes the records of a node, each after the front.
 #[tactic(auto, unfolding(crate::specs::Script::node_text, crate::specs::Script::options_text, crate::specs::Script::flags_text))]
 fn write_node<W: Sink>(sink: &mut W, front: &str, command: &Command) -> Result<(), ErrorKind>
     ensures { Writes W.taken W.failed (as_write result) sink.old sink.new
@@ -58,7 +59,7 @@ fn write_node<W: Sink>(sink: &mut W, front: &str, command: &Command) -> Result<(
     write_below(sink, front, command)
 }
 
-// Options take values, flags take none.
+// Writes the records of options, which take values, or of flags, which take none.
 fn write_arguments<W: Sink>(
     sink: &mut W,
     front: &str,
@@ -136,7 +137,7 @@ fn write_long<W: Sink>(sink: &mut W, long: &str) -> Result<(), ErrorKind>
     put_escaped(sink, &FishEscape, long)
 }
 
-// The help of an argument, or the about of a child.
+// Writes the help text of an argument, or the about text of a child.
 #[tactic(auto, unfolding(cc_quote::specs::FishQuote::fish_escaped))]
 fn write_help<W: Sink>(sink: &mut W, help: Option<&str>) -> Result<(), ErrorKind>
     ensures { Writes W.taken W.failed (as_write result) sink.old sink.new
@@ -217,7 +218,7 @@ fn write_name<W: Sink>(
     put_piece(sink, "\n")
 }
 
-// Where the node has no positional, no file may follow.
+// Returns the mark that no file may follow, if the node has no positional.
 fn no_files_mark(no_files: bool) -> &'static str
     ensures { result.now ≡ (if no_files then codes " -f" else []) }
 {

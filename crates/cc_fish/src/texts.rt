@@ -1,4 +1,4 @@
-//! The fixed texts of a script, as the definitions have them.
+//! The fixed texts of a script, which equal those of the definitions.
 
 pub(crate) const OPTSPECS_BEGIN: &str =
     "# Print an optspec for argparse to handle cmd's options that are independent of any subcommand.

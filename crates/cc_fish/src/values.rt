@@ -1,4 +1,4 @@
-//! What a record says of an option's values.
+//! The values of an option in a record.
 
 ghost use Rattle.std.specs.Prelude.{◌≡◌, ◌++◌, ◌∷◌, [], not, true, unwrap_or, OnOk, Some};
 ghost use Rattle.cc_base.specs.Bytes.{line_feed};
@@ -18,7 +18,7 @@ use cc_base::{Sink, put_piece, put_separator};
 use cc_quote::{put_fish_help_for_eval, put_fish_quoted_for_eval};
 use std::io::ErrorKind;
 
-/// Nothing, where the argument takes no values.
+/// Writes the values of an argument, or nothing if it takes none.
 #[tactic(auto, unfolding(crate::specs::Script::values_text))]
 pub(crate) fn write_values<W: Sink>(
     sink: &mut W,
@@ -84,7 +84,7 @@ fn write_value<W: Sink>(
     put_fish_help_for_eval(sink, value.get_help().unwrap_or(""))
 }
 
-// A value follows, and fish offers what it does by default.
+// A value follows, and fish offers its default completions.
 const BY_DEFAULT: &str = " -r";
 
 // A value follows, and files are offered.
@@ -93,7 +93,7 @@ const FILES: &str = " -r -F";
 // A value follows, and nothing is offered.
 const NOTHING: &str = " -r -f";
 
-// A value follows, and one of fish's functions offers such values.
+// A value follows, and a function of fish offers values of its kind.
 const DIRECTORIES: &str = " -r -f -a \"(__fish_complete_directories)\"";
 
 const COMMANDS: &str = " -r -f -a \"(__fish_complete_command)\"";
@@ -102,7 +102,7 @@ const USERS: &str = " -r -f -a \"(__fish_complete_users)\"";
 
 const HOSTS: &str = " -r -f -a \"(__fish_print_hostnames)\"";
 
-// Where no values are listed.
+// Returns the marks of an option whose possible values are not listed.
 #[tactic(auto, unfolding(crate::specs::Script::hint_text))]
 fn hint_marks(hint: ValueHint) -> &'static str
     ensures { result.now ≡ hint_text hint }

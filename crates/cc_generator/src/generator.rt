@@ -1,4 +1,4 @@
-//! What every generator does.
+//! The interface of every generator, and the call that builds a command and writes its script.
 
 ghost use Rattle.std.specs.Prelude.{◌≡◌, Some, IsTrue, IfOk, IfErr, OnOk};
 ghost use Rattle.std.specs.String.{string_bytes};
@@ -14,26 +14,35 @@ use std::alloc::Global;
 
 /// A generator of completion scripts for one shell.
 pub trait Generator {
-    // what is said of the scripts: their text, what they read to, their labels, their files
+    // the specification of the scripts: their text, what they read back to, their labels and their
+    // files
     ghost spec: { Self → ShellSpec };
 
-    /// The name of the file that the shell looks for, for a program of this name. Fails with
-    /// `Memory` alone.
+    /// Returns the name of the file that the shell looks for if the program is called `name`.
+    ///
+    /// # Errors
+    ///
+    /// `Memory` if an allocation fails.
     fn file_name(&self, alloc: Global, name: &str) -> Result<String, Error>
         ensures ok { IfOk result (λ text. string_bytes text ≡ (spec self.now).file name.now) }
         ensures memory { IfErr result (λ error. error ≡ Error.Memory) };
 
-    /// Writes the script of a command that is built and has a bin name, piece by piece.
+    /// Writes the script of a `command` to `sink`, piece by piece. The command must be built and
+    /// have a bin name.
     ///
-    /// Fails with `Write` where the sink failed; with `LabelClash`, before anything is written,
-    /// where the script needs labels and two nodes share one; and with `Memory`. How much the sink
-    /// took before it fails with `Write` or `Memory` is left open.
+    /// # Errors
+    ///
+    /// - `LabelClash` if the script needs labels and two nodes share one. Nothing is written then.
+    /// - `Write` if the sink fails.
+    /// - `Memory` if an allocation fails.
+    ///
+    /// After `Write` or `Memory`, the sink may hold part of the script.
     fn generate<W: Sink>(&self, alloc: Global, command: &Command, sink: &mut W) -> Result<(), Error>
         requires ready { IsReady command.now }
         ensures { Generates W.taken W.failed (spec self.now) command.now result
             sink.old sink.new };
 
-    /// The same as `generate`.
+    /// Writes the script as [`Generator::generate`] does, with the same errors.
     fn try_generate<W: Sink>(
         &self,
         alloc: Global,
@@ -48,12 +57,17 @@ pub trait Generator {
     }
 }
 
-/// Sets the bin name, builds the command and writes the generator's script, which reads back where
-/// the command and the bin name are plain. What a bash script says at each command reads back where
-/// the possible values are quiet too (`Command::has_quiet_values`), which building leaves as it is.
+/// Sets the bin name, builds `command` and writes the script of `generator` to `sink`.
 ///
-/// Fails with `Memory`, and as `Generator::generate` does. Where the build fails, the command stays
-/// as it was and nothing is written; where a later step fails, the command stays built.
+/// The script reads back if the command and the bin name are plain. What a bash script offers at each
+/// command reads back if the possible values are quiet too (`Command::has_quiet_values`). Building a
+/// command keeps its values quiet.
+///
+/// # Errors
+///
+/// `Memory` if an allocation fails, and the errors of [`Generator::generate`]. If the build fails,
+/// the command stays as it was and nothing is written. If a later step fails, the command stays
+/// built.
 pub fn generate<G: Generator + Drop, W: Sink>(
     alloc: Global,
     generator: G,

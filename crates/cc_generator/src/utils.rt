@@ -1,4 +1,4 @@
-//! Lists of names, in the forms in which `clap_complete` offers them.
+//! Lists of names, in the forms in which `clap_complete` returns them.
 
 ghost use Rattle.std.specs.Prelude.{◌≡◌, ◌++◌, ◌∷◌, [], map, true, IfOk, IfErr, OnOk};
 ghost use Rattle.std.specs.Option.{option_copied};
@@ -14,8 +14,12 @@ use cc_base::{Error, Text};
 use cc_command::{Command, full_name};
 use std::alloc::{AllocError, Global};
 
-/// The names of the children: of each its name, then each visible alias, with the child's full
-/// name. Fails with `Memory` alone.
+/// Returns the visible names of the children of `command`: for each child its name and then its
+/// visible aliases. Each comes with the full name of the child.
+///
+/// # Errors
+///
+/// `Memory` if an allocation fails.
 pub fn subcommands(alloc: Global, command: &Command) -> Result<Vec<(String, String)>, Error>
     requires built { command.now.node.built ≡ true }
     ensures ok { IfOk result (λ found. texts_of found.items
@@ -27,8 +31,12 @@ pub fn subcommands(alloc: Global, command: &Command) -> Result<Vec<(String, Stri
     Ok(found)
 }
 
-/// The names of all commands below: `subcommands`, then the same of each child in turn and of all
-/// below it. Fails with `Memory` alone.
+/// Returns the names of all commands below `command`: those that [`subcommands`] returns, then for
+/// each child the names of all commands below it.
+///
+/// # Errors
+///
+/// `Memory` if an allocation fails.
 pub fn all_subcommands(alloc: Global, command: &Command) -> Result<Vec<(String, String)>, Error>
     requires built { command.now.node.built ≡ true }
     ensures ok { IfOk result (λ found. texts_of found.items
@@ -40,8 +48,8 @@ pub fn all_subcommands(alloc: Global, command: &Command) -> Result<Vec<(String, 
     Ok(found)
 }
 
-/// The command that a path of words leads to: each word leads to the first child with that name or
-/// alias. `None` where a word leads to no child.
+/// Returns the command to which a `path` of words leads. Each word leads to the first child with
+/// that name or alias. Returns `None` if a word leads to no child.
 pub fn find_subcommand_with_path<'a>(command: &'a Command, path: &[&str]) -> Option<&'a Command>
     ensures { option_copied result ≡ find_path command.now (map (λ word. word.now) path.now) }
 {
@@ -52,7 +60,7 @@ pub fn find_subcommand_with_path<'a>(command: &'a Command, path: &[&str]) -> Opt
     Some(found)
 }
 
-// Adds the names of siblings, then those of all below them.
+// Adds the names of siblings, then those of all commands below them.
 fn push_all(
     found: &mut Vec<(String, String)>,
     alloc: Global,
@@ -101,7 +109,7 @@ fn push_named(
     Ok(())
 }
 
-// Adds a name with the full name of its command.
+// Adds a name and the full name of its command.
 fn push_pair(
     found: &mut Vec<(String, String)>,
     alloc: Global,
@@ -118,7 +126,11 @@ fn push_pair(
     Ok(())
 }
 
-/// The arguments that are no positionals and take no values, in order. Fails with `Memory` alone.
+/// Returns the arguments of `command` that are not positional and take no values, in order.
+///
+/// # Errors
+///
+/// `Memory` if an allocation fails.
 pub fn flags<'a>(alloc: Global, command: &'a Command) -> Result<Vec<&'a Arg>, Error>
     ensures ok { IfOk result
         (λ found. map (λ argument. argument.now) found.items ≡ flags command.now.node) }
@@ -131,8 +143,12 @@ pub fn flags<'a>(alloc: Global, command: &'a Command) -> Result<Vec<&'a Arg>, Er
     Ok(found)
 }
 
-/// The shorts: of each argument that has one its visible aliases, then the short itself. Fails with
-/// `Memory` alone.
+/// Returns the shorts of `command`: for each argument with a short its visible aliases, then the
+/// short itself.
+///
+/// # Errors
+///
+/// `Memory` if an allocation fails.
 #[tactic(auto, unfolding(crate::specs::ArgumentNames::all_shorts))]
 pub fn shorts_and_visible_aliases(alloc: Global, command: &Command) -> Result<Vec<char>, Error>
     ensures ok { IfOk result (λ shorts. shorts.items ≡ all_shorts command.now.node.arguments) }
@@ -158,8 +174,12 @@ fn push_shorts(shorts: &mut Vec<char>, argument: &Arg) -> Result<(), AllocError>
     Ok(())
 }
 
-/// The longs: of each argument that has one its visible aliases, then the long itself. Fails with
-/// `Memory` alone.
+/// Returns the longs of `command`: for each argument with a long its visible aliases, then the long
+/// itself.
+///
+/// # Errors
+///
+/// `Memory` if an allocation fails.
 #[tactic(auto, unfolding(crate::specs::ArgumentNames::all_longs))]
 pub fn longs_and_visible_aliases(alloc: Global, command: &Command) -> Result<Vec<String>, Error>
     ensures ok { IfOk result

@@ -1,4 +1,4 @@
--- The reader of a text between two `"` of bash goes on by a character as by its bytes.
+-- The reader of a text between two `"` in bash reads a character as it reads its bytes.
 use Rattle.std.proofs.Common.{inl, inr, refl}
 use Rattle.cc_quote.specs.BashDouble.{double_next}
 use Rattle.cc_quote.specs.PosixQuote.{posix_added}

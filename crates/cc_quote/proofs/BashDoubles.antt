@@ -1,4 +1,4 @@
--- What an escaped text between two `"` of bash is read as.
+-- The reading of an escaped text between two `"` in bash.
 use Rattle.std.specs.Prelude.{⊤}
 use Rattle.std.proofs.Common.{subst, ◌≡◌, ◌==◌, ℕ, Bool, true, false, cond, List, [], ◌∷◌, ◌++◌, Option, Some, None, codes, refl, sym, ◌∙◌, ap, arith, append_assoc, append-nil}
 use Rattle.std.proofs.lemmas.Bool.Decides.{Decides-eqb, nat_tests}
@@ -12,7 +12,7 @@ use Rattle.cc_quote.specs.WordReader.{ended, word_from}
 use Rattle.cc_quote.specs.declared.posix.QuoteState.{QuoteState}
 use Rattle.cc_quote.specs.declared.posix.QuoteState.TheVariants.{Bare, InDouble, InDoubleEscaped}
 
--- what a byte that is not marked is to the reader
+-- the meaning of a byte that needs no backslash
 abbrev IsKept : Sign → Type 0
 IsKept double_quote = ⊥
 IsKept backslash = ⊥
@@ -26,7 +26,7 @@ kept byte h backslash e = grind (arith, nat_tests)
 kept byte h (special b) e = grind (arith, nat_tests)
 kept byte h s e = tt
 
--- the bytes that are marked
+-- the bytes that need a backslash
 marked_cases : (byte : ℕ) (P : ℕ → Type 0) → is_double_marked byte ≡ true → P 92 → P 34 → P 36 → P 96 → P byte
 marked_cases byte P h a b c d = by_tests (byte == ascii.backslash) (byte == ascii.double_quote) (byte == ascii.dollar) (byte == ascii.backtick) refl refl refl refl
   where
@@ -37,13 +37,13 @@ marked_cases byte P h a b c d = by_tests (byte == ascii.backslash) (byte == asci
     by_tests false false false true e f g i = subst P (sym ((Decides-eqb byte ascii.backtick).0 i)) d
     by_tests false false false false e f g i = absurd (grind (arith, nat_tests))
 
--- ---- an escaped text, by a reader that is within `"` as that of words is
+-- ---- an escaped text, for any reader that behaves within `"` as the reader of words does
 
 module _ (next : QuoteState → ℕ → Option QuoteState) (in_double : (c : ℕ) → next InDouble c ≡ posix_next InDouble c) (escaped : (c : ℕ) → next InDoubleEscaped c ≡ posix_next InDoubleEscaped c) where
   abbrev from : QuoteState → List ℕ → List ℕ → Option (List ℕ × List ℕ)
   from state word text = word_from next posix_added is_bare state word text
 
-  -- the reading over a byte, by the state after it
+  -- the reading from a byte on, given the state after it
   abbrev resumed : QuoteState → List ℕ → ℕ → List ℕ → Option QuoteState → Option (List ℕ × List ℕ)
   resumed state word byte rest after = elim after [
     | Some then ↦ from then (posix_added state byte word (byte ∷ [])) rest
@@ -84,7 +84,7 @@ module _ (next : QuoteState → ℕ → Option QuoteState) (in_double : (c : ℕ
       ∙ doubled text rest (word ++ byte ∷ [])
       ∙ ap (λ w. from InDouble w rest) (append_assoc word (byte ∷ []) text)
 
--- between `"`, whatever follows
+-- an escaped text between two `"`, whatever follows
 doubled_reads : (text rest : List ℕ) → bash_double_of (codes "\"" ++ (bash_doubled text ++ (codes "\"" ++ rest))) ≡ Some (text, rest)
 unfolding bash_double_of bash_double_from sign
 doubled_reads text rest = doubled double_next (λ c. refl) (λ c. refl) text (ascii.double_quote ∷ rest) [] ∙ left text rest
@@ -93,7 +93,7 @@ doubled_reads text rest = doubled double_next (λ c. refl) (λ c. refl) text (as
     left word [] = refl
     left word (byte ∷ rest) = refl
 
--- as a word, before a space
+-- an escaped text in `"`, read as a word, before a space
 pub doubled_is_word : (text rest : List ℕ) → posix_word_of (codes "\"" ++ (bash_doubled text ++ (codes "\"" ++ (ascii.space ∷ rest)))) ≡ Some (text, ascii.space ∷ rest)
 unfolding posix_word_of posix_word_from sign
 doubled_is_word text rest = doubled posix_next (λ c. refl) (λ c. refl) text (ascii.double_quote ∷ ascii.space ∷ rest) []

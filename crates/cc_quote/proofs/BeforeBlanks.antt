@@ -1,4 +1,4 @@
--- Words of posix shells, Elvish, PowerShell and fish before a space, whatever follows it.
+-- Words of POSIX shells, Elvish, PowerShell and fish before a space, whatever follows it.
 use Rattle.std.proofs.Common.{◌≡◌, ◌≢◌, ℕ, Bool, true, false, cond, List, [], ◌∷◌, ◌++◌, map, Some, None, codes, inl, inr, refl, sym, ◌∙◌, ap, arith, append_assoc}
 use Rattle.std.specs.List.{list_all}
 use Rattle.std.proofs.lemmas.Bool.{and_parts, cases_Bool}
@@ -23,7 +23,7 @@ use Rattle.cc_quote.proofs.PosixWords.{goes_on, safe_sign, bare_run, escaped_tex
 use Rattle.cc_quote.proofs.FishWords.{safe_sign as fish_safe_sign, safe_bytes, fish_quoted_read}
 use Rattle.cc_quote.proofs.FishReaders.{word_goes_on}
 
--- whether a text begins with a byte that is no blank
+-- the text begins with a byte that is not whitespace
 abbrev pub BeginsBare : List ℕ → Type 0
 BeginsBare [] = ⊥
 BeginsBare (byte ∷ text) = is_blank byte ≡ false
@@ -32,13 +32,13 @@ pub bare_first : (text : List ℕ) → BeginsBare text → without_blanks text �
 bare_first [] h = absurd h
 bare_first (byte ∷ text) h = no_blank_first byte text h
 
--- ---- posix shells
+-- ---- POSIX shells
 
 posix_safe_not_blank : (byte : ℕ) → is_posix_safe byte ≡ true → is_blank byte ≡ false
 unfolding is_posix_safe
 posix_safe_not_blank byte h = grind (arith, nat_tests)
 
--- a word that is quoted where it must be, before a byte at which it ends
+-- a word, quoted if it needs quotes, before a byte at which it ends
 module _ (end : ℕ) (rest : List ℕ)
     (ends : (word : List ℕ) → posix_word_from Bare word (end ∷ rest) ≡ Some (word, end ∷ rest)) where
   abbrev IsBefore : List ℕ → List ℕ → Type 0
@@ -69,12 +69,12 @@ module _ (end : ℕ) (rest : List ℕ)
       by_test true is = safe_word text is
       by_test false is = (refl, ap (λ t. posix_word_of (single_quote ∷ t)) (append_assoc (posix_escaped text) (codes "'") (end ∷ rest)) ∙ quoted_word text)
 
--- a quoted word begins with no blank, and is read up to the space
+-- a quoted word does not begin with whitespace, and is read up to the space
 pub posix_before_space : (text rest : List ℕ) → BeginsBare (posix_quoted text ++ space ∷ rest) × (posix_word_of (posix_quoted text ++ space ∷ rest) ≡ Some (text, space ∷ rest))
 unfolding posix_word_from sign byte_of
 posix_before_space text rest = before space rest (λ word. refl) text
 
--- and up to a line feed
+-- the same up to a line feed
 pub posix_before_line_feed : (text rest : List ℕ) → BeginsBare (posix_quoted text ++ line_feed ∷ rest) × (posix_word_of (posix_quoted text ++ line_feed ∷ rest) ≡ Some (text, line_feed ∷ rest))
 unfolding posix_word_from sign byte_of
 posix_before_line_feed text rest = before line_feed rest (λ word. refl) text
@@ -109,14 +109,14 @@ safe_clear (byte ∷ text) h =
     let parts = and_parts (is_posix_safe byte) (list_all is_posix_safe text) h in
     (posix_safe_not_blank byte parts.0, safe_clear text parts.1)
 
--- such a byte begins no quote
+-- a byte that needs no quotes does not begin a quote
 safe_no_quote : (byte special : ℕ) → is_posix_safe byte ≡ true → is_posix_safe special ≡ false → byte ≢ special
 safe_no_quote byte special h k = λ same. let wrong : true ≡ false = sym h ∙ ap is_posix_safe same ∙ k in cc
 
 first_byte : (a b : ℕ) (xs ys : List ℕ) → a ∷ xs ≡ b ∷ ys → a ≡ b
 first_byte a b xs ys h = cc
 
--- a word that needs no quotes of a posix shell is a bare word of Elvish
+-- a word that needs no quotes in a POSIX shell is a bare word of Elvish
 pub elvish_before_space : (text rest : List ℕ) → is_posix_safe_word text ≡ true → BeginsBare (text ++ space ∷ rest) × (elvish_word_of (text ++ space ∷ rest) ≡ Some (text, space ∷ rest))
 unfolding is_posix_safe_word is_posix_safe
 elvish_before_space [] rest h = cc
@@ -128,7 +128,7 @@ elvish_before_space (byte ∷ text) rest h =
           (elvish_begins_none (byte ∷ text ++ space ∷ rest) (λ more e. safe_no_quote byte single_quote parts.0 refl (first_byte byte single_quote (text ++ space ∷ rest) more e))) clear,
     )
 
--- and one of PowerShell
+-- the same for PowerShell
 pub powershell_before_space : (text rest : List ℕ) → is_posix_safe_word text ≡ true → BeginsBare (text ++ space ∷ rest) × (powershell_word_of (text ++ space ∷ rest) ≡ Some (text, space ∷ rest))
 unfolding is_posix_safe_word is_posix_safe
 powershell_before_space [] rest h = cc

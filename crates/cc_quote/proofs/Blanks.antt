@@ -1,4 +1,4 @@
--- Where the first blank of a text is.
+-- The first whitespace of a text.
 use Rattle.std.proofs.Common.{◌≡◌, ℕ, suc, ◌<◌, ◌≤◌, Bool, true, false, List, [], ◌∷◌, ◌++◌, length, get_or, take, drop, Option, Some, None, MatchOption, unwrap_or, sym, ◌∙◌, ap, subst, inl, inr, ⊎_elim, arith}
 use Rattle.std.specs.Char.{char_set_contains}
 use Rattle.std.specs.Str.{NoCharPasses, NonePass}
@@ -13,12 +13,12 @@ use Rattle.cc_base.specs.Bytes.{is_blank, line_feed, space, tab}
 pub blanks_are : (x : ℕ) → char_set_contains (space ∷ tab ∷ line_feed ∷ []) x ≡ is_blank x
 blanks_are x = grind (arith, nat_tests)
 
--- a blank is one byte
+-- each whitespace character is one byte
 pub is_blank-low : (x : ℕ) → is_blank x ≡ true → x < 128
 is_blank-low x h = grind (arith, nat_tests)
 
 module _ (F : List ℕ → Option (ℕ × ℕ) → Type 0) (text : List ℕ) (tells : (r : Option (ℕ × ℕ)) → F text r → FindsBy is_blank text r) where
-  -- the text is cut where the search for a blank stopped
+  -- the text is cut where the search for whitespace stopped
   pub cut_at_found : (found : Option ℕ) → MatchOption found (F text None) (MatchBeginsAt F text) → IsCutAtBlank text (take (unwrap_or found (length text)) text) (drop (unwrap_or found (length text)) text)
   cut_at_found None h = record {
     whole = sym (take-append-drop (length text) text);
@@ -36,12 +36,12 @@ module _ (F : List ℕ → Option (ℕ × ℕ) → Type 0) (text : List ℕ) (te
             (b, drop j text, told.1.1, told.1.2.split ∙ ap (λ (bs : List ℕ). bs ++ drop j text) (encode_ascii b (is_blank-low b told.1.1)));
       }
 
--- no item of a list passes a test that none passes where it is read
+-- no item of a list passes a test, if none passes it by its index
 NonePass-from_reads : (p : ℕ → Bool) (xs : List ℕ) → ((k : ℕ) → k < length xs → p (get_or xs k 0) ≡ false) → NonePass p xs
 NonePass-from_reads p [] h = tt
 NonePass-from_reads p (x ∷ xs) h = (h 0 (omega arith), NonePass-from_reads p xs (λ k l. h (suc k) (omega arith)))
 
--- no byte of a text of which no character is a blank is a blank
+-- if no character of a text is whitespace, no byte of it is
 pub bytes_no_blank : (front : List ℕ) → NoCharPasses is_blank front → NonePass is_blank front
 bytes_no_blank front h =
     NonePass-from_reads is_blank front

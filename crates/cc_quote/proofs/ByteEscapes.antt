@@ -1,4 +1,4 @@
--- How an escape that goes byte by byte cuts a text at its first escaped byte, and two such escapes as one.
+-- An escape by bytes cuts a text at its first escaped byte. Two such escapes are one.
 use Rattle.std.proofs.Common.{◌≡◌, ◌∙◌, ℕ, suc, ◌<◌, ◌+◌, Bool, true, false, List, [], ◌∷◌, ◌++◌, length, get_or, take, drop, flat_map, refl, sym, ap, arith, ⊎_elim, add-one, append_assoc, drop-cons, Some}
 use Rattle.std.proofs.lemmas.List.{take-append-drop, get_or-take, length-take-le}
 use Rattle.std.proofs.lemmas.List.Concat.{flat_map-append}
@@ -6,12 +6,12 @@ use Rattle.std.proofs.lemmas.Bool.{cases_Bool}
 use Rattle.memchr.specs.Find.{Nowhere, Passes, NoneBefore}
 use Rattle.cc_quote.specs.Escapes.{escaped_byte, escaped_by, replacement_by}
 
--- where two escapes write the same for each byte, they do for a text
+-- if two escapes write the same for each byte, they write the same for a text
 pub same_bytes : (one other : ℕ → List ℕ) → ((byte : ℕ) → one byte ≡ other byte) → (text : List ℕ) → flat_map one text ≡ flat_map other text
 same_bytes one other same [] = refl
 same_bytes one other same (byte ∷ text) = ap (λ bytes. bytes ++ flat_map one text) (same byte) ∙ ap (λ bytes. other byte ++ bytes) (same_bytes one other same text)
 
--- an escape of what another wrote
+-- an escape of an escaped text
 pub composed : (first second : ℕ → List ℕ) (text : List ℕ) → flat_map (λ byte. flat_map second (first byte)) text ≡ flat_map second (flat_map first text)
 composed first second [] = refl
 composed first second (byte ∷ text) =
@@ -23,11 +23,11 @@ module _ (escapes : ℕ → Bool) (replacement : ℕ → List ℕ) where
   kept_byte : (byte : ℕ) → escapes byte ≡ false → escaped_byte escapes replacement byte ≡ byte ∷ []
   kept_byte byte is = rw is
 
-  -- a byte that is
+  -- a byte that is escaped
   pub replaced_byte : (byte : ℕ) → escapes byte ≡ true → escaped_byte escapes replacement byte ≡ replacement byte
   replaced_byte byte is = rw is
 
-  -- what stands for it
+  -- the replacement of a byte that is escaped
   pub replacement_is : (byte : ℕ) (text : List ℕ) → escapes byte ≡ true → Some text ≡ replacement_by escapes replacement byte → text ≡ replacement byte
   replacement_is byte text is e = let same : Some text ≡ Some (replacement byte) = rw is at e in cc
 
@@ -43,7 +43,7 @@ module _ (escapes : ℕ → Bool) (replacement : ℕ → List ℕ) where
   pub kept_whole : (text searched : List ℕ) → searched ≡ text → Nowhere (Passes escapes searched) 0 (length searched) → escaped_by escapes replacement text ≡ text
   kept_whole text searched e none = rw e at (kept_run searched (λ k l. none k (omega arith) l))
 
-  -- a text whose first escaped byte is the k-th
+  -- a text with `k` as the index of its first escaped byte
   pub first_escaped : (text searched : List ℕ) (k : ℕ) → searched ≡ text → NoneBefore (Passes escapes searched) 0 (length searched) k × Passes escapes searched k
       → escaped_by escapes replacement text ≡ take k text ++ replacement (get_or searched k 0) ++ escaped_by escapes replacement (drop (k + 1) text)
   first_escaped text searched k e found =

@@ -1,4 +1,4 @@
--- A reader of words goes on by a character as by its bytes.
+-- A reader of words reads a character as it reads its bytes.
 use Rattle.std.proofs.Common.{◌≡◌, ◌≢◌, ◌==◌, ℕ, ◌≤◌, Bool, true, false, cond, List, [], ◌∷◌, ◌++◌, Option, Some, None, unwrap_or, encode_utf8, inl, inr, refl, sym, ◌∙◌, ap, append_assoc, append-nil}
 use Rattle.std.proofs.lemmas.Bool.Decides.{Decides-eqb}
 use Rattle.cc_base.specs.Bytes.{double_quote}
@@ -10,14 +10,14 @@ module _ {State : Type 0} (next : State → ℕ → Option State) (added : State
   abbrev from : State → List ℕ → List ℕ → Option (List ℕ × List ℕ)
   from state word text = word_from next added may_end state word text
 
-  -- the reading over a first byte, by the state after it
+  -- the reading from a first byte on, given the state after it
   abbrev resumed : State → List ℕ → ℕ → List ℕ → Option State → Option (List ℕ × List ℕ)
   resumed state word byte rest after = elim after [
     | Some then ↦ from then (added state byte word (byte ∷ [])) rest
     | None ↦ ended (may_end state) word (byte ∷ rest)
   ]
 
-  -- bytes from 128 on, after a first one
+  -- bytes from 128 on, after a first such byte
   high_run : (state : State) (first : ℕ) (run bytes rest word : List ℕ) → 128 ≤ first
       → ((byte : ℕ) → 128 ≤ byte → next (reads.after state) byte ≡ Some (reads.after state)) → AreHigh bytes
       → from (reads.after state) (added state first word run) (bytes ++ rest) ≡ from (reads.after state) (added state first word (run ++ bytes)) rest
@@ -28,7 +28,7 @@ module _ {State : Type 0} (next : State → ℕ → Option State) (added : State
       ∙ high_run state first (run ++ byte ∷ []) bytes rest word above stays h.1
       ∙ ap (λ r. from (reads.after state) (added state first word r) rest) (append_assoc run (byte ∷ []) bytes)
 
-  -- the reading goes on over a character
+  -- the reading continues after a character
   pub character_read : (state then : State) (c : ℕ) (rest word : List ℕ) → next state c ≡ Some then
       → from state word (encode_utf8 c ++ rest) ≡ from then (added state c word (encode_utf8 c)) rest
   character_read state then c rest word e = by_bytes c (encode_utf8 c) (character c) e
@@ -46,7 +46,7 @@ module _ {State : Type 0} (next : State → ℕ → Option State) (added : State
             ∙ ap (λ s. from (unwrap_or s state) (added state number word (byte ∷ run)) rest) same
       ]
 
-  -- it stops before one
+  -- the reading stops before a character
   pub character_stops : (state : State) (c : ℕ) (rest word : List ℕ) → next state c ≡ None
       → from state word (encode_utf8 c ++ rest) ≡ ended (may_end state) word (encode_utf8 c ++ rest)
   character_stops state c rest word e = by_bytes c (encode_utf8 c) (character c) e

@@ -10,12 +10,12 @@ use Rattle.std.proofs.lemmas.Str.{encode_ascii, length-encode, len_utf8_bounds}
 abbrev pub AreHigh : List ℕ → Type 0
 AreHigh bytes = AllByRecursion (λ byte. 128 ≤ byte) bytes
 
--- the same, of one byte at least
+-- every byte is 128 or more, and there is a byte
 abbrev IsHigh : List ℕ → Type 0
 IsHigh [] = ⊥
 IsHigh (byte ∷ bytes) = (128 ≤ byte) × AreHigh bytes
 
--- a character from 128 on has such bytes
+-- a character from 128 on has at least one byte, and only bytes from 128 on
 high_character : (c : ℕ) → 128 ≤ c → IsHigh (encode_utf8 c)
 unfolding encode_utf8
 high_character c h = by_tests (nat_lt c 128) (nat_lt c 2048) (nat_lt c 65536) (grind (arith, nat_tests))
@@ -42,7 +42,7 @@ character c =
     by_bytes [] above h = absurd h
     by_bytes (byte ∷ bytes) above h = high c byte bytes above h.0 h.1
 
--- what follows a character is shorter than with it
+-- the text after a character is shorter than the text from it on
 pub shorter : (c : ℕ) (text after : List ℕ) → text ≡ encode_utf8 c ++ after → length after < length text
 shorter c text after whole =
     let lengths = ap length whole ∙ length-append (encode_utf8 c) after in

@@ -1,4 +1,4 @@
--- The digits of a number are bytes that no reader of a posix shell's tokens takes for syntax.
+-- The digits of a number mean nothing special to the readers of a POSIX shell's tokens.
 use Rattle.std.proofs.Common.{◌≡◌, ℕ, zero, suc, ◌%◌, ◌/◌, ◌<◌, Bool, true, false, cond, ◌==◌, List, [], ◌∷◌, decimal, arith}
 use Rattle.std.specs.Fmt.{digits, digits_onto, digit_glyph}
 use Rattle.std.proofs.lemmas.Bool.Decides.{nat_tests}
@@ -11,7 +11,7 @@ digit_other : (digit : ℕ) → digit < 10 →
 unfolding sign
 digit_other digit h = grind (arith, nat_tests)
 
--- the last digit, and those before it
+-- the last digit, and the digits before it
 last_or : (last : Bool) (first all : List ℕ) → IsWord first → IsWord all → IsWord (cond last first all)
 last_or true first all h k = h
 last_or false first all h k = k

@@ -1,4 +1,4 @@
--- How an Elvish script is cut, whatever follows the part that each lemma speaks of.
+-- The cutting of an Elvish script, whatever follows the part that a lemma describes.
 use Rattle.std.proofs.Common.{◌≡◌, ℕ, Bool, true, false, not, ◌||◌, cond, List, [], ◌∷◌, ◌++◌, map, ◌==◌, IsTrue, refl, sym, ap, ◌∙◌, append_assoc, append-nil, arith}
 use Rattle.std.proofs.lemmas.Bool.Decides.{Decides-eqb}
 use Rattle.std.proofs.lemmas.List.{map-append}
@@ -15,7 +15,7 @@ use Rattle.cc_quote.proofs.WithinQuotes.{ReadsQuoted, kept_byte, kept_text, cutt
 
 -- ---- outside quotes
 
--- a bare byte is neither a quote nor a blank
+-- a bare byte is neither a quote nor whitespace
 sign-is_bare : (byte : ℕ) → IsTrue (is_bare byte) → sign byte ≡ other (byte ∷ [])
 unfolding sign is_bare
 sign-is_bare byte h = by_tests (byte == single_quote) (is_blank byte) h
@@ -35,7 +35,7 @@ bare_run (byte ∷ run) rest pieces begun h =
     ∙ bare_run run rest pieces (begun ++ byte ∷ []) h.1
     ∙ ap (λ t. cut (in_bare pieces t) (map sign rest)) (append_assoc begun (byte ∷ []) run)
 
--- a bare word, where a token may begin
+-- a bare word at a place where a token may begin
 pub bare_word : (run rest : List ℕ) → IsBareWord run → cut between (map sign (run ++ rest)) ≡ cut (in_bare [] run) (map sign rest)
 unfolding cut
 bare_word [] rest h = absurd (h.0 refl)
@@ -48,7 +48,7 @@ abbrev elvish_escaped_byte : ℕ → List ℕ
 elvish_escaped_byte = written (is_byte2 single_quote line_feed) elvish_replacement
 
 module _ {A : Type 0} (reading : List ℕ → List Sign → A) (reads : ReadsQuoted reading) where
-  -- the escape of a byte is read as that byte, a line feed as a space
+  -- the escape of a byte is read as that byte, and a line feed as a space
   escaped_byte : (byte : ℕ) (rest text : List ℕ)
       → reading text (map sign (elvish_escaped_byte byte ++ rest)) ≡ reading (text ++ space_for_line_feed byte ∷ []) (map sign rest)
   unfolding sign
@@ -66,7 +66,7 @@ module _ {A : Type 0} (reading : List ℕ → List Sign → A) (reads : ReadsQuo
       by_tests false true e f = reads.of_blank text (space ∷ []) (map sign rest)
       by_tests false false e f = kept_byte reading reads byte (map sign rest) text (ap not e)
 
-  -- so is the escape of a text
+  -- the escape of a text is read in the same way
   pub escaped_reads : (help rest text : List ℕ)
       → reading text (map sign (elvish_escaped help ++ rest)) ≡ reading (text ++ line_feeds_as_spaces help) (map sign rest)
   escaped_reads [] rest text = ap (λ t. reading t (map sign rest)) (sym (append-nil text))
@@ -89,9 +89,9 @@ pub escaped_text : (help rest : List ℕ) (pieces : List Piece) (opening text : 
 escaped_text help rest pieces opening text =
     escaped_reads (λ t s. cut (in_quotes pieces opening t) s) (cutting_reads pieces opening) help rest text
 
--- ---- what meets the premises
+-- ---- texts that meet the premises
 
--- a bare byte is no quote
+-- a bare byte is not a quote
 HasNoQuote-is_bare : (byte : ℕ) → IsTrue (is_bare byte) → IsTrue (not (byte == single_quote))
 unfolding is_bare
 HasNoQuote-is_bare byte h = by_tests (byte == single_quote) (is_blank byte) h
@@ -105,7 +105,7 @@ pub HasNoQuote-IsBare : (text : List ℕ) → IsBare text → HasNoQuote text
 HasNoQuote-IsBare [] h = h
 HasNoQuote-IsBare (byte ∷ text) h = (HasNoQuote-is_bare byte h.0, HasNoQuote-IsBare text h.1)
 
--- two texts without a quote make one
+-- two texts without a quote, joined
 pub HasNoQuote-append : (text more : List ℕ) → HasNoQuote text → HasNoQuote more → HasNoQuote (text ++ more)
 HasNoQuote-append [] more h k = k
 HasNoQuote-append (byte ∷ text) more h k = (h.0, HasNoQuote-append text more h.1 k)

@@ -10,14 +10,14 @@ use Rattle.cc_quote.proofs.ElvishCutting.{escaped_reads}
 use Rattle.cc_quote.proofs.WithinQuotes.{word_reads}
 use Rattle.cc_quote.proofs.WordReading.{AreSigns}
 
--- what was escaped is read as the text, between two quotes
+-- an escaped text between two quotes is read as the text
 pub elvish_reads_back : (text escaped : List ℕ) → escaped ≡ elvish_escaped text → elvish_word_of (codes "'" ++ escaped ++ codes "'") ≡ Some (line_feeds_as_spaces text, [])
 unfolding sign
 elvish_reads_back text escaped e = rw e (escaped_reads (λ w s. word_from (quoted w) s) word_reads text (single_quote ∷ []) [])
 
 -- ---- signs
 
--- the sign of a byte has that byte
+-- the sign of a byte holds that byte
 pub bytes-sign : (byte : ℕ) → bytes (sign byte) ≡ byte ∷ []
 unfolding sign
 bytes-sign byte = by_tests (byte == single_quote) (is_blank byte)
@@ -27,12 +27,12 @@ bytes-sign byte = by_tests (byte == single_quote) (is_blank byte)
     by_tests false true = refl
     by_tests false false = refl
 
--- so no byte is lost
+-- the signs of a text hold all its bytes
 bytes-signs : (text : List ℕ) → flat_map bytes (map sign text) ≡ text
 bytes-signs [] = refl
 bytes-signs (byte ∷ text) = ap (λ bs. bs ++ flat_map bytes (map sign text)) (bytes-sign byte) ∙ ap (λ bs. byte ∷ bs) (bytes-signs text)
 
--- a blank is no quote
+-- whitespace is not a quote
 pub sign-blank : (byte : ℕ) → is_blank byte ≡ true → sign byte ≡ blank (byte ∷ [])
 unfolding sign
 sign-blank byte is = by_test (byte == single_quote) (grind (arith, nat_tests))
@@ -41,7 +41,7 @@ sign-blank byte is = by_test (byte == single_quote) (grind (arith, nat_tests))
     by_test true e = cc
     by_test false e = ap (λ b. cond b (blank (byte ∷ [])) (other (byte ∷ []))) is
 
--- a byte that is neither a blank nor a quote
+-- a byte that is neither whitespace nor a quote
 pub sign-other : (byte : ℕ) → is_blank byte ≡ false → ((opening : List ℕ) → sign byte ≢ quote opening) → sign byte ≡ other (byte ∷ [])
 unfolding sign
 sign-other byte no_blank no_quote = by_test (byte == single_quote) no_quote
@@ -51,7 +51,7 @@ sign-other byte no_blank no_quote = by_test (byte == single_quote) no_quote
     by_test true h = absurd (h (byte ∷ []) refl)
     by_test false h = ap (λ b. cond b (blank (byte ∷ [])) (other (byte ∷ []))) no_blank
 
--- in a bare word a byte that is no blank is kept, a quote too
+-- a bare word keeps each byte that is not whitespace, even a quote
 pub bare_sign : (byte : ℕ) (rest : List Sign) (word : List ℕ) → is_blank byte ≡ false → word_from (bare word) (sign byte ∷ rest) ≡ word_from (bare (word ++ byte ∷ [])) rest
 unfolding sign
 bare_sign byte rest word no_blank = by_tests (byte == single_quote) (is_blank byte) no_blank
@@ -72,19 +72,19 @@ elvish_signs = record {
   of_bare = λ byte rest word no_blank. bare_sign byte (map sign rest) word no_blank;
 }
 
--- ---- where the quotes of a text are
+-- ---- the quotes of a text
 
--- no byte of a text is a quote, if none is where it is read
+-- a text holds no quote if none of its bytes is one, by index
 pub none_quoted : (text : List ℕ) → ((k : ℕ) → k < length text → get_or text k 0 ≢ 39) → HasNoQuote text
 none_quoted [] h = tt
 none_quoted (byte ∷ text) h =
     let here : byte ≢ 39 = h 0 (omega arith) in (grind (arith, nat_tests), none_quoted text (λ k l. h (suc k) (omega arith)))
 
--- such a text has no quote
+-- such a text is without quotes
 pub elvish_unquoted : (text : List ℕ) → ((k : ℕ) → k < length text → get_or text k 0 ≢ 39) → IsWithoutQuotes (map sign) text
 elvish_unquoted text h = record { signs_are = refl; no_quote = none_quoted text h }
 
--- a text that begins with such a run and then has a quote
+-- a text that begins with such a run, followed by a quote
 pub elvish_cut : (text run rest : List ℕ) → (text ≡ run ++ single_quote ∷ rest) × ((k : ℕ) → k < length run → get_or run k 0 ≢ 39) → IsCutAtQuote (map sign) text run (single_quote ∷ []) rest
 unfolding sign
 elvish_cut text run rest parts = record {
@@ -98,7 +98,7 @@ pub elvish_begins : (text rest : List ℕ) → text ≡ single_quote ∷ rest �
 unfolding sign
 elvish_begins text rest e = record { whole = e; signs_are = ap (map sign) e }
 
--- a byte that is no `'` is no quote
+-- a byte other than `'` is not a quote
 pub no_quote_sign : (byte : ℕ) → byte ≢ 39 → (opening : List ℕ) (rest signs : List Sign) → sign byte ∷ signs ≢ quote opening ∷ rest
 unfolding sign
 no_quote_sign byte h opening rest signs = by_tests (byte == single_quote) (is_blank byte) refl
@@ -108,7 +108,7 @@ no_quote_sign byte h opening rest signs = by_tests (byte == single_quote) (is_bl
     by_tests false true is = λ e. cc
     by_tests false false is = λ e. cc
 
--- a text that begins with none
+-- a text that does not begin with a quote
 pub elvish_begins_none : (text : List ℕ) → ((rest : List ℕ) → text ≢ single_quote ∷ rest) → BeginsWithNoQuote (map sign) text
 elvish_begins_none [] h = λ opening rest e. cc
 elvish_begins_none (byte ∷ text) h = λ opening rest e. no_quote_sign byte (λ is. h text (ap (λ b. b ∷ text) is)) opening rest (map sign text) e

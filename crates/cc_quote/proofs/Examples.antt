@@ -1,4 +1,4 @@
--- Worked rows of the definitions.
+-- Examples of the definitions.
 use Rattle.std.proofs.Common.{◌≡◌, ◌++◌, ◌∷◌, [], refl, Some, None, codes}
 use Rattle.cc_base.specs.Bytes.{right_quote}
 use Rattle.cc_quote.specs.ElvishQuote.{elvish_escaped, elvish_word_of}
@@ -38,7 +38,7 @@ powershell_word_row : powershell_word_of (codes "'it'" ++ right_quote ++ codes "
 unfolding powershell_signs sign_before sign
 powershell_word_row = refl
 
--- each of the two quotes closes what the other opened, and the opening one is kept
+-- each of the two quotes closes what the other opened, and the token keeps the opening one
 powershell_tokens_row : powershell_tokens (codes "a 'b" ++ right_quote ++ codes " " ++ right_quote ++ codes "c d'")
     ≡ (bare (codes "a") ∷ []) ∷ (quoted (codes "'") (codes "b") ∷ []) ∷ (quoted right_quote (codes "c d") ∷ []) ∷ []
 unfolding powershell_tokens cut powershell_signs sign_before sign

@@ -1,4 +1,4 @@
--- The readers of fish's words go on by a character as by its bytes.
+-- The readers of fish's words read a character as they read its bytes.
 use Rattle.std.proofs.Common.{◌≡◌, ◌==◌, ℕ, ◌≤◌, false, List, ◌++◌, Some, codes, inl, inr, refl, sym, ◌∙◌, ap, arith, append_assoc}
 use Rattle.std.proofs.lemmas.Bool.Decides.{nat_tests}
 use Rattle.cc_quote.specs.FishQuote.{fish_sign, next_quote, unescaped, word_after, fish_next, fish_added, double_next}
@@ -7,12 +7,12 @@ use Rattle.cc_quote.specs.WordReader.{ReadsBytes}
 use Rattle.cc_quote.specs.declared.fish_reader.QuoteState.{QuoteState}
 use Rattle.cc_quote.specs.declared.fish_reader.QuoteState.TheVariants.{Bare, BareEscaped, InSingle, InSingleEscaped, InDouble, InDoubleEscaped}
 
--- a byte from 128 on means nothing to the reader
+-- a byte from 128 on has no special meaning
 high_sign : (byte : ℕ) → 128 ≤ byte → fish_sign byte ≡ other
 unfolding fish_sign
 high_sign byte h = grind (arith, nat_tests)
 
--- and spells itself after a backslash
+-- a byte from 128 on spells itself after a backslash
 high_unescaped : (byte : ℕ) (bytes : List ℕ) → 128 ≤ byte → unescaped byte bytes ≡ bytes
 high_unescaped byte bytes h =
     let t : byte == 116 ≡ false = grind (arith, nat_tests) in

@@ -1,4 +1,5 @@
--- How a fish script is cut into the words of its commands, whatever follows the part that each lemma speaks of.
+-- The cutting of a fish script into the words of its commands, whatever follows the part that a
+-- lemma describes.
 use Rattle.std.proofs.Common.{◌≡◌, ℕ, List, [], ◌∷◌, ◌++◌, refl, ap, ◌∙◌, sym, append_assoc, append-nil, inl, inr, ◌⊎◌, Some, None, IsTrue, flat_map}
 use Rattle.std.specs.List.{AllByRecursion}
 use Rattle.cc_base.specs.Bytes as ascii
@@ -10,12 +11,12 @@ use Rattle.cc_quote.proofs.FishWords.{IsSafe, safe_bare}
 use Rattle.cc_base.proofs.Cases.{option_cases}
 use Rattle.cc_quote.proofs.FishReaders.{advance_none}
 
--- a text before which a word ends
+-- a word ends before the text
 abbrev pub EndsWord : List ℕ → Type 0
 EndsWord [] = ⊥
 EndsWord (byte ∷ bytes) = (fish_sign byte ≡ blank) ⊎ (fish_sign byte ≡ line_feed)
 
--- a word goes on over a text that leads on
+-- a word continues over a text that leads from one state to another
 pub word_goes_on : (text : List ℕ) (words : List (List ℕ)) (from to : FishState) (rest : List ℕ) → advance (Some from) text ≡ Some to
     → commands_from (in_word words from) (text ++ rest) ≡ commands_from (in_word words to) rest
 word_goes_on [] words from to rest h = let same : from ≡ to = cc in ap (λ state. commands_from (in_word words state) rest) same
@@ -58,7 +59,7 @@ pub word_read : (text word : List ℕ) (words : List (List ℕ)) (rest : List �
     → commands_from (between words) (text ++ rest) ≡ commands_from (in_word words (bare word)) rest
 word_read text word words rest is = word_begins text words rest is.begins ∙ word_goes_on text words (bare []) (bare word) rest is.spells
 
--- the text is empty or begins with a blank, and adds these words to a command
+-- the text is empty or begins with a space or a tab, and adds words to a command
 pub record Adds (text : List ℕ) (words : List (List ℕ)) : Type 0 where
   pub ends : (rest : List ℕ) → EndsWord rest → EndsWord (text ++ rest)
   pub read : (before : List (List ℕ)) (rest : List ℕ) → EndsWord rest → commands_from (between before) (text ++ rest) ≡ commands_from (between (before ++ words)) rest

@@ -1,4 +1,4 @@
--- Worked rows of fish's quoting and of how its scripts are cut.
+-- Examples of fish's quoting and of the cutting of its scripts.
 use Rattle.std.proofs.Common.{◌≡◌, ◌++◌, ◌∷◌, [], refl, Some, None, codes}
 use Rattle.cc_base.specs.Bytes.{line_feed}
 use Rattle.cc_quote.specs.FishQuote.{fish_sign, fish_word_of, fish_double_of, is_fish_safe, fish_quoted, fish_quoted_for_eval, fish_help_for_eval_of, fish_escaped}

@@ -1,4 +1,4 @@
--- What the readers of fish's words read back.
+-- The readers of fish's words recover what was quoted.
 use Rattle.std.proofs.Common.{◌≡◌, ℕ, List, [], ◌∷◌, ◌++◌, refl, ap, ◌∙◌, sym, append_assoc, append-nil, inl, inr, Option, Some, None, option_map, codes, arith}
 use Rattle.std.proofs.lemmas.Bool.{cases_Bool}
 use Rattle.std.proofs.lemmas.Bool.Decides.{nat_tests}
@@ -18,7 +18,7 @@ pub advance_none : (bytes : List ℕ) → advance None bytes ≡ None
 advance_none [] = refl
 advance_none (byte ∷ bytes) = refl
 
--- the reader of a word goes over bytes that lead on
+-- the reader of a word continues after bytes that lead from one state to another
 pub word_goes_on : (bytes : List ℕ) (from to : FishState) (rest : List ℕ) → advance (Some from) bytes ≡ Some to → fish_word_from from (bytes ++ rest) ≡ fish_word_from to rest
 word_goes_on [] from to rest h = let same : from ≡ to = cc in ap (λ state. fish_word_from state rest) same
 word_goes_on (byte ∷ bytes) (at state word) to rest h =
@@ -43,7 +43,7 @@ pub single_quoted_reads_back : (text : List ℕ) → fish_word_of (single_quoted
 unfolding fish_sign
 single_quoted_reads_back text = spelled_word (single_quoted text) text (single_quoted_read text [])
 
--- a quoted text is read back, and nothing is left
+-- a quoted text is read back, and nothing remains
 pub fish_quoted_reads_back : (text : List ℕ) → fish_word_of (fish_quoted text) ≡ Some (text, [])
 unfolding fish_quoted
 fish_quoted_reads_back [] = single_quoted_reads_back []
@@ -69,7 +69,7 @@ pub double_escaped_reads_back : (text : List ℕ) → fish_double_of (codes "\""
 unfolding fish_sign
 double_escaped_reads_back text = double_from text [] (codes "\"")
 
--- a text quoted for two readings
+-- a text quoted to be read twice
 pub quoted_for_eval_reads_twice : (text : List ℕ) → ReadsTwice (fish_quoted_for_eval text) text
 unfolding fish_quoted_for_eval
 quoted_for_eval_reads_twice text = record {
@@ -78,7 +78,7 @@ quoted_for_eval_reads_twice text = record {
   second = fish_quoted_reads_back text;
 }
 
--- a help quoted for two readings
+-- a help text quoted to be read twice
 pub help_for_eval_reads_twice : (help : List ℕ) → ReadsTwice (fish_help_for_eval_of help) (line_feeds_as_spaces help)
 unfolding fish_help_for_eval_of
 help_for_eval_reads_twice help = record {
@@ -87,7 +87,7 @@ help_for_eval_reads_twice help = record {
   second = single_quoted_reads_back (line_feeds_as_spaces help);
 }
 
--- a description between `'`
+-- a description between two `'`
 pub fish_escaped_reads_back : (text : List ℕ) → fish_word_of (codes "'" ++ fish_escaped text ++ codes "'") ≡ Some (line_feeds_as_spaces text, [])
 fish_escaped_reads_back text =
     ap (λ escaped. fish_word_of (codes "'" ++ escaped ++ codes "'")) (fish_escaped_composed text) ∙ single_quoted_reads_back (line_feeds_as_spaces text)

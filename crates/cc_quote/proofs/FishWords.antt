@@ -1,4 +1,4 @@
--- Quoted texts of fish lead the reader of a word to the text.
+-- The reader of a word reads a quoted text of fish as the text.
 use Rattle.std.proofs.Common.{◌≡◌, ℕ, true, false, List, [], ◌∷◌, ◌++◌, refl, ap, ◌∙◌, sym, append_assoc, append-nil, inl, inr, Option, Some, None, ◌==◌, arith, codes}
 use Rattle.std.proofs.lemmas.Bool.{cases_Bool, ne_eqb, and_parts}
 use Rattle.std.proofs.lemmas.Bool.Decides.{nat_tests}
@@ -9,13 +9,13 @@ use Rattle.cc_quote.specs.FishQuote.{FishState, fish_sign, next_state, advance, 
 use Rattle.cc_quote.specs.FishQuote.FishSign.{other}
 use Rattle.cc_quote.specs.FishQuote.{bare, in_single, in_double}
 
--- a text of bytes that need no quotes
+-- every byte of the text needs no quotes
 abbrev pub IsSafe : List ℕ → Type 0
 IsSafe text = AllByRecursion (λ byte. is_fish_safe byte ≡ true) text
 
 -- ---- one byte
 
--- a byte that needs no quotes is none that does
+-- a byte that needs no quotes differs from one that needs them
 pub safe_is_not : (byte special : ℕ) → is_fish_safe byte ≡ true → is_fish_safe special ≡ false → (byte == special) ≡ false
 safe_is_not byte special h f = ne_eqb byte special (λ e. let k : is_fish_safe special ≡ true = rw e at h in cc)
 
@@ -23,7 +23,7 @@ pub safe_sign : (byte : ℕ) → is_fish_safe byte ≡ true → fish_sign byte �
 unfolding fish_sign is_fish_safe
 safe_sign byte h = rw (safe_is_not byte space h refl, safe_is_not byte 9 h refl, safe_is_not byte 10 h refl, safe_is_not byte single_quote h refl, safe_is_not byte double_quote h refl, safe_is_not byte backslash h refl, safe_is_not byte dollar h refl, safe_is_not byte hash h refl)
 
--- no byte that needs no quotes is escaped between `"`
+-- between `"` no byte is escaped that needs no quotes
 pub safe_double : (byte : ℕ) → is_fish_safe byte ≡ true → marked_byte is_double_marked byte ≡ byte ∷ []
 unfolding is_fish_safe
 safe_double byte h = rw (safe_is_not byte backslash h refl, safe_is_not byte double_quote h refl, safe_is_not byte dollar h refl)
@@ -38,7 +38,7 @@ double_byte_read byte word rest = grind (arith, nat_tests)
 
 -- ---- a text
 
--- what advances over one text and then another
+-- the states over one text and then over another
 pub advance-append : (bytes rest : List ℕ) (state : Option FishState) → advance state (bytes ++ rest) ≡ advance (advance state bytes) rest
 advance-append [] rest state = refl
 advance-append (byte ∷ bytes) [] None = refl
@@ -60,7 +60,7 @@ pub double_read : (text word : List ℕ) → advance (Some (in_double word)) (do
 double_read [] word = rw append-nil
 double_read (byte ∷ text) word = double_byte_read byte word (double_escaped text) ∙ rw append_assoc at (double_read text (word ++ byte ∷ []))
 
--- a text of bytes that need no quotes is escaped as it is between `"`
+-- a text whose bytes need no quotes stays as it is between `"`
 pub safe_double_escaped : (text : List ℕ) → IsSafe text → double_escaped text ≡ text
 safe_double_escaped [] h = refl
 safe_double_escaped (byte ∷ text) (h, hs) = ap (λ bytes. bytes ++ double_escaped text) (safe_double byte h) ∙ ap (λ bytes. byte ∷ bytes) (safe_double_escaped text hs)
@@ -74,7 +74,7 @@ pub single_quoted_read : (text word : List ℕ) → advance (Some (bare word)) (
 unfolding fish_sign
 single_quoted_read text word = advance-append (single_escaped text) (codes "'") (Some (in_single word)) ∙ ap (λ state. advance state (codes "'")) (single_read text word)
 
--- whether a text is a safe word: its bytes need no quotes
+-- a text that passes the test has only bytes that need no quotes
 pub safe_bytes : (text : List ℕ) → list_all is_fish_safe text ≡ true → IsSafe text
 safe_bytes [] h = tt
 safe_bytes (byte ∷ text) h = let parts = and_parts _ _ h in (parts.0, safe_bytes text parts.1)

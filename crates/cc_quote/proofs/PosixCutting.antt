@@ -1,4 +1,4 @@
--- How a script for a posix shell is cut, for any text after the part that each lemma speaks of.
+-- The cutting of a script for a POSIX shell, whatever follows the part that a lemma describes.
 use Rattle.std.proofs.Common.{◌≡◌, ℕ, List, [], ◌∷◌, ◌++◌, map, ap, ◌∙◌, sym, append_assoc, append-nil, inl, inr, ◌⊎◌}
 use Rattle.std.specs.List.{AllByRecursion}
 use Rattle.cc_quote.specs.PosixSigns.{sign, byte_of}
@@ -10,12 +10,12 @@ use Rattle.cc_quote.specs.Tokens.{Token}
 abbrev pub IsOther : List ℕ → Type 0
 IsOther text = AllByRecursion (λ byte. sign byte ≡ other byte) text
 
--- such a text with a first byte
+-- such a text, with at least one byte
 abbrev pub IsWord : List ℕ → Type 0
 IsWord [] = ⊥
 IsWord (byte ∷ text) = IsOther (byte ∷ text)
 
--- each byte is one that double quotes keep
+-- double quotes keep each byte
 abbrev pub IsKept : List ℕ → Type 0
 IsKept text = AllByRecursion (λ byte. (sign byte ≡ other byte) ⊎ (sign byte ≡ blank byte)) text
 
@@ -35,7 +35,7 @@ pub IsKept-append : (text more : List ℕ) → IsKept text → IsKept more → I
 IsKept-append [] more h k = k
 IsKept-append (b ∷ text) more h k = (h.0, IsKept-append text more h.1 k)
 
--- a run of such bytes in a token that has begun
+-- a run of such bytes, in a token that has begun
 pub bare_run : (text rest : List ℕ) (pieces : Token) (run : List ℕ) → IsOther text →
     tokens_from (in_bare pieces run) (text ++ rest)
     ≡ tokens_from (in_bare pieces (run ++ text)) rest
@@ -46,7 +46,7 @@ bare_run (b ∷ text) rest pieces run h =
     ∙ bare_run text rest pieces (run ++ b ∷ []) h.1
     ∙ ap (λ r. tokens_from (in_bare pieces r) rest) (append_assoc run (b ∷ []) text)
 
--- a word where a token may begin
+-- a word at a place where a token may begin
 pub bare_word : (word rest : List ℕ) → IsWord word →
     tokens_from between (word ++ rest) ≡ tokens_from (in_bare [] word) rest
 unfolding cut byte_of

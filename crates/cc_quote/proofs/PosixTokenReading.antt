@@ -1,4 +1,4 @@
--- A posix shell reads the word that the first token of a text spells.
+-- A POSIX shell reads the word that the first token of a text spells.
 use Rattle.std.proofs.Common.{◌≡◌, ℕ, Bool, true, false, List, [], ◌∷◌, ◌++◌, map, Option, Some, None, option_map, refl, sym, subst, ◌∙◌, ap, append_assoc, append-nil}
 use Rattle.std.specs.Bool.{⊤}
 use Rattle.cc_base.specs.Bytes as ascii
@@ -46,13 +46,13 @@ word-append (quoted opening text ∷ pieces) more =
     ∙ joined-before text (word_of_token pieces) (word_of_token more)
 word-append (unclosed opening text ∷ pieces) more = refl
 
--- the word is that of the pieces, and then the text of the one that is open
+-- the word is the word of the pieces, followed by the text of the open piece
 record Holds (pieces : Token) (text word : List ℕ) : Type 0 where
   before : List ℕ
   spelled : word_of_token pieces ≡ Some before
   whole : word ≡ before ++ text
 
--- what a token has so far spells the word so far
+-- the token so far spells the word so far
 abbrev Spells : PartialToken → List ℕ → Type 0
 Spells (after_piece pieces) word = word_of_token pieces ≡ Some word
 Spells (in_piece pieces text) word = Holds pieces text word
@@ -61,7 +61,7 @@ Spells (in_piece pieces text) word = Holds pieces text word
 opened : (pieces : Token) (word : List ℕ) → word_of_token pieces ≡ Some word → Holds pieces [] word
 opened pieces word h = record { before = word; spelled = h; whole = sym (append-nil word) }
 
--- it ends
+-- a piece ends
 with_piece : (pieces : Token) (piece : Piece) (text word : List ℕ) → word_of_token (piece ∷ []) ≡ Some (text ++ []) → Holds pieces text word
     → word_of_token (pieces ++ piece ∷ []) ≡ Some word
 with_piece pieces piece text word e h =
@@ -77,7 +77,7 @@ pieces_spell InSingle (in_piece pieces text) word h = with_piece pieces (piece_o
 pieces_spell InDouble (in_piece pieces text) word h = with_piece pieces (piece_of InDouble text) text word refl h
 pieces_spell state (in_piece pieces text) word h = with_piece pieces (bare text) text word refl h
 
--- or the text ends before that
+-- the text ends before the piece does
 no_word : (pieces more : Token) (word : List ℕ) → word_of_token pieces ≡ Some word → word_of_token more ≡ None → word_of_token (pieces ++ more) ≡ None
 no_word pieces more word h e =
     word-append pieces more ∙ ap (λ w. joined w (word_of_token more)) h ∙ ap (joined (Some word)) e
@@ -141,7 +141,7 @@ stays_begun state next s b e = subst Follows e (follows state s b)
     follows InDouble line_feed b = tt
     follows state s b = tt
 
--- what it has after one more byte spells the word after it
+-- the token after one more byte spells the word after it
 spells_after : (state : QuoteState) (s : Sign) (token : PartialToken) (word : List ℕ) → HasBegun state → Spells token word
     → Spells (token_after state s token) (word_after state s word (byte_of s ∷ []))
 spells_after Before s token word b h = absurd b
@@ -157,7 +157,7 @@ spells_after state s (after_piece pieces) word b h =
     begins [] word h = h.spelled ∙ ap Some (sym (h.whole ∙ append-nil h.before))
     begins (byte ∷ text) word h = h
 
--- it ends at the end of the text
+-- the token ends at the end of the text
 at_end : (state : QuoteState) (token : PartialToken) (word : List ℕ) → HasBegun state → Spells token word → IsTokenRead (ended_token state token) (ended (is_bare state) word [])
 unfolding posix_tokens cut word_of_token ends_token
 at_end Before token word b h = absurd b
@@ -173,7 +173,7 @@ at_end InSingle token word b h = let opening : List ℕ = ascii.single_quote ∷
 at_end state token word b h = let opening : List ℕ = ascii.double_quote ∷ [] in
     record { token = unclosed_after opening token; whole = refl; no_word = unclosed_spells opening token word h }
 
--- or before a blank or a line feed
+-- the token ends before whitespace
 first_token : (s : Sign) (signs : List Sign) (rest : List ℕ) (token : Token) (word : List ℕ) → map sign rest ≡ s ∷ signs → ends_token (s ∷ signs) ≡ true
     → cut between (s ∷ signs) ≡ cut between signs → word_of_token token ≡ Some word → IsFirstToken (token ∷ cut between signs) word rest
 unfolding posix_tokens
@@ -195,7 +195,7 @@ at_blank InSingle line_feed signs rest token word e r b h = cc
 at_blank InDouble line_feed signs rest token word e r b h = cc
 at_blank state s signs rest token word e r b h = cc
 
--- what is read of a token that has begun is what the tokens tell
+-- what is read of a token that has begun agrees with the tokens
 abbrev Agree : List ℕ → QuoteState → PartialToken → List ℕ → Type 0
 Agree text state token word = IsTokenRead (cut (at state token) (map sign text)) (posix_word_from state word text)
 
@@ -232,7 +232,7 @@ in_token (byte ∷ text) state token word b h =
 
 -- ---- before a token
 
--- what is read there, where no token begins and where one does
+-- what is read there: nothing if no token begins, and else what the tokens say
 abbrev Reads : Bool → List Token → Option (List ℕ × List ℕ) → Type 0
 Reads true tokens read = read ≡ None
 Reads false tokens read = IsTokenRead tokens read
@@ -242,7 +242,7 @@ spells_text : (text : List ℕ) → Holds [] text text
 unfolding word_of_token
 spells_text text = record { before = []; spelled = refl; whole = refl }
 
--- over a byte of this sign before a token, and after a backslash there
+-- at a byte with the given sign before a token, and after a backslash there
 abbrev Begins : Sign → ℕ → List ℕ → Type 0
 Begins s byte text =
     Reads (begins_no_token (s ∷ map sign text)) (cut between (s ∷ map sign text))
@@ -259,7 +259,7 @@ BeginsEscaped s byte text =
       | None ↦ None
     ])
 
--- where no token has begun, and after a backslash there
+-- before a token begins, and after a backslash there
 abbrev Starts : List ℕ → Type 0
 Starts text = Reads (begins_no_token (map sign text)) (cut between (map sign text)) (posix_word_from Before [] text)
 
@@ -289,7 +289,7 @@ before_token (byte ∷ text) = (
   subst (λ b. BeginsEscaped (sign byte) b text) (byte_of-sign byte) (escaped_goes (sign byte) text (before_token text).0),
 )
 
--- what is read at the start of a text is what its tokens tell
+-- what is read at the start of a text agrees with its tokens
 pub reads_first_token : (text : List ℕ) (read : Option (List ℕ × List ℕ)) → read ≡ posix_word_of text → ReadsFirstToken text read
 unfolding posix_word_of posix_tokens
 reads_first_token text read e = record {

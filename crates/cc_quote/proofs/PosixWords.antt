@@ -1,4 +1,4 @@
--- Words as a posix shell reads them, and what a quoted text is read as.
+-- Words as a POSIX shell reads them, and the reading of a quoted text.
 use Rattle.std.proofs.Common.{◌≡◌, ◌≢◌, ◌==◌, ℕ, ◌≤◌, Bool, true, false, cond, List, [], ◌∷◌, ◌++◌, Some, None, codes, inr, refl, sym, ◌∙◌, ap, arith, append_assoc, append-nil}
 use Rattle.std.specs.List.{list_all}
 use Rattle.std.proofs.lemmas.Bool.{and_parts}
@@ -20,7 +20,7 @@ pub byte_of-sign : (byte : ℕ) → byte_of (sign byte) ≡ byte
 unfolding sign byte_of
 byte_of-sign byte = grind (arith, nat_tests)
 
--- the reading goes on after a byte
+-- the reading continues after a byte
 pub goes_on : (state next : QuoteState) (byte : ℕ) (rest word : List ℕ) → next_state state (sign byte) ≡ Some next
     → posix_word_from state word (byte ∷ rest) ≡ posix_word_from next (word_after state (sign byte) word (byte ∷ [])) rest
 unfolding posix_word_from
@@ -32,7 +32,7 @@ goes_on state next byte rest word e =
 
 -- ---- one character
 
--- a byte from 128 on means nothing to the reader
+-- a byte from 128 on has no special meaning
 high_sign : (byte : ℕ) → 128 ≤ byte → sign byte ≡ other byte
 unfolding sign
 high_sign byte h = grind (arith, nat_tests)
@@ -69,7 +69,7 @@ grows-other state first byte word run bytes h k =
     ∙ more-other state first byte word run bytes
     ∙ ap (λ s. word_after state s word (run ++ bytes)) (sym (high_sign first h))
 
--- the word after such a byte does not depend on which it is
+-- the word after such a byte does not depend on which byte it is
 same-word : (state : QuoteState) (a b : ℕ) (word bytes : List ℕ) → word_after state (other a) word bytes ≡ word_after state (other b) word bytes
 same-word Before a b word bytes = refl
 same-word state a b word bytes = refl
@@ -89,7 +89,7 @@ posix_reads = record {
 
 -- ---- quoted texts
 
--- a byte that needs no quotes means nothing to the reader
+-- a byte that needs no quotes has no special meaning
 pub safe_sign : (byte : ℕ) → is_posix_safe byte ≡ true → sign byte ≡ other byte
 unfolding is_posix_safe sign
 safe_sign byte h = grind (arith, nat_tests)
@@ -105,7 +105,7 @@ bare_run (byte ∷ run) rest word h =
     ∙ bare_run run rest (word ++ byte ∷ []) parts.1
     ∙ ap (λ w. posix_word_from Bare w rest) (append_assoc word (byte ∷ []) run)
 
--- such a word
+-- a word of such bytes
 safe_reads : (text : List ℕ) → is_posix_safe_word text ≡ true → posix_word_of text ≡ Some (text, [])
 unfolding posix_word_of is_posix_safe_word posix_word_from
 safe_reads [] h = cc
@@ -153,7 +153,7 @@ pub quoted_reads : (text : List ℕ) → posix_word_of (codes "'" ++ posix_escap
 unfolding posix_word_of posix_word_from sign
 quoted_reads text = escaped_text text (ascii.single_quote ∷ []) []
 
--- a text that was quoted is read as the text, and nothing is left
+-- a quoted text is read as the text, and nothing remains
 pub posix_reads_back : (text quoted : List ℕ) → quoted ≡ posix_quoted text → posix_word_of quoted ≡ Some (text, [])
 unfolding posix_quoted
 posix_reads_back text quoted e = ap posix_word_of e ∙ by_test (is_posix_safe_word text) refl

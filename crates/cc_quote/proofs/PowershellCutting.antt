@@ -1,4 +1,4 @@
--- How a PowerShell script is cut, whatever follows the part that each lemma speaks of.
+-- The cutting of a PowerShell script, whatever follows the part that a lemma describes.
 use Rattle.std.proofs.Common.{◌≡◌, ℕ, Bool, true, false, not, ◌&&◌, cond, List, [], ◌∷◌, ◌++◌, ◌==◌, refl, sym, ap, ◌∙◌, append_assoc, append-nil, arith}
 use Rattle.std.proofs.lemmas.Bool.{and_parts}
 use Rattle.std.proofs.lemmas.Bool.Decides.{Decides-eqb}
@@ -13,17 +13,17 @@ use Rattle.cc_quote.proofs.PowershellSigns.{Beginning, beginning, signs-plain, s
 use Rattle.cc_quote.proofs.PowershellSigns.Beginning.{right, plain}
 use Rattle.cc_quote.proofs.WithinQuotes.{ReadsQuoted, kept_byte, kept_text, cutting_reads}
 
--- the byte that a test names
+-- the byte for which a test holds
 is : (byte value : ℕ) → byte == value ≡ true → byte ≡ value
 is byte value e = (Decides-eqb byte value).0 e
 
--- ---- an escaped text begins with the bytes of U+2019 where the text does
+-- ---- an escaped text begins with the bytes of U+2019 if and only if the text does
 
--- what stands for a byte, by the three tests
+-- the text written for a byte, by the three tests
 abbrev by_tests : ℕ → Bool → Bool → Bool → List ℕ
 by_tests byte q l r = cond q (single_quote ∷ single_quote ∷ []) (cond l (space ∷ []) (cond r (single_quote ∷ byte ∷ []) (byte ∷ [])))
 
--- with the third
+-- begins with the third byte
 escaped-third : (text rest : List ℕ) → begins_third (powershell_escaped text ++ single_quote ∷ rest) ≡ begins_third text
 escaped-third [] rest = refl
 escaped-third (byte ∷ text) rest = go (byte == single_quote) (byte == line_feed) (begins_right_quote byte text) refl refl refl
@@ -35,7 +35,7 @@ escaped-third (byte ∷ text) rest = go (byte == single_quote) (byte == line_fee
     go false false true e f g = sym (ap (λ b. b == right_quote_third) (is byte right_quote_first (and_parts (byte == right_quote_first) (begins_second text) g).0))
     go false false false e f g = refl
 
--- with the second and the third
+-- begins with the second and the third byte
 escaped-second : (text rest : List ℕ) → begins_second (powershell_escaped text ++ single_quote ∷ rest) ≡ begins_second text
 escaped-second [] rest = refl
 escaped-second (byte ∷ text) rest = go (byte == single_quote) (byte == line_feed) (begins_right_quote byte text) refl refl refl
@@ -58,7 +58,7 @@ module _ {A : Type 0} (reading : List ℕ → List Sign → A) (reads : ReadsQuo
   unquoted_reads kept rest text h =
       ap (reading text) (signs-unquoted kept rest h) ∙ kept_text reading reads kept (powershell_signs rest) text (HasNoQuote-IsUnquoted kept h)
 
-  -- two `'` are one
+  -- two `'` are read as one
   quotes_read : (rest text : List ℕ) → reading text (powershell_signs (single_quote ∷ single_quote ∷ rest)) ≡ reading (text ++ single_quote ∷ []) (powershell_signs rest)
   unfolding powershell_signs sign_before sign
   quotes_read rest text = reads.of_quotes text (single_quote ∷ []) (single_quote ∷ []) (powershell_signs rest)
@@ -72,7 +72,7 @@ module _ {A : Type 0} (reading : List ℕ → List Sign → A) (reads : ReadsQuo
       ∙ sym (reads.of_other ((text ++ right_quote_first ∷ []) ++ right_quote_second ∷ []) (right_quote_third ∷ []) (powershell_signs more))
       ∙ sym (reads.of_other (text ++ right_quote_first ∷ []) (right_quote_second ∷ []) (powershell_signs (right_quote_third ∷ more)))
 
-  -- a line feed is a space
+  -- a line feed is read as a space
   line_feed_reads : (rest text : List ℕ) → reading text (powershell_signs (space ∷ rest)) ≡ reading (text ++ space ∷ []) (powershell_signs rest)
   unfolding powershell_signs sign_before sign
   line_feed_reads rest text = reads.of_blank text (space ∷ []) (powershell_signs rest)
@@ -128,4 +128,4 @@ pub escaped_text : (help rest : List ℕ) (pieces : List Piece) (opening text : 
 escaped_text help rest pieces opening text =
     escaped_reads (λ t s. cut (in_quotes pieces opening t) s) (cutting_reads pieces opening) help rest text
 
--- ---- what meets the premises
+-- ---- texts that meet the premises

@@ -1,4 +1,4 @@
--- What a search for the bytes with which an escaped character of PowerShell begins tells of a text.
+-- The search for the bytes with which an escaped character of PowerShell begins.
 use Rattle.std.proofs.Common.{◌≡◌, ◌==◌, ◌||◌, ◌&&◌, ℕ, zero, suc, ◌+◌, ◌<◌, ◌≤◌, Bool, true, false, cond, List, [], ◌∷◌, ◌++◌, length, get_or, take, drop, refl, sym, ◌∙◌, ap, subst, arith, add-one, append_assoc, drop-cons}
 use Rattle.std.proofs.Math.Seq.{take-suc}
 use Rattle.std.proofs.lemmas.Bool.{or_parts}
@@ -8,11 +8,11 @@ use Rattle.memchr.specs.Find.{is_byte3, places_from, places}
 use Rattle.cc_base.specs.Bytes.{line_feed, single_quote, right_quote_first}
 use Rattle.cc_quote.specs.PowershellQuote.{begins_second, begins_right_quote, begins_quote, powershell_escaped_byte, powershell_escaped, is_escaped}
 
--- the bytes that are searched
+-- the bytes that the search looks for
 abbrev pub may_begin : ℕ → Bool
 may_begin = is_byte3 single_quote line_feed right_quote_first
 
--- nothing else stands for the bytes before an index
+-- the bytes before an index are kept
 abbrev pub IsKeptTo : List ℕ → ℕ → Type 0
 IsKeptTo text at = powershell_escaped text ≡ take at text ++ powershell_escaped (drop at text)
 
@@ -31,7 +31,7 @@ kept_byte byte rest same =
     let quote = or_parts (byte == single_quote) (begins_right_quote byte rest) feed.1 in
     rw (quote.0, feed.0, quote.1)
 
--- so it may be passed
+-- so the search may pass over it
 pub kept_past : (text : List ℕ) (at : ℕ) → at < length text → IsKeptTo text at → is_escaped (get_or text at 0) (drop (at + 1) text) ≡ false → IsKeptTo text (at + 1)
 kept_past text at within kept same =
     kept
@@ -52,7 +52,7 @@ kept_past text at within kept same =
     longer : take (at + 1) text ≡ take at text ++ byte ∷ []
     longer = rw add-one (take-suc text at 0 within)
 
--- the indexes that a search has not given yet: it is at an index, up to which the text is kept
+-- the indexes that the search has not returned yet; up to its place the text is kept
 pub record AreLeft (text left : List ℕ) : Type 0 where
   pub from : ℕ
   pub count : ℕ
@@ -60,7 +60,7 @@ pub record AreLeft (text left : List ℕ) : Type 0 where
   pub kept : IsKeptTo text from
   pub left_are : left ≡ places_from may_begin text from count
 
--- the next index that it gives, and those after it
+-- the next index that the search returns, and the indexes after it
 pub record IsNext (text : List ℕ) (at : ℕ) (left : List ℕ) : Type 0 where
   pub within : at < length text
   pub kept : IsKeptTo text at
@@ -68,7 +68,7 @@ pub record IsNext (text : List ℕ) (at : ℕ) (left : List ℕ) : Type 0 where
   pub ends : at + 1 + count ≡ length text
   pub left_are : left ≡ places_from may_begin text (at + 1) count
 
--- at the start
+-- at the start, all indexes remain
 pub all_left : (text left : List ℕ) → left ≡ places may_begin text → AreLeft text left
 all_left text left e = record {
   from = 0;
@@ -109,15 +109,15 @@ none text from (suc count) ends kept e = by (may_begin (get_or text from 0)) ref
     by true is below e = cc
     by false is below e = below (kept_past text from (omega arith) kept (not_escaped (get_or text from 0) (drop (from + 1) text) is)) e
 
--- it gives an index
+-- the search returns an index
 pub next_state : (text left after : List ℕ) (at : ℕ) → AreLeft text left → left ≡ at ∷ after → IsNext text at after
 next_state text left after at h e = found text h.from h.count h.ends h.kept at after (sym e ∙ h.left_are)
 
--- it gives none
+-- the search returns no index
 pub no_state : (text left : List ℕ) → AreLeft text left → left ≡ [] → powershell_escaped text ≡ text
 no_state text left h e = none text h.from h.count h.ends h.kept (sym e ∙ h.left_are)
 
--- it goes on past a byte that is not escaped
+-- the search continues after a byte that is not escaped
 pub goes_on : (text after : List ℕ) (at : ℕ) → IsNext text at after → is_escaped (get_or text at 0) (drop (at + 1) text) ≡ false → AreLeft text after
 goes_on text after at next same = record {
   from = at + 1;

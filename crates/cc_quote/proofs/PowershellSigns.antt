@@ -12,12 +12,12 @@ use Rattle.cc_quote.proofs.WordReading.{AreSigns}
 
 -- ---- U+2019
 
--- a byte and the rest of a text: U+2019 begins there, or does not
+-- a byte and the text after it: U+2019 begins there, or does not
 pub data Beginning : ℕ → List ℕ → Type 0 where
   right : (more : List ℕ) → Beginning right_quote_first (right_quote_second ∷ right_quote_third ∷ more)
   plain : {byte : ℕ} {rest : List ℕ} → begins_right_quote byte rest ≡ false → Beginning byte rest
 
--- a text that begins with the second byte of U+2019 and the third
+-- a text that begins with the second and the third byte of U+2019
 second_and_third : (text : List ℕ) → begins_second text ≡ true → (more : List ℕ) × (text ≡ right_quote_second ∷ right_quote_third ∷ more)
 second_and_third [] e = cc
 second_and_third (byte ∷ []) e = let parts = and_parts (byte == right_quote_second) false e in cc
@@ -25,7 +25,7 @@ second_and_third (byte ∷ next ∷ more) e =
     let parts = and_parts (byte == right_quote_second) (next == right_quote_third) e in
     (more, ap₂ (λ b n. b ∷ n ∷ more) ((Decides-eqb byte right_quote_second).0 parts.0) ((Decides-eqb next right_quote_third).0 parts.1))
 
--- one of the two
+-- one of the two holds
 pub beginning : (byte : ℕ) (rest : List ℕ) → Beginning byte rest
 beginning byte rest = by_test (begins_right_quote byte rest) refl
   where
@@ -48,14 +48,14 @@ pub signs-right : (more : List ℕ) → powershell_signs (right_quote_first ∷ 
 unfolding powershell_signs sign_before sign
 signs-right more = refl
 
--- its last two bytes, alone
+-- the last two bytes of U+2019, alone
 pub signs-tail : (more : List ℕ) → powershell_signs (right_quote_second ∷ right_quote_third ∷ more) ≡ other (right_quote_second ∷ []) ∷ other (right_quote_third ∷ []) ∷ powershell_signs more
 unfolding powershell_signs sign_before sign
 signs-tail more = refl
 
--- ---- their laws
+-- ---- laws of signs
 
--- no byte is lost
+-- the signs hold all bytes
 bytes-signs : (text : List ℕ) → flat_map bytes (powershell_signs text) ≡ text
 unfolding powershell_signs
 bytes-signs [] = refl
@@ -66,11 +66,11 @@ bytes-signs (byte ∷ rest) = by_beginning byte rest (beginning byte rest) (byte
     by_beginning byte rest (right more) below =
         ap (flat_map bytes) (signs-right more) ∙ ap (λ bs. right_quote_first ∷ bs) (sym (ap (flat_map bytes) (signs-tail more)) ∙ below)
 
--- a blank does not begin U+2019
+-- whitespace does not begin U+2019
 blank-plain : (byte : ℕ) (rest : List ℕ) → is_blank byte ≡ true → begins_right_quote byte rest ≡ false
 blank-plain byte rest is = let other : byte == right_quote_first ≡ false = grind (arith, nat_tests) in ap (λ b. b && begins_second rest) other
 
--- a byte that is no blank, where no quote begins
+-- a byte that is not whitespace, if no quote begins there
 other-plain : (byte : ℕ) (rest : List ℕ) → is_blank byte ≡ false → BeginsWithNoQuote powershell_signs (byte ∷ rest) → powershell_signs (byte ∷ rest) ≡ other (byte ∷ []) ∷ powershell_signs rest
 other-plain byte rest no_blank none = by_beginning byte rest (beginning byte rest) no_blank none
   where
@@ -82,7 +82,7 @@ other-plain byte rest no_blank none = by_beginning byte rest (beginning byte res
         (sign-other byte no_blank (λ opening is. none opening (powershell_signs rest) (signs-plain byte rest e ∙ ap (λ s. s ∷ powershell_signs rest) is)))
     by_beginning byte rest (right more) no_blank none = absurd (none right_quote (powershell_signs more) (signs-right more))
 
--- in a bare word a byte that is no blank is kept, also one of U+2019
+-- a bare word keeps each byte that is not whitespace, even one of U+2019
 bare-kept : (byte : ℕ) (rest word : List ℕ) → is_blank byte ≡ false → word_from (bare word) (powershell_signs (byte ∷ rest)) ≡ word_from (bare (word ++ byte ∷ [])) (powershell_signs rest)
 bare-kept byte rest word no_blank = by_beginning byte rest (beginning byte rest) no_blank
   where
@@ -108,13 +108,13 @@ powershell_signs_are = record {
 
 -- ---- texts without a quote
 
--- no byte of them is a `'`
+-- no byte of such a text is a `'`
 pub HasNoQuote-IsUnquoted : (text : List ℕ) → IsUnquoted text → HasNoQuote text
 unfolding is_quote_first
 HasNoQuote-IsUnquoted [] h = tt
 HasNoQuote-IsUnquoted (byte ∷ text) h = let here = h.0 in (grind (arith, nat_tests), HasNoQuote-IsUnquoted text h.1)
 
--- each byte of them is a sign of its own, whatever follows
+-- each byte of such a text has its own sign, whatever follows
 pub signs-unquoted : (text rest : List ℕ) → IsUnquoted text → powershell_signs (text ++ rest) ≡ map sign text ++ powershell_signs rest
 unfolding is_quote_first
 signs-unquoted [] rest h = refl
@@ -124,18 +124,18 @@ signs-unquoted (byte ∷ text) rest h =
     signs-plain byte (text ++ rest) (ap (λ b. b && begins_second (text ++ rest)) other)
     ∙ ap (λ signs. sign byte ∷ signs) (signs-unquoted text rest h.1)
 
--- ---- where a text begins
+-- ---- the start of a text
 
--- with a `'`
+-- a text that begins with a `'`
 pub powershell_begins : (text rest : List ℕ) → text ≡ single_quote ∷ rest → BeginsWithQuote powershell_signs text (single_quote ∷ []) rest
 unfolding powershell_signs sign_before sign
 powershell_begins text rest e = record { whole = e; signs_are = ap powershell_signs e }
 
--- with U+2019
+-- a text that begins with U+2019
 pub powershell_begins_right : (text rest : List ℕ) → text ≡ right_quote ++ rest → BeginsWithQuote powershell_signs text right_quote rest
 powershell_begins_right text rest e = record { whole = e; signs_are = ap powershell_signs e ∙ signs-right rest }
 
--- with neither
+-- a text that begins with neither
 pub powershell_begins_none : (text : List ℕ) → ((rest : List ℕ) → text ≢ single_quote ∷ rest) → ((rest : List ℕ) → text ≢ right_quote ++ rest) → BeginsWithNoQuote powershell_signs text
 unfolding powershell_signs
 powershell_begins_none [] h k = λ opening rest e. cc

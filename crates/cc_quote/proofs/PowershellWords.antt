@@ -17,20 +17,20 @@ use Rattle.cc_quote.proofs.PowershellSigns.{Beginning, beginning, signs-plain, p
 use Rattle.cc_quote.proofs.PowershellSigns.Beginning.{right, plain}
 use Rattle.cc_quote.proofs.WithinQuotes.{word_reads}
 
--- what was escaped is read as the text, between two quotes
+-- an escaped text between two quotes is read as the text
 pub powershell_reads_back : (text escaped : List ℕ) → escaped ≡ powershell_escaped text → powershell_word_of (codes "'" ++ escaped ++ codes "'") ≡ Some (line_feeds_as_spaces text, [])
 unfolding powershell_signs sign_before sign
 powershell_reads_back text escaped e = rw e (escaped_reads (λ w s. word_from (quoted w) s) word_reads text [] [])
 
 -- ---- U+2019 at an index of a text
 
--- its bytes
+-- the bytes of U+2019
 pub encoded : encode_utf8 8217 ≡ right_quote
 unfolding encode_utf8
 encoded = refl
 
 module _ (text : List ℕ) (at : ℕ) (within : at < length text) (begins : begins_right_quote (get_or text at 0) (drop (at + 1) text) ≡ true) where
-  -- what follows it
+  -- the text after it
   stands : (rest : List ℕ) × (drop at text ≡ right_quote ++ rest)
   stands =
       by_beginning (get_or text at 0) (drop (at + 1) text) (beginning (get_or text at 0) (drop (at + 1) text)) (rw add-one (drop-cons text at 0 within)) begins
@@ -45,11 +45,11 @@ module _ (text : List ℕ) (at : ℕ) (within : at < length text) (begins : begi
   follows : drop (at + 3) text ≡ stands.0
   follows = drop_past_char text stands.0 at 8217 spelled
 
-  -- the text with it and what follows it
+  -- the text from U+2019 on is U+2019 and the rest
   pub right_at : drop at text ≡ right_quote ++ drop (at + 3) text
   right_at = stands.1 ∙ ap (λ bs. right_quote ++ bs) (sym follows)
 
-  -- the text may be cut after it
+  -- the text may be cut after U+2019
   pub cut_after : IsUtf8 text → IsCharBoundary text (at + 3)
   cut_after utf8 =
       let byte : get_or text at 0 ≡ right_quote_first = byte_at (right_quote_second ∷ right_quote_third ∷ stands.0) stands.1 in
@@ -59,7 +59,7 @@ module _ (text : List ℕ) (at : ℕ) (within : at < length text) (begins : begi
       byte_at : (rest : List ℕ) → drop at text ≡ right_quote_first ∷ rest → get_or text at 0 ≡ right_quote_first
       byte_at rest e = sym (rw add-zero at (get_or-drop at text 0 0)) ∙ ap (λ bs. get_or bs 0 0) e
 
--- a quote that is no `'` is U+2019
+-- a quote other than `'` is U+2019
 pub begins_right : (byte : ℕ) (rest : List ℕ) → byte ≢ 39 → begins_quote byte rest ≡ true → begins_right_quote byte rest ≡ true
 begins_right byte rest no_quote h = by_test (byte == single_quote) refl h
   where
@@ -67,7 +67,7 @@ begins_right byte rest no_quote h = by_test (byte == single_quote) refl h
     by_test true e h = absurd (no_quote ((Decides-eqb byte single_quote).0 e))
     by_test false e h = h
 
--- so is what is escaped and is neither a `'` nor a line feed
+-- an escaped character other than `'` and a line feed is U+2019
 pub escaped_right : (byte : ℕ) (rest : List ℕ) → byte ≢ 39 → byte ≢ 10 → is_escaped byte rest ≡ true → begins_right_quote byte rest ≡ true
 escaped_right byte rest no_quote no_line_feed h = by_test (byte == line_feed) refl h
   where
@@ -83,9 +83,9 @@ escaped_at_right text at first begins =
     ∙ ap (λ bs. take at text ++ powershell_escaped bs) (right_at text at first.within begins)
     ∙ sym (append_assoc (take at text) (single_quote ∷ right_quote) (powershell_escaped (drop (at + 3) text)))
 
--- ---- where the first quote of a text is
+-- ---- the first quote of a text
 
--- an index further, past a byte that begins no quote
+-- one index further, after a byte that does not begin a quote
 pub no_quote_before : (text : List ℕ) (at : ℕ) → at < length text → HasNoQuoteBefore text at → begins_quote (get_or text at 0) (drop (at + 1) text) ≡ false → HasNoQuoteBefore text (at + 1)
 no_quote_before text at within h none = record {
   signs_are =
@@ -113,7 +113,7 @@ no_quote_before text at within h none = record {
     longer : take (at + 1) text ≡ take at text ++ byte ∷ []
     longer = rw add-one (take-suc text at 0 within)
 
--- a text that has no quote before its end
+-- a text without a quote before its end
 pub without_quotes : (text : List ℕ) (at : ℕ) → length text ≤ at → HasNoQuoteBefore text at → IsWithoutQuotes powershell_signs text
 unfolding powershell_signs
 without_quotes text at past h = record {

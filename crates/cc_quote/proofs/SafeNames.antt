@@ -36,7 +36,7 @@ unfolding is_posix_safe_word
 plain_safe [] h = absurd (plain_some [] h refl)
 plain_safe (byte ∷ name) h = all_pass is_posix_safe (byte ∷ name) (AllByRecursion-weaker (λ b. name_byte b ≢ foreign) (λ b. is_posix_safe b ≡ true) posix_safe (byte ∷ name) (plain_bytes (byte ∷ name) h))
 
--- nor does a plain path
+-- a byte of a plain path needs no quotes
 path_byte_safe : (byte : ℕ) → is_path_byte byte ≡ true → is_posix_safe byte ≡ true
 unfolding is_path_byte is_posix_safe
 path_byte_safe byte h = grind (arith, nat_tests)

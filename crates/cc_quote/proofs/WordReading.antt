@@ -1,4 +1,4 @@
--- How the reader of a word goes through a text, of whose signs five laws are known.
+-- The reading of a word in a text whose signs obey five laws.
 use Rattle.std.proofs.Common.{◌≡◌, ◌≢◌, ◌⊎◌, ℕ, true, false, List, [], ◌∷◌, ◌++◌, map, flat_map, Option, Some, None, refl, sym, ap, subst, ◌∙◌, append_assoc, append-nil, inl, inr}
 use Rattle.std.specs.Str.{NonePass}
 use Rattle.cc_quote.specs.QuotedWord.{before, bare, quoted, after_quote, word_from, IsBareRead, IsWithoutQuotes, IsCutAtQuote, BeginsWithQuote, BeginsWithNoQuote}
@@ -7,8 +7,8 @@ use Rattle.cc_base.specs.Bytes.{is_blank, space}
 use Rattle.cc_quote.proofs.Blanks.{bytes_no_blank}
 use Rattle.cc_quote.proofs.WithinQuotes.{word_reads, kept_text}
 
--- no byte is lost; a blank is a sign of its own, and so is any other byte where no quote begins; and in a bare
--- word each byte that is no blank is kept, whatever its sign
+-- The signs hold all bytes. Whitespace has a sign of its own, and so has any other byte at which no
+-- quote begins. A bare word keeps each byte that is not whitespace, whatever its sign.
 pub record AreSigns (signs : List ℕ → List Sign) : Type 0 where
   pub of_none : signs [] ≡ []
   pub bytes_are : (text : List ℕ) → flat_map bytes (signs text) ≡ text
@@ -19,7 +19,7 @@ pub record AreSigns (signs : List ℕ → List Sign) : Type 0 where
 module _ (signs : List ℕ → List Sign) (are : AreSigns signs) where
   -- ---- a quoted word
 
-  -- a quote that no other follows closes the word
+  -- a quote that no other quote follows closes the word
   closed : (rest word : List ℕ) → BeginsWithNoQuote signs rest → word_from (after_quote word) (signs rest) ≡ Some (word, rest)
   closed rest word none = by_sign (signs rest) none ∙ ap (λ bs. Some (word, bs)) (are.bytes_are rest)
     where
@@ -27,7 +27,7 @@ module _ (signs : List ℕ → List Sign) (are : AreSigns signs) where
       by_sign (quote run ∷ more) h = absurd (h run more refl)
       by_sign s h = refl
 
-  -- a run, a quote and what follows it, which begins with no quote: the word is read
+  -- a word ends after a run and a quote, if the text after it does not begin with a quote
   pub closes : (text run opening rest word : List ℕ) → IsCutAtQuote signs text run opening rest → BeginsWithNoQuote signs rest
       → word_from (quoted word) (signs text) ≡ Some (word ++ run, rest)
   closes text run opening rest word at none =
@@ -35,7 +35,7 @@ module _ (signs : List ℕ → List Sign) (are : AreSigns signs) where
       ∙ kept_text (λ w s. word_from (quoted w) s) word_reads run (quote opening ∷ signs rest) word at.no_quote
       ∙ closed rest (word ++ run) none
 
-  -- where it begins with a quote, the word goes on
+  -- the word continues if that text begins with a quote
   pub goes_on : (text run opening rest second next word : List ℕ) → IsCutAtQuote signs text run opening rest → BeginsWithQuote signs rest second next
       → word_from (quoted word) (signs text) ≡ word_from (quoted (word ++ run ++ second)) (signs next)
   goes_on text run opening rest second next word at doubled =
@@ -43,7 +43,7 @@ module _ (signs : List ℕ → List Sign) (are : AreSigns signs) where
       ∙ kept_text (λ w s. word_from (quoted w) s) word_reads run (quote opening ∷ signs rest) word at.no_quote
       ∙ ap (word_from (after_quote (word ++ run))) doubled.signs_are
 
-  -- a quote that none closes
+  -- a quote that is not closed
   pub stays_open : (text word : List ℕ) → IsWithoutQuotes signs text → word_from (quoted word) (signs text) ≡ None
   stays_open text word h =
       ap (word_from (quoted word)) (h.signs_are ∙ sym (append-nil (map sign text)))
@@ -51,14 +51,14 @@ module _ (signs : List ℕ → List Sign) (are : AreSigns signs) where
 
   -- ---- a bare word
 
-  -- a run without a blank, in a word that has begun
+  -- a run without whitespace, in a word that has begun
   bare_run : (run rest word : List ℕ) → NonePass is_blank run → word_from (bare word) (signs (run ++ rest)) ≡ word_from (bare (word ++ run)) (signs rest)
   bare_run [] rest word h = ap (λ w. word_from (bare w) (signs rest)) (sym (append-nil word))
   bare_run (byte ∷ run) rest word h =
       are.of_bare byte (run ++ rest) word h.0 ∙ bare_run run rest (word ++ byte ∷ []) h.1
       ∙ ap (λ w. word_from (bare w) (signs rest)) (append_assoc word (byte ∷ []) run)
 
-  -- it ends before a blank and at the end
+  -- a bare word ends before whitespace and at the end
   bare_end : (back word : List ℕ) → (back ≡ []) ⊎ ((byte : ℕ) × (after : List ℕ) × (is_blank byte ≡ true) × (back ≡ byte ∷ after)) → word_from (bare word) (signs back) ≡ Some (word, back)
   bare_end back word (inl e) =
       subst (λ bs. word_from (bare word) (signs bs) ≡ Some (word, bs)) (sym e) (ap (word_from (bare word)) are.of_none)
@@ -66,7 +66,7 @@ module _ (signs : List ℕ → List Sign) (are : AreSigns signs) where
       subst (λ bs. word_from (bare word) (signs bs) ≡ Some (word, bs)) (sym e)
       (ap (word_from (bare word)) (are.of_blank byte after is) ∙ ap (λ bs. Some (word, byte ∷ bs)) (are.bytes_are after))
 
-  -- a text that begins with no quote, cut at its first blank
+  -- a text that does not begin with a quote, cut at its first whitespace
   pub bare_word : (text : List ℕ) (read : Option (List ℕ × List ℕ)) → IsBareRead text read → BeginsWithNoQuote signs text → word_from before (signs text) ≡ read
   bare_word text None at none = by_end at.ends
     where
@@ -82,7 +82,7 @@ module _ (signs : List ℕ → List Sign) (are : AreSigns signs) where
       ∙ bare_run front back (byte ∷ []) clear.1
       ∙ bare_end back (byte ∷ front) at.0.ends
 
-  -- a run without a blank, and a space: the word ends there
+  -- a word ends between a run without whitespace and a space
   pub word_before_space : (byte : ℕ) (run rest : List ℕ) → BeginsWithNoQuote signs (byte ∷ run ++ space ∷ rest) → NonePass is_blank (byte ∷ run)
       → word_from before (signs (byte ∷ run ++ space ∷ rest)) ≡ Some (byte ∷ run, space ∷ rest)
   word_before_space byte run rest none clear =

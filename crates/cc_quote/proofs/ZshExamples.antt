@@ -1,4 +1,4 @@
--- Worked rows of zsh's escapes.
+-- Examples of zsh's escapes.
 use Rattle.std.proofs.Common.{◌≡◌, refl, Some, None, codes}
 use Rattle.cc_quote.specs.ZshQuote.{marks, marks_from, unmarked, zsh_unescaped, zsh_escaped_help, zsh_escaped_value}
 

@@ -1,4 +1,4 @@
--- What a value and a help of a reply of zsh are read as.
+-- The reading of a value and of a help text in a reply for zsh.
 use Rattle.std.proofs.Common.{◌≡◌, ℕ, List, Some, refl}
 use Rattle.cc_quote.specs.ZshQuote.{zsh_unescaped}
 use Rattle.cc_quote.specs.ZshReply.{is_reply_value_marked, is_reply_help_marked, zsh_replied_value, zsh_replied_help}

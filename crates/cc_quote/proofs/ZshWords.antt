@@ -1,4 +1,4 @@
--- What zsh's escapes are read as.
+-- The reading of texts that zsh's escapes wrote.
 use Rattle.std.proofs.Common.{◌≡◌, ◌==◌, ℕ, ◌≤◌, Bool, true, false, not, cond, List, [], ◌∷◌, ◌++◌, map, Option, Some, None, option_map, codes, inr, refl, sym, ◌∙◌, ap, arith, append_assoc, append-nil}
 use Rattle.std.proofs.lemmas.Bool.Decides.{Decides-eqb, nat_tests}
 use Rattle.std.proofs.lemmas.List.Folds.{flat_map-map}
@@ -37,17 +37,17 @@ value_composed text =
 
 -- ---- backslashes
 
--- a byte that is no backslash stands for itself
+-- a byte other than a backslash stands for itself
 pub marks-kept : (byte : ℕ) (rest : List ℕ) → byte == backslash ≡ false → marks_from false (byte ∷ rest) ≡ kept byte ∷ marks_from false rest
 unfolding marks_from
 marks-kept byte rest e = rw (marks_from, e) refl
 
--- what the byte of a marked text is
+-- the mark of a byte of an escaped text
 abbrev pub mark_of : (ℕ → Bool) → ℕ → Mark
 mark_of is_marked byte = cond (is_marked byte) (escaped byte) (kept byte)
 
 module _ (is_marked : ℕ → Bool) (backslash_marked : is_marked 92 ≡ true) where
-  -- a marked byte, whatever follows
+  -- a byte with its backslash if it needs one, whatever follows
   marks-byte : (byte : ℕ) (rest : List ℕ) → marks_from false (marked_byte is_marked byte ++ rest) ≡ mark_of is_marked byte ∷ marks_from false rest
   unfolding marks_from
   marks-byte byte rest = by_tests (is_marked byte) (byte == backslash) refl refl
@@ -57,7 +57,7 @@ module _ (is_marked : ℕ → Bool) (backslash_marked : is_marked 92 ≡ true) w
       by_tests false true e f = let is : byte ≡ 92 = (Decides-eqb byte backslash).0 f in let both : true ≡ false = sym backslash_marked ∙ ap is_marked (sym is) ∙ e in cc
       by_tests false false e f = marks-kept byte rest f
 
-  -- a marked text, whatever follows
+  -- an escaped text, whatever follows
   pub marks-marked : (text rest : List ℕ) → marks_from false (marked is_marked text ++ rest) ≡ map (mark_of is_marked) text ++ marks_from false rest
   marks-marked [] rest = refl
   marks-marked (byte ∷ text) rest =
@@ -65,7 +65,7 @@ module _ (is_marked : ℕ → Bool) (backslash_marked : is_marked 92 ≡ true) w
       ∙ marks-byte byte (marked is_marked text ++ rest)
       ∙ ap (λ ms. mark_of is_marked byte ∷ ms) (marks-marked text rest)
 
-  -- it is read as the text
+  -- an escaped text is read as the text
   unmarked-text : (text : List ℕ) → unmarked (map (mark_of is_marked) text) ≡ Some text
   unfolding unmarked
   unmarked-text [] = refl
@@ -83,7 +83,7 @@ module _ (is_marked : ℕ → Bool) (backslash_marked : is_marked 92 ≡ true) w
       ∙ ap unmarked (append-nil (map (mark_of is_marked) text))
       ∙ unmarked-text text
 
--- a description that was escaped is read as it, with line feeds as spaces
+-- an escaped description is read as the description, with line feeds as spaces
 pub help_reads_unescaped : (text : List ℕ) → ReadsUnescaped (zsh_escaped_help text) (line_feeds_as_spaces text)
 help_reads_unescaped text = record {
   between = marked is_help_marked (line_feeds_as_spaces text);
@@ -91,7 +91,7 @@ help_reads_unescaped text = record {
   unescaped = marked_unescaped is_help_marked refl (line_feeds_as_spaces text);
 }
 
--- so is a value
+-- an escaped value is read as the value
 pub value_reads_unescaped : (text : List ℕ) → ReadsUnescaped (zsh_escaped_value text) text
 value_reads_unescaped text = record {
   between = marked is_value_marked text;
@@ -101,7 +101,7 @@ value_reads_unescaped text = record {
 
 -- ---- the reader, state by state
 
--- a byte from 128 on is no backslash
+-- a byte from 128 on is not a backslash
 no_backslash : (byte : ℕ) → 128 ≤ byte → byte == backslash ≡ false
 no_backslash byte h = grind (arith, nat_tests)
 
@@ -125,17 +125,17 @@ unescaping_reads = record {
   same = λ state a b word bytes h k. high_added state a word bytes h ∙ sym (high_added state b word bytes k);
 }
 
--- a byte more of the word
+-- one more byte of the word
 added : (word : List ℕ) (byte : ℕ) (read : Option (List ℕ)) → option_map (λ bytes. (word ++ byte ∷ []) ++ bytes) read ≡ option_map (λ bytes. word ++ bytes) (option_map (λ bytes. byte ∷ bytes) read)
 added word byte None = refl
 added word byte (Some bytes) = ap Some (append_assoc word (byte ∷ []) bytes)
 
--- from this state and word on, the text is read as a word and these bytes
+-- from the given state and word on, the text is read as a word with these bytes
 abbrev Reads : List ℕ → EscapeState → List ℕ → List ℕ → Option (List ℕ) → Type 0
 Reads word state grown text read =
     option_map (λ read. read.0) (word_from escape_next unescaped_added is_plain state grown text) ≡ option_map (λ bytes. word ++ bytes) read
 
--- after a word, the marks that are left
+-- the marks that remain after a word
 read_by_marks : (state : EscapeState) (word text : List ℕ) → Reads word state word text (unmarked (marks_from (not (is_plain state)) text))
 unfolding marks_from unmarked
 read_by_marks Plain word [] = ap Some (sym (append-nil word))
@@ -149,7 +149,7 @@ read_by_marks Plain word (byte ∷ text) =
     by_test true e escaping plain = rw (marks_from, e) escaping
     by_test false e escaping plain = rw (marks_from, e) plain
 
--- it reads what is left without the backslashes that escape
+-- the reader returns the text without the backslashes that escape
 pub states_unescape : (text : List ℕ) → option_map (λ read. read.0) (word_from escape_next unescaped_added is_plain Plain [] text) ≡ zsh_unescaped text
 unfolding zsh_unescaped marks
 states_unescape text = read_by_marks Plain [] text ∙ from_none (unmarked (marks_from false text))

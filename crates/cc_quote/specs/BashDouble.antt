@@ -1,4 +1,4 @@
--- Texts between two `"` of bash.
+-- Texts between two `"` in bash.
 use Rattle.std.specs.Prelude.{ℕ, Bool, List, [], Option, None, ◌==◌, ◌||◌}
 use Rattle.cc_base.specs.Bytes as ascii
 use Rattle.cc_quote.specs.Escapes.{marked}
@@ -7,31 +7,30 @@ use Rattle.cc_quote.specs.WordReader.{word_from, after_double_quote}
 use Rattle.cc_quote.specs.declared.posix.QuoteState.{QuoteState}
 use Rattle.cc_quote.specs.declared.posix.QuoteState.TheVariants.{InDouble, InDoubleEscaped}
 
--- ---- how it is read
+-- ---- how a text is read
 
--- the state after a character between `"`, and none after the `"` that closes them
+-- the state after a character between two `"`; `None` after the closing `"`
 abbrev pub double_next : QuoteState → ℕ → Option QuoteState
 double_next InDouble character = posix_next InDouble character
 double_next InDoubleEscaped character = posix_next InDoubleEscaped character
 double_next _ character = None
 
--- from a state between `"` on, what is spelled up to the `"` that closes them, and what follows it
+-- what a text between two `"` spells from a state on, up to the closing `"`, and the rest
 unfoldable pub bash_double_from : QuoteState → List ℕ → List ℕ → Option (List ℕ × List ℕ)
 bash_double_from state word text = word_from double_next posix_added is_bare state word text
 
--- what a text that begins with `"` spells between it and the `"` that closes it, and what follows
--- that
+-- what a text that begins with `"` spells up to the closing `"`, and the rest
 unfoldable pub bash_double_of : List ℕ → Option (List ℕ × List ℕ)
 bash_double_of text = after_double_quote (bash_double_from InDouble []) text
 
 -- ---- how a text is escaped
 
--- `\`, `"`, `$` and a backtick are after a backslash
+-- whether a byte follows a backslash: `\`, `"`, `$` or a backtick
 abbrev pub is_double_marked : ℕ → Bool
 is_double_marked byte =
     byte == ascii.backslash || byte == ascii.double_quote || byte == ascii.dollar
     || byte == ascii.backtick
 
--- a text between `"`
+-- a text as it is written between two `"`
 abbrev pub bash_doubled : List ℕ → List ℕ
 bash_doubled text = marked is_double_marked text

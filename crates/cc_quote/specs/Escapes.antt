@@ -1,13 +1,13 @@
--- How a text is escaped: byte by byte, or by runs.
+-- Escapes of texts, byte by byte or in runs.
 use Rattle.std.specs.Prelude.{◌≡◌, ℕ, ◌<◌, Bool, List, [], ◌∷◌, ◌++◌, Option, Some, None, flat_map, length, if◌then◌else◌}
 use Rattle.cc_base.specs.Bytes.{backslash}
 use Rattle.memchr.specs.Find.{is_byte}
 
--- what stands for a byte that is escaped; none where it is not
+-- the replacement of a byte; `None` if it is not escaped
 abbrev pub replacement_by : (ℕ → Bool) → (ℕ → List ℕ) → ℕ → Option (List ℕ)
 replacement_by escapes replacement byte = if escapes byte then Some (replacement byte) else None
 
--- what is written for a byte
+-- the text that is written for a byte
 abbrev pub escaped_byte : (ℕ → Bool) → (ℕ → List ℕ) → ℕ → List ℕ
 escaped_byte escapes replacement byte = if escapes byte then replacement byte else byte ∷ []
 
@@ -15,7 +15,7 @@ escaped_byte escapes replacement byte = if escapes byte then replacement byte el
 abbrev pub escaped_by : (ℕ → Bool) → (ℕ → List ℕ) → List ℕ → List ℕ
 escaped_by escapes replacement text = flat_map (escaped_byte escapes replacement) text
 
--- a text with another in place of each such byte
+-- a text with another text instead of each occurrence of one byte
 abbrev pub replace_byte : ℕ → List ℕ → List ℕ → List ℕ
 replace_byte byte by text = escaped_by (is_byte byte) (λ _. by) text
 
@@ -23,16 +23,16 @@ replace_byte byte by text = escaped_by (is_byte byte) (λ _. by) text
 abbrev pub backslashed : ℕ → List ℕ
 backslashed byte = backslash ∷ byte ∷ []
 
--- a byte, after a backslash where the test holds
+-- a byte, with a backslash before it if a test holds
 abbrev pub marked_byte : (ℕ → Bool) → ℕ → List ℕ
 marked_byte is_marked byte = escaped_byte is_marked backslashed byte
 
--- a text with a backslash before each byte for which the test holds
+-- a text with a backslash before each byte for which a test holds
 abbrev pub marked : (ℕ → Bool) → List ℕ → List ℕ
 marked is_marked text = escaped_by is_marked backslashed text
 
--- the first escape of a text: the run before it is kept, the replacement stands for what is
--- escaped, and the rest is still to be escaped
+-- The first escape of a text: the run before it is kept, the replacement is written, and the rest
+-- is escaped after that.
 pub record IsFirstEscape (escaped : List ℕ → List ℕ) (text run replacement rest : List ℕ)
     : Type 0 where
   pub whole : escaped text ≡ run ++ replacement ++ escaped rest

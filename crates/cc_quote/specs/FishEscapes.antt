@@ -1,15 +1,15 @@
--- What stands for each byte that fish's escapes for two readings write anew.
+-- The replacement of each byte in fish's escapes of texts that are read twice.
 use Rattle.std.specs.Prelude.{ℕ, Bool, List, ◌==◌, ◌||◌}
 use Rattle.cc_base.specs.Bytes.{line_feed}
 use Rattle.cc_quote.specs.Escapes.{marked_byte}
 use Rattle.cc_quote.specs.QuotedWord.{space_for_line_feed}
 use Rattle.cc_quote.specs.FishQuote.{is_single_marked, is_double_marked, double_escaped}
 
--- between `'` that are between `"`
+-- a byte between two `'` that are between two `"`
 abbrev pub eval_byte : ℕ → List ℕ
 eval_byte byte = double_escaped (marked_byte is_single_marked byte)
 
--- there in a help
+-- a byte of a help text there
 abbrev pub help_byte : ℕ → List ℕ
 help_byte byte = eval_byte (space_for_line_feed byte)
 
@@ -17,6 +17,6 @@ help_byte byte = eval_byte (space_for_line_feed byte)
 abbrev pub is_eval_byte : ℕ → Bool
 is_eval_byte byte = is_single_marked byte || is_double_marked byte
 
--- or is a line feed
+-- whether a byte of a help text is escaped there: one of these, or a line feed
 abbrev pub is_help_byte : ℕ → Bool
 is_help_byte byte = is_eval_byte byte || byte == line_feed

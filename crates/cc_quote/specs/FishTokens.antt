@@ -1,13 +1,13 @@
--- How a fish script is cut into commands, each a list of the words that it spells; none for a last
--- one in which a quote or an escape is open at the end.
+-- The commands into which a fish script is cut. Each is the list of the words that it spells, or
+-- `None` for a last one with an open quote or escape at its end.
 use Rattle.std.specs.Prelude.{ℕ, List, [], ◌∷◌, ◌++◌, Option, Some, None}
 use Rattle.cc_quote.specs.FishQuote.{fish_sign, FishState, bare, next_state, spelled}
 use Rattle.cc_quote.specs.FishQuote.FishSign.{blank, line_feed, hash}
 use Rattle.cc_quote.specs.FishQuote.FishState.{at}
 use Rattle.cc_quote.specs.declared.fish_reader.QuoteState.TheVariants.{Bare}
 
--- where the cutting is, with the words of the command so far: before a word, in a comment,
--- which goes to the end of its line, or in a word
+-- the state of the cutting, with the words of the command so far: before a word, in a comment,
+-- which ends at the end of the line, or in a word
 pub data CommandState : Type 0 where
   between : List (List ℕ) → CommandState
   comment : List (List ℕ) → CommandState

@@ -1,4 +1,4 @@
--- Words as a posix shell reads them, and how a text is quoted for it.
+-- Words as a POSIX shell reads them, and the quoting of a text for a POSIX shell.
 use Rattle.std.specs.Prelude.{
   ℕ,
   Bool,
@@ -43,7 +43,7 @@ use Rattle.cc_quote.specs.declared.posix.QuoteState.TheVariants.{
 
 -- ---- how a word is read
 
--- the state after one more byte, which has this sign; none where the word ends before it
+-- the state after one more byte with the given sign; `None` if the word ends before it
 abbrev pub next_state : QuoteState → Sign → Option QuoteState
 next_state Before (blank _) = None
 next_state Before line_feed = None
@@ -67,9 +67,9 @@ next_state InDouble backslash = Some InDoubleEscaped
 next_state InDouble _ = Some InDouble
 next_state InDoubleEscaped _ = Some InDouble
 
--- The word after one more character, which has this sign and these bytes: they are added, but for
--- quotes that open or close, a backslash that escapes, and a line feed after one. Between `"` a
--- backslash stays before what it does not escape.
+-- The word after one more character with the given sign and bytes. The bytes are added, except for
+-- quotes that open or close, a backslash that escapes, and a line feed after such a backslash.
+-- Between two `"` a backslash stays before a character that it does not escape.
 abbrev pub word_after : QuoteState → Sign → List ℕ → List ℕ → List ℕ
 word_after InSingle single_quote word bytes = word
 word_after InSingle _ word bytes = word ++ bytes
@@ -90,7 +90,7 @@ word_after _ double_quote word bytes = word
 word_after _ backslash word bytes = word
 word_after _ _ word bytes = word ++ bytes
 
--- the same of a character, of which the number tells the sign
+-- the same by the number of a character, which determines its sign
 abbrev pub posix_next : QuoteState → ℕ → Option QuoteState
 posix_next state character = next_state state (sign character)
 
@@ -102,26 +102,27 @@ abbrev pub is_bare : QuoteState → Bool
 is_bare Bare = true
 is_bare _ = false
 
--- from a state and a word so far on
+-- the word from a state and a word so far on
 unfoldable pub posix_word_from : QuoteState → List ℕ → List ℕ → Option (List ℕ × List ℕ)
 posix_word_from state word text = word_from posix_next posix_added is_bare state word text
 
--- the word that a text begins with, and what follows it
+-- the word with which a text begins, and the rest
 unfoldable pub posix_word_of : List ℕ → Option (List ℕ × List ℕ)
 posix_word_of text = posix_word_from Before [] text
 
 -- ---- how a text is quoted
 
--- ASCII letters, digits and `+ - . / : @ _`, which need no quotes
+-- whether a byte needs no quotes: an ASCII letter, a digit or one of `+ - . / : @ _`
 unfoldable pub is_posix_safe : ℕ → Bool
 is_posix_safe byte = is_ascii_alphanumeric byte || list_any (λ safe. byte == safe) (codes "+-./:@_")
 
--- whether a text that is not empty is made of such bytes
+-- whether a text is not empty and no byte of it needs quotes
 unfoldable pub is_posix_safe_word : List ℕ → Bool
 is_posix_safe_word [] = false
 is_posix_safe_word (byte ∷ bytes) = list_all is_posix_safe (byte ∷ bytes)
 
--- a text between `'`: for a `'` the quotes close, it follows a backslash, and they open again
+-- a text as it is written between two `'`: for each `'` the quotes close, `\'` follows, and they
+-- open again
 abbrev pub posix_escaped : List ℕ → List ℕ
 posix_escaped text = replace_byte single_quote_byte (codes "'\\''") text
 

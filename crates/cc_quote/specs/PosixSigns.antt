@@ -1,4 +1,4 @@
--- What the bytes of a text are to a posix shell.
+-- What bytes mean to a POSIX shell.
 use Rattle.std.specs.Prelude.{ℕ, ◌==◌, ◌||◌, if◌then◌else◌}
 use Rattle.cc_base.specs.Bytes.{
   tab as tab_byte,
@@ -11,8 +11,8 @@ use Rattle.cc_base.specs.Bytes.{
   backtick as backtick_byte,
 }
 
--- what a byte is: a space or a tab, a line feed, a quote of either kind, a
--- backslash, one of the two others that a backslash escapes within double quotes, or any other
+-- what a byte means: a space or a tab, a line feed, a quote of either kind, a backslash, one of the
+-- two others that a backslash escapes within double quotes, or any other
 pub data Sign : Type 0 where
   blank : ℕ → Sign
   line_feed : Sign

@@ -1,5 +1,5 @@
--- The tokens of a script for a posix shell, as bash or zsh. It is cut at blanks and line feeds
--- outside quotes, as words are read; a token keeps its pieces, each with its kind of quote. Nothing
+-- The tokens of a script for a POSIX shell, such as bash or zsh. The script is cut at whitespace
+-- outside quotes, as words are read. A token keeps its pieces, each with its kind of quote. Nothing
 -- is a comment.
 use Rattle.std.specs.Prelude.{ℕ, Bool, List, [], ◌∷◌, ◌++◌, map, Some, None, bytes_eq}
 use Rattle.cc_base.specs.Bytes.{
@@ -15,23 +15,23 @@ use Rattle.cc_quote.specs.Tokens.Piece.{bare, quoted, unclosed}
 use Rattle.cc_quote.specs.declared.posix.QuoteState.{QuoteState}
 use Rattle.cc_quote.specs.declared.posix.QuoteState.TheVariants.{Before, Bare, InSingle, InDouble, InDoubleEscaped}
 
--- what single or double quotes hold
+-- a piece between single quotes, and one between double quotes
 abbrev pub single : List ℕ → Piece
 single text = quoted (single_quote_byte ∷ []) text
 
 abbrev pub double : List ℕ → Piece
 double text = quoted (double_quote_byte ∷ []) text
 
--- whether an opening quote is a double one
+-- whether an opening quote is a double quote
 abbrev pub is_double_quote : List ℕ → Bool
 is_double_quote opening = bytes_eq opening (double_quote_byte ∷ [])
 
--- what a token has so far: its pieces, and the text of the piece that is open, where one is
+-- a token so far: its pieces, and the text of the open piece if there is one
 pub data PartialToken : Type 0 where
   after_piece : Token → PartialToken
   in_piece : Token → List ℕ → PartialToken
 
--- where the cutting is: where the reader of words is, in a token that has this so far
+-- the state of the cutting: the state of the reader of words, and the token so far
 pub data CutState : Type 0 where
   at : QuoteState → PartialToken → CutState
 
@@ -54,23 +54,23 @@ piece_of InSingle text = single text
 piece_of InDouble text = double text
 piece_of _ text = bare text
 
--- the pieces with the one that is open at a state
+-- the pieces, including the one that is open at a state
 abbrev pub pieces_of : QuoteState → PartialToken → Token
 pieces_of state (after_piece pieces) = pieces
 pieces_of state (in_piece pieces text) = pieces ++ piece_of state text ∷ []
 
--- the pieces with one that stays open after this
+-- the pieces, including one that stays open after the given quote
 abbrev pub unclosed_after : List ℕ → PartialToken → Token
 unclosed_after opening (after_piece pieces) = pieces ++ unclosed opening [] ∷ []
 unclosed_after opening (in_piece pieces text) = pieces ++ unclosed opening text ∷ []
 
--- a piece begins where there is a text for it
+-- a piece begins if there is a text for it
 abbrev pub begun : Token → List ℕ → PartialToken
 begun pieces [] = after_piece pieces
 begun pieces text = in_piece pieces text
 
--- The token after one more byte, which has this sign, at a state where it does not end: a quote
--- that opens or closes ends a piece, else the piece that is open grows as the word does.
+-- The token after one more byte with the given sign, at a state at which the token does not end. A
+-- quote that opens or closes ends a piece. Otherwise the open piece grows as the word does.
 abbrev pub token_after : QuoteState → Sign → PartialToken → PartialToken
 token_after Before single_quote token = in_piece [] []
 token_after Before double_quote token = in_piece [] []
@@ -82,7 +82,7 @@ token_after state s (after_piece pieces) = begun pieces (word_after state s [] (
 token_after state s (in_piece pieces text) =
     in_piece pieces (word_after state s text (byte_of s ∷ []))
 
--- the token that ends at a state, where one has begun
+-- the token that ends at a state, if one has begun
 abbrev pub ended_token : QuoteState → PartialToken → List Token
 ended_token Before token = []
 ended_token Bare token = pieces_of Bare token ∷ []
@@ -91,7 +91,7 @@ ended_token InDouble token = unclosed_after (double_quote_byte ∷ []) token ∷
 ended_token InDoubleEscaped token = unclosed_after (double_quote_byte ∷ []) token ∷ []
 ended_token _ token = (pieces_of Bare token ++ unclosed (backslash_byte ∷ []) [] ∷ []) ∷ []
 
--- the tokens that the signs give from a state on
+-- the tokens that signs give from a state on
 unfoldable pub cut : CutState → List Sign → List Token
 cut (at state token) [] = ended_token state token
 cut (at state token) (s ∷ signs) = elim (next_state state s) [

@@ -10,7 +10,7 @@ use Rattle.cc_quote.specs.Tokens.QuoteState.{between}
 unfoldable pub powershell_tokens : List ℕ → List Token
 powershell_tokens script = cut between (powershell_signs script)
 
--- whether a byte is a `'` or the first of U+2019
+-- whether a byte is a `'` or the first byte of U+2019
 unfoldable pub is_quote_first : ℕ → Bool
 is_quote_first byte = byte == single_quote || byte == right_quote_first
 

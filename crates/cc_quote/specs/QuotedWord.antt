@@ -1,5 +1,5 @@
--- A word that may be quoted, read off the start of a text, where two quotes in a row within quotes
--- stand for the second.
+-- A word at the start of a text, quoted or not. Two quotes in a row within quotes stand for the
+-- second.
 use Rattle.std.specs.Prelude.{
   ◌≡◌,
   ◌≢◌,
@@ -27,18 +27,18 @@ use Rattle.std.specs.declared.string.String.{String}
 use Rattle.cc_base.specs.Bytes.{line_feed, space, is_blank}
 use Rattle.cc_quote.specs.Signs.{Sign, blank, quote, other, bytes, sign, HasNoQuote}
 
--- where a reader is, with the word so far: before the word, in a bare one, in a quoted one, or
--- after a quote that closes it unless another follows
+-- the state of a reader, with the word so far: before the word, in a bare one, in a quoted one, or
+-- after a quote that closes the word unless another quote follows
 pub data QuoteState : Type 0 where
   before : QuoteState
   bare : List ℕ → QuoteState
   quoted : List ℕ → QuoteState
   after_quote : List ℕ → QuoteState
 
--- The word and what follows it. A word that begins with a quote goes to the quote that closes it,
--- and two quotes in a row inside it stand for the second. Any other ends before the first blank,
--- and a quote in it is a character like any other. There is none before a blank or the end, and
--- none where a quote is open at the end.
+-- The word and the rest. A word that begins with a quote ends at the quote that closes it, and two
+-- quotes in a row inside it stand for the second. Any other word ends before the first whitespace,
+-- and a quote in it is an ordinary character. The result is `None` at whitespace, at the end, and
+-- if a quote is not closed.
 abbrev pub word_from : QuoteState → List Sign → Option (List ℕ × List ℕ)
 word_from before [] = None
 word_from before (quote _ ∷ rest) = word_from (quoted []) rest
@@ -57,40 +57,39 @@ word_from (after_quote word) (quote run ∷ rest) = word_from (quoted (word ++ r
 word_from (after_quote word) (blank run ∷ rest) = Some (word, run ++ flat_map bytes rest)
 word_from (after_quote word) (other run ∷ rest) = Some (word, run ++ flat_map bytes rest)
 
--- a line feed as a space
+-- a byte, or a space for a line feed
 abbrev pub space_for_line_feed : ℕ → ℕ
 space_for_line_feed byte = if byte == line_feed then space else byte
 
--- the text with each line feed as a space
+-- a text with a space for each line feed
 abbrev pub line_feeds_as_spaces : List ℕ → List ℕ
 line_feeds_as_spaces text = map space_for_line_feed text
 
--- front is the text up to its first blank, and back the text from there on
+-- `front` is the text before its first whitespace, and `back` is the rest
 pub record IsCutAtBlank (text front back : List ℕ) : Type 0 where
   pub whole : text ≡ front ++ back
   pub no_blank : NoCharPasses is_blank front
   pub ends :
       (back ≡ []) ⊎ ((byte : ℕ) × (after : List ℕ) × (is_blank byte ≡ true) × (back ≡ byte ∷ after))
 
--- a word that is not quoted, and what follows it; none where the text is empty or begins with a
--- blank
+-- a word that is not quoted, and the rest; `None` if the text is empty or begins with whitespace
 abbrev pub IsBareRead : List ℕ → Option (List ℕ × List ℕ) → Type 0
 IsBareRead text None = IsCutAtBlank text [] text
 IsBareRead text (Some (word, rest)) = IsCutAtBlank text word rest × (word ≢ [])
 
--- what a reader returns, by its contents
+-- the contents of what a reader returns
 abbrev pub contents : {A : Type 0} → Option (String A × Bor (List ℕ)) → Option (List ℕ × List ℕ)
 contents None = None
 contents (Some (word, rest)) = Some (string_bytes word, rest.now)
 
--- ---- a text by its signs, which `signs` tells
+-- ---- a text by its signs, which `signs` returns
 
--- no quote is in the text
+-- the text holds no quote
 pub record IsWithoutQuotes (signs : List ℕ → List Sign) (text : List ℕ) : Type 0 where
   pub signs_are : signs text ≡ map sign text
   pub no_quote : HasNoQuote text
 
--- the text begins with the run, in which no quote is, then has a quote, and the rest follows it
+-- the text begins with a run without quotes, then comes a quote, and then the rest
 pub record IsCutAtQuote (signs : List ℕ → List Sign) (text run opening rest : List ℕ) : Type 0 where
   pub signs_are : signs text ≡ map sign run ++ quote opening ∷ signs rest
   pub no_quote : HasNoQuote run
@@ -101,7 +100,7 @@ pub record BeginsWithQuote (signs : List ℕ → List Sign) (text opening rest :
   pub whole : text ≡ opening ++ rest
   pub signs_are : signs text ≡ quote opening ∷ signs rest
 
--- the text begins with no quote
+-- the text does not begin with a quote
 abbrev pub BeginsWithNoQuote : (List ℕ → List Sign) → List ℕ → Type 0
 BeginsWithNoQuote signs text =
     (opening : List ℕ) (rest : List Sign) → signs text ≢ quote opening ∷ rest

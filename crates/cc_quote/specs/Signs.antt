@@ -1,9 +1,10 @@
--- What the bytes of a text are to the readers of words and of tokens.
+-- What bytes mean to the readers of words and of tokens.
 use Rattle.std.specs.Prelude.{ℕ, not, ◌==◌, if◌then◌else◌, List, [], ◌∷◌, IsTrue}
 use Rattle.std.specs.List.{AllByRecursion}
 use Rattle.cc_base.specs.Bytes.{single_quote, is_blank}
 
--- a space, a tab or a line feed; a quote; anything else; each with its bytes
+-- whitespace, which is a space, a tab or a line feed; a quote; or anything else; each with its
+-- bytes
 pub data Sign : Type 0 where
   blank : List ℕ → Sign
   quote : List ℕ → Sign
@@ -15,7 +16,7 @@ bytes (blank run) = run
 bytes (quote run) = run
 bytes (other run) = run
 
--- the sign of a byte, where `'` is the only quote
+-- the sign of a byte, if `'` is the only quote
 unfoldable pub sign : ℕ → Sign
 sign byte =
     if byte == single_quote then quote (byte ∷ [])

@@ -1,5 +1,5 @@
--- The tokens of a script. It is cut at blanks and line feeds outside quotes, and two quotes in a
--- row within quotes stand for the second.
+-- The tokens of a script, which is cut at whitespace outside quotes. Two quotes in a row within
+-- quotes stand for the second.
 use Rattle.std.specs.Prelude.{
   ℕ,
   Bool,
@@ -17,27 +17,27 @@ use Rattle.std.specs.Prelude.{
 }
 use Rattle.cc_quote.specs.Signs.{Sign, blank, quote, other}
 
--- a piece of a token: a run outside quotes; or the opening quote and what the quotes hold;
--- `unclosed`: the text ends within them
+-- a piece of a token: a run outside quotes, or an opening quote and the text after it; a piece is
+-- `unclosed` if the script ends within its quotes
 pub data Piece : Type 0 where
   bare : List ℕ → Piece
   quoted : List ℕ → List ℕ → Piece
   unclosed : List ℕ → List ℕ → Piece
 
--- what is between two blanks: its pieces, in order
+-- the text between two runs of whitespace: its pieces, in order
 abbrev pub Token : Type 0
 Token = List Piece
 
--- where the cutting is: between two tokens, or in one, with the pieces that it has so far, the
--- opening quote if it is within quotes, and the text of the piece that is open. After a quote that
--- may close the text, or be the first of two, is a state of its own.
+-- The state of the cutting: between two tokens, or in a token, with its pieces so far. Within
+-- quotes it has the opening quote and the text of the open piece. After a quote that may close the
+-- text, or be the first of two, there is a state of its own.
 pub data QuoteState : Type 0 where
   between : QuoteState
   in_bare : List Piece → List ℕ → QuoteState
   in_quotes : List Piece → List ℕ → List ℕ → QuoteState
   after_quotes : List Piece → List ℕ → List ℕ → QuoteState
 
--- the tokens that the signs give from a state on
+-- the tokens that signs give from a state on
 unfoldable pub cut : QuoteState → List Sign → List Token
 cut between [] = []
 cut between (blank bytes ∷ signs) = cut between signs
@@ -63,19 +63,19 @@ cut (after_quotes pieces opening text) (quote bytes ∷ signs) =
 cut (after_quotes pieces opening text) (other bytes ∷ signs) =
     cut (in_bare (pieces ++ quoted opening text ∷ []) bytes) signs
 
--- whether a token is this bare word and nothing else
+-- whether a token is the given bare word and nothing else
 unfoldable pub is_word : List ℕ → Token → Bool
 is_word word (bare run ∷ []) = bytes_eq run word
 is_word word _ = false
 
--- the tokens after these bare words, where the tokens begin with them
+-- the tokens after the given bare words; `None` if they do not begin with those words
 unfoldable pub strip_words : List (List ℕ) → List Token → Option (List Token)
 strip_words [] tokens = Some tokens
 strip_words (word ∷ words) [] = None
 strip_words (word ∷ words) (token ∷ tokens) =
     if is_word word token then strip_words words tokens else None
 
--- the tokens after the first occurrence of these bare words in a row; none, if there is no such
+-- the tokens after the first occurrence of the given bare words in a row; none if there is no such
 -- occurrence
 unfoldable pub after_words : List (List ℕ) → List Token → List Token
 after_words words [] = []

@@ -1,4 +1,4 @@
--- A word read by an automaton, from one state to the next by a character.
+-- A word read by an automaton, which goes from state to state by characters.
 use Rattle.std.specs.Prelude.{
   ◌≡◌,
   ◌⊎◌,
@@ -17,13 +17,13 @@ use Rattle.std.specs.Prelude.{
 }
 use Rattle.cc_base.specs.Bytes.{double_quote}
 
--- the word and what follows it, where a word may end there
+-- the word and the rest, if a word may end there
 abbrev pub ended : Bool → List ℕ → List ℕ → Option (List ℕ × List ℕ)
 ended may_end word rest = if may_end then Some (word, rest) else None
 
--- The word from a state and a word so far on, and what follows it: it ends before the first byte
--- that leads to no state, and none is there where no word may end at the state then. `next` leads
--- from state to state, and `added` is the word with what a character spells, which has these bytes.
+-- The word from a state and a word so far on, and the rest. It ends before the first byte that
+-- leads to no state, and the result is `None` if no word may end at the state there. `next` leads
+-- from state to state, and `added` adds to the word what a character spells, given its bytes.
 abbrev pub word_from : {State : Type 0} → (State → ℕ → Option State)
     → (State → ℕ → List ℕ → List ℕ → List ℕ) → (State → Bool) → State → List ℕ → List ℕ
     → Option (List ℕ × List ℕ)
@@ -33,14 +33,14 @@ word_from next added may_end state word (byte ∷ rest) = elim (next state byte)
   | None ↦ ended (may_end state) word (byte ∷ rest)
 ]
 
--- what is read of a text after the `"` with which it begins
+-- what is read of a text after its first character, which must be `"`
 abbrev pub after_double_quote : (List ℕ → Option (List ℕ × List ℕ)) → List ℕ
     → Option (List ℕ × List ℕ)
 after_double_quote read [] = None
 after_double_quote read (byte ∷ rest) = if byte == double_quote then read rest else None
 
--- A character from 128 on is read as its bytes are: each of them leads to one state, which all
--- that follow keep, and is added to the word.
+-- A character from 128 on is read as its bytes are. Each of these bytes leads to one state, at
+-- which all that follow stay, and each is added to the word.
 pub record ReadsBytes {State : Type 0} (next : State → ℕ → Option State)
     (added : State → ℕ → List ℕ → List ℕ → List ℕ) : Type 0 where
   pub after : State → State

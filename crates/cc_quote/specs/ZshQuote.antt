@@ -1,5 +1,5 @@
--- How a text is escaped between `'` for the lists of zsh's completion, and how the backslashes are
--- taken off again.
+-- The escapes of a text between two `'` for the lists of zsh's completion, and how the backslashes
+-- are removed again.
 use Rattle.std.specs.Prelude.{◌≡◌, ℕ, Bool, true, false, List, [], ◌∷◌, ◌++◌, Option, Some, None, option_map, codes, ◌==◌, ◌||◌, if◌then◌else◌}
 use Rattle.cc_base.specs.Bytes.{backslash, backtick, close_bracket, close_parenthesis, colon}
 use Rattle.cc_base.specs.Bytes.{dollar, line_feed, open_bracket, open_parenthesis, single_quote}
@@ -11,14 +11,14 @@ use Rattle.cc_quote.specs.declared.zsh.EscapeState.TheVariants.{Plain, Escaping}
 
 -- ---- how backslashes are read
 
--- a byte that stands for itself, one that a backslash escapes, or a backslash that is last
+-- a byte that stands for itself, one that a backslash escapes, or a backslash at the end
 pub data Mark : Type 0 where
   kept : ℕ → Mark
   escaped : ℕ → Mark
   unended : Mark
 
--- The marks of a text, after a backslash that escapes or after none. A backslash escapes the next
--- byte, whatever it is.
+-- The marks of a text; the flag says whether a backslash that escapes comes before it. A backslash
+-- escapes the next byte, whatever it is.
 unfoldable pub marks_from : Bool → List ℕ → List Mark
 marks_from false [] = []
 marks_from true [] = unended ∷ []
@@ -32,73 +32,73 @@ marks_from false (byte ∷ bytes) = elim (byte == backslash) [
 unfoldable pub marks : List ℕ → List Mark
 marks text = marks_from false text
 
--- the bytes that are there; none where a backslash is last
+-- the bytes of some marks; `None` if a backslash is last
 unfoldable pub unmarked : List Mark → Option (List ℕ)
 unmarked [] = Some []
 unmarked (unended ∷ rest) = None
 unmarked (kept byte ∷ rest) = option_map (λ bytes. byte ∷ bytes) (unmarked rest)
 unmarked (escaped byte ∷ rest) = option_map (λ bytes. byte ∷ bytes) (unmarked rest)
 
--- the text without the backslashes that escape; none where one is last
+-- the text without the backslashes that escape; `None` if one of them is last
 unfoldable pub zsh_unescaped : List ℕ → Option (List ℕ)
 zsh_unescaped text = unmarked (marks text)
 
 -- ---- the same by the states of a reader
 
--- the state after a character: a backslash escapes the next one, whatever that is
+-- the state after a character: a backslash escapes the next character, whatever it is
 abbrev pub escape_next : EscapeState → ℕ → Option EscapeState
 escape_next Plain character = Some (if character == backslash then Escaping else Plain)
 escape_next Escaping character = Some Plain
 
--- the word with a character of these bytes, unless that is a backslash which escapes
+-- the word with the bytes of a character added, unless it is a backslash that escapes
 abbrev pub unescaped_added : EscapeState → ℕ → List ℕ → List ℕ → List ℕ
 unescaped_added Plain character word bytes = if character == backslash then word else word ++ bytes
 unescaped_added Escaping character word bytes = word ++ bytes
 
--- whether no backslash escapes what is next
+-- whether no backslash escapes the next character
 abbrev pub is_plain : EscapeState → Bool
 is_plain Plain = true
 is_plain Escaping = false
 
 -- ---- how a text is escaped
 
--- `\ [ ] : $` and a backtick, which are after a backslash in a description
+-- whether a byte follows a backslash in a description: one of `\ [ ] : $` and a backtick
 abbrev pub is_help_marked : ℕ → Bool
 is_help_marked byte =
     byte == backslash || byte == open_bracket || byte == close_bracket || byte == colon
     || byte == dollar || byte == backtick
 
--- these, `(`, `)` and a space, which are after one in a value
+-- whether a byte follows a backslash in a value: one of these, `(`, `)` or a space
 abbrev pub is_value_marked : ℕ → Bool
 is_value_marked byte =
     is_help_marked byte || byte == open_parenthesis || byte == close_parenthesis || byte == space
 
--- whether a byte of a value is escaped: one that is marked, or `'`
+-- whether a byte of a value is escaped: one that follows a backslash, or `'`
 abbrev pub is_value_escaped : ℕ → Bool
 is_value_escaped byte = is_value_marked byte || byte == single_quote
 
--- whether one of a description is, or is a line feed
+-- whether a byte of a description is escaped: one that follows a backslash, `'` or a line feed
 abbrev pub is_help_escaped : ℕ → Bool
 is_help_escaped byte = is_help_marked byte || byte == single_quote || byte == line_feed
 
--- what stands for a byte that is escaped: `'\''` for `'`, and any other after a backslash
+-- the replacement of a byte: `'\''` for `'`, and a backslash before any other
 abbrev pub zsh_replacement : ℕ → List ℕ
 zsh_replacement byte = if byte == single_quote then codes "'\\''" else backslashed byte
 
--- the same in a description, and a space for a line feed
+-- the same in a description, with a space for a line feed
 abbrev pub zsh_help_replacement : ℕ → List ℕ
 zsh_help_replacement byte = if byte == line_feed then codes " " else zsh_replacement byte
 
--- a description between `'`
+-- a description as it is written between two `'`
 unfoldable pub zsh_escaped_help : List ℕ → List ℕ
 zsh_escaped_help text = escaped_by is_help_escaped zsh_help_replacement text
 
--- a value between `'`
+-- a value as it is written between two `'`
 unfoldable pub zsh_escaped_value : List ℕ → List ℕ
 zsh_escaped_value text = escaped_by is_value_escaped zsh_replacement text
 
--- what is between two `'` is read as the text that it spells, and without the backslashes that
--- is the other text
+-- The text between two `'` is read as the text that it spells, which is the other text once the
+-- backslashes are removed.
 pub record ReadsUnescaped (quoted text : List ℕ) : Type 0 where
   pub between : List ℕ
   pub word : posix_word_of (codes "'" ++ quoted ++ codes "'") ≡ Some (between, [])

@@ -1,4 +1,4 @@
-//! Texts between two `"` of bash.
+//! Texts between two `"` in bash.
 
 ghost use Rattle.std.specs.Prelude.{◌≡◌, [], ◌++◌, codes, IfOk, IfErr, Some};
 ghost use Rattle.std.specs.String.{string_bytes};
@@ -12,7 +12,7 @@ use crate::word_state::read_word;
 use cc_base::Error;
 use std::alloc::Global;
 
-/// bash's escape of a text between two `"`: a backslash before `\`, `"`, `$` and a backtick.
+/// The escape of a text between two `"` in bash: a backslash before `\`, `"`, `$` and a backtick.
 pub struct BashDouble;
 
 impl ByteEscape for BashDouble {
@@ -31,13 +31,17 @@ impl ByteEscape for BashDouble {
     }
 }
 
-/// The text as it is between two `"` in bash: a backslash before `\`, `"`, `$` and a backtick.
-/// Fails with `Memory` alone.
+/// Escapes `text` so that it can be put between two `"` in bash: a backslash before `\`, `"`, `$`
+/// and a backtick.
+///
+/// # Errors
+///
+/// `Memory` if an allocation fails.
 #[tactic(auto, using(crate::proofs::BashDoubles::doubled_reads_back))]
 pub fn bash_double(alloc: Global, text: &str) -> Result<String, Error>
     ensures escaped { IfOk result (λ escaped. string_bytes escaped ≡ bash_doubled text.now) }
 
-    // Between two `"` it is read as the text, and nothing is left.
+    // Between two `"` the result is read as the text, and nothing remains.
     ensures read_back { IfOk result
         (λ escaped. bash_double_of (codes "\"" ++ string_bytes escaped ++ codes "\"")
         ≡ Some (text.now, [])) }
@@ -46,9 +50,13 @@ pub fn bash_double(alloc: Global, text: &str) -> Result<String, Error>
     Ok(escape_text(alloc, &BashDouble, text)?)
 }
 
-/// What a text that begins with `"` spells up to the `"` that closes it, as `posix_word` reads it
-/// there, and what follows that. `None` where the text begins with no `"` or does not close it.
-/// Fails with `Memory` alone.
+/// Reads a `text` that begins with `"` up to the `"` that closes it, as `posix_word` reads that
+/// part. Returns what it spells, and the rest of the text. Returns `None` if the text does not
+/// begin with `"`, or does not close it.
+///
+/// # Errors
+///
+/// `Memory` if an allocation fails.
 pub fn bash_double_word(alloc: Global, text: &str) -> Result<Option<(String, &str)>, Error>
     ensures double { IfOk result (λ read. contents read ≡ bash_double_of text.now) }
     ensures memory { IfErr result (λ error. error ≡ Error.Memory) }

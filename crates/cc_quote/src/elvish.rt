@@ -1,4 +1,4 @@
-//! Words as Elvish quotes them: between `'`, where `''` stands for one `'`.
+//! Words as Elvish quotes them: between two `'`, with `''` for each `'`.
 
 ghost use Rattle.std.specs.Prelude.{◌≡◌, [], ◌++◌, map, codes, true, IfOk, IfErr, Some};
 ghost use Rattle.std.specs.String.{string_bytes};
@@ -14,7 +14,7 @@ use cc_base::Error;
 use memchr::memchr2;
 use std::alloc::{AllocError, Global};
 
-/// Elvish's escape of a text between two `'`: each `'` as `''`, and each line feed as a space.
+/// The escape of a text between two `'` in Elvish: each `'` as `''`, and each line feed as a space.
 pub struct ElvishEscape;
 
 impl ByteEscape for ElvishEscape {
@@ -35,13 +35,17 @@ impl ByteEscape for ElvishEscape {
     }
 }
 
-/// The text as it is between two `'` in Elvish: each `'` as `''`, and each line feed as a
-/// space. Fails with `Memory` alone.
+/// Escapes `text` so that it can be put between two `'` in Elvish: each `'` as `''`, and each line
+/// feed as a space.
+///
+/// # Errors
+///
+/// `Memory` if an allocation fails.
 #[tactic(auto, using(crate::proofs::ElvishWords::elvish_reads_back))]
 pub fn elvish_escape(alloc: Global, text: &str) -> Result<String, Error>
     ensures escaped { IfOk result (λ escaped. string_bytes escaped ≡ elvish_escaped text.now) }
 
-    // Between two quotes, what was written is read as the text, and nothing is left.
+    // Between two quotes the result is read as the text, and nothing remains.
     ensures read_back { IfOk result
         (λ escaped. elvish_word_of (codes "'" ++ string_bytes escaped ++ codes "'")
         ≡ Some (line_feeds_as_spaces text.now, [])) }
@@ -50,10 +54,17 @@ pub fn elvish_escape(alloc: Global, text: &str) -> Result<String, Error>
     Ok(escape_text(alloc, &ElvishEscape, text)?)
 }
 
-/// The word that a text begins with, and what follows it. A word that begins with `'` goes to its
-/// closing `'`, and a `''` in it is one quote; any other ends before the first space, tab or line
-/// feed, and in it a quote is a character like any other. `None` where the text is empty or begins
-/// with a blank, or where a quote is open at its end. Fails with `Memory` alone.
+/// Reads the word with which `text` begins. Returns the word and the rest of the text.
+///
+/// - A word that begins with `'` ends at its closing `'`. In it, `''` is one quote.
+/// - Any other word ends before the first space, tab or line feed. In it, a quote is an ordinary
+///   character.
+///
+/// Returns `None` if the text is empty or begins with whitespace, or if a quote is not closed.
+///
+/// # Errors
+///
+/// `Memory` if an allocation fails.
 pub fn elvish_word(alloc: Global, text: &str) -> Result<Option<(String, &str)>, Error>
     ensures word { IfOk result (λ read. contents read ≡ elvish_word_of text.now) }
     ensures memory { IfErr result (λ error. error ≡ Error.Memory) }
@@ -64,7 +75,7 @@ pub fn elvish_word(alloc: Global, text: &str) -> Result<Option<(String, &str)>, 
     }
 }
 
-// The word after its opening quote, and what follows it.
+// Returns the word after its opening quote, and the rest.
 fn quoted_word(alloc: Global, text: &str) -> Result<Option<(String, &str)>, AllocError>
     ensures { IfOk result
         (λ read. contents read ≡ word_from (quoted []) (map sign text.now)) }

@@ -1,4 +1,5 @@
-//! Escapes by runs: what needs no escape is passed on unchanged, up to the next escape.
+//! Escapes that work in runs: characters that need no escape are passed on unchanged, up to the
+//! next one that does.
 
 ghost use Rattle.std.specs.Prelude.{◌≡◌, ◌<◌, ◌++◌, ℕ, List, Bool, IfOk, IsSome, OnOk, MatchOption};
 ghost use Rattle.std.specs.Option.{option_copied};
@@ -12,32 +13,32 @@ use memchr::memchr;
 use std::alloc::{AllocError, Global};
 use std::io::ErrorKind;
 
-/// How a shell escapes a text within quotes.
+/// The way in which a shell escapes a text within quotes.
 pub trait Escape {
     // the escaped text
     ghost escaped: { Self → List ℕ → List ℕ };
 
-    /// The run before the first character that is escaped, the replacement of that character, and
-    /// the text after it. `None` where no character is escaped.
+    /// Finds the first character of `text` that is escaped. Returns the run before it, its
+    /// replacement, and the text after it. Returns `None` if no character is escaped.
     fn split<'a>(&self, text: &'a str) -> Option<(&'a str, &'static str, &'a str)>
         ensures { MatchOption result (escaped self.now text.now ≡ text.now)
             (λ cut. IsFirstEscape (escaped self.now) text.now cut.0.now cut.1.now cut.2.now) };
 }
 
-/// An escape that replaces each byte of a set of ASCII bytes by a text.
+/// An escape that replaces some ASCII bytes, each by a text.
 pub trait ByteEscape {
     // whether a byte is escaped, and the replacement of one that is
     ghost escapes: { Self → ℕ → Bool };
 
     ghost replacement: { Self → ℕ → List ℕ };
 
-    /// The replacement of the byte; `None` where it is not escaped.
+    /// Returns the replacement of `byte`, or `None` if it is not escaped.
     fn replacement(&self, byte: u8) -> Option<&'static str>
         ensures text { option_copied result
             ≡ replacement_by (escapes self.now) (replacement self.now) byte }
         ensures ascii { IsSome result → byte < 128 };
 
-    /// The index of the first byte that is escaped; `None` where none is.
+    /// Returns the index of the first of the `bytes` that is escaped, or `None` if there is none.
     fn find(&self, bytes: &[u8]) -> Option<usize>
         ensures { IsFirstByte (escapes self.now) bytes.now result }
     {
@@ -62,10 +63,10 @@ impl<E: ByteEscape> Escape for E {
     }
 }
 
-/// The escape that replaces one ASCII byte by a text.
+/// An escape that replaces one ASCII byte by a text.
 #[derive(Clone, Copy)]
 pub struct Replace {
-    /// The byte.
+    /// The byte to replace.
     pub byte: u8,
     /// Its replacement.
     pub by: &'static str,
@@ -90,7 +91,11 @@ impl ByteEscape for Replace {
     }
 }
 
-/// Puts the escaped text. Allocates nothing, and fails with the kind of the put that failed.
+/// Puts the escaped `text`, without allocating.
+///
+/// # Errors
+///
+/// The kind of the put that failed.
 pub fn put_escaped<E: Escape, S: Sink>(
     sink: &mut S,
     escape: &E,
@@ -108,7 +113,11 @@ pub fn put_escaped<E: Escape, S: Sink>(
     put_piece(sink, rest)
 }
 
-/// Appends the escaped text. Fails where memory runs out.
+/// Appends the escaped `text` to `made`.
+///
+/// # Errors
+///
+/// `AllocError` if an allocation fails.
 pub fn push_escaped<E: Escape>(escape: &E, text: &str, made: &mut String) -> Result<(), AllocError>
     ensures { OnOk result
         (string_bytes made.new ≡ string_bytes made.old ++ E.escaped escape.now text.now) }
@@ -122,7 +131,11 @@ pub fn push_escaped<E: Escape>(escape: &E, text: &str, made: &mut String) -> Res
     made.push_str(rest)
 }
 
-/// The escaped text. Fails where memory runs out.
+/// Returns the escaped `text`.
+///
+/// # Errors
+///
+/// `AllocError` if an allocation fails.
 pub fn escape_text<E: Escape>(alloc: Global, escape: &E, text: &str) -> Result<String, AllocError>
     ensures { IfOk result (λ made. string_bytes made ≡ E.escaped escape.now text.now) }
 {

@@ -1,4 +1,4 @@
-//! Texts as fish quotes them, for one reading and for two.
+//! Texts as fish quotes them, to be read once or twice.
 
 ghost use Rattle.std.specs.Prelude.{◌≡◌, [], ◌++◌, codes, IfOk, IfErr, Some};
 ghost use Rattle.std.specs.List.{list_all};
@@ -28,8 +28,8 @@ use memchr::{memchr2, memchr3};
 use std::alloc::{AllocError, Global};
 use std::io::ErrorKind;
 
-/// fish's escape of a description between two `'`: `\` as `\\`, `'` as `\'`, and each line feed as
-/// a space.
+/// The escape of a description between two `'` in fish: `\` as `\\`, `'` as `\'`, and each line
+/// feed as a space.
 pub struct FishEscape;
 
 impl ByteEscape for FishEscape {
@@ -49,7 +49,7 @@ impl ByteEscape for FishEscape {
     }
 }
 
-// The escape of a text between two `'` for one reading: `\` as `\\` and `'` as `\'`.
+// The escape of a text between two `'` that is read once: `\` as `\\` and `'` as `\'`.
 struct SingleEscape;
 
 impl ByteEscape for SingleEscape {
@@ -70,7 +70,7 @@ impl ByteEscape for SingleEscape {
     }
 }
 
-// The escape of a text between two `'` that are between two `"`.
+// The escape of a text between two `'` that are themselves between two `"`.
 struct EvalEscape;
 
 impl ByteEscape for EvalEscape {
@@ -89,7 +89,7 @@ impl ByteEscape for EvalEscape {
     }
 }
 
-// The same with each line feed as a space.
+// The same escape, with each line feed as a space.
 struct HelpEscape;
 
 impl ByteEscape for HelpEscape {
@@ -105,21 +105,22 @@ impl ByteEscape for HelpEscape {
     }
 }
 
-// Whether a text that is not empty is made of ASCII letters, digits and `/ _ - . , + = : @`.
+// Returns whether a text is not empty and consists of ASCII letters, digits and `/ _ - . , + = :
+// @`.
 fn is_safe_word(text: &str) -> bool
     ensures { result ≡ is_fish_safe_word text.now }
 {
     !text.is_empty() && are_safe(text.as_bytes())
 }
 
-// Whether none of the bytes needs quotes.
+// Returns whether no byte needs quotes.
 fn are_safe(bytes: &[u8]) -> bool
     ensures { result ≡ list_all is_fish_safe bytes.now }
 {
     bytes.iter().all(|byte| is_safe(*byte))
 }
 
-// Whether a byte needs no quotes.
+// Returns whether a byte needs no quotes.
 #[tactic(auto, unfolding(crate::specs::FishQuote::is_fish_safe))]
 fn is_safe(byte: u8) -> bool
     ensures { result ≡ is_fish_safe byte }
@@ -131,14 +132,18 @@ fn is_safe(byte: u8) -> bool
         )
 }
 
-/// The text as one word of fish: as it is where it is not empty and made of ASCII letters, digits
-/// and `/ _ - . , + = : @`; else in `'`, with `\` as `\\` and `'` as `\'`. Fails with `Memory`
-/// alone.
+/// Quotes `text` as one word of fish. A text stays as it is if it is not empty and consists of
+/// ASCII letters, digits and `/ _ - . , + = : @`. Any other text is put in `'`, with `\` as `\\`
+/// and `'` as `\'`.
+///
+/// # Errors
+///
+/// `Memory` if an allocation fails.
 #[tactic(auto, using(crate::proofs::FishReaders::fish_quoted_reads_back))]
 pub fn fish_quote(alloc: Global, text: &str) -> Result<String, Error>
     ensures quoted { IfOk result (λ quoted. string_bytes quoted ≡ fish_quoted text.now) }
 
-    // What was written is read as the text, and nothing is left.
+    // The result is read as the text, and nothing remains.
     ensures read_back { IfOk result
         (λ quoted. fish_word_of (string_bytes quoted) ≡ Some (text.now, [])) }
     ensures memory { IfErr result (λ error. error ≡ Error.Memory) }
@@ -146,7 +151,7 @@ pub fn fish_quote(alloc: Global, text: &str) -> Result<String, Error>
     Ok(quote_word(alloc, text)?)
 }
 
-// The word, where memory suffices.
+// Quotes a text as one word. Fails if an allocation fails.
 #[tactic(auto, using(crate::proofs::FishEscaped::quoted_safe, crate::proofs::FishEscaped::quoted_unsafe))]
 fn quote_word(alloc: Global, text: &str) -> Result<String, AllocError>
     ensures { IfOk result (λ quoted. string_bytes quoted ≡ fish_quoted text.now) }
@@ -160,21 +165,25 @@ fn quote_word(alloc: Global, text: &str) -> Result<String, AllocError>
     Ok(quoted)
 }
 
-/// The text as one word of what is between two `"` and is read a second time: as it is where
-/// `fish_quote` leaves it; else in `'`, with `\` as `\\\\`, `'` as `\\'`, `"` as `\"` and `$` as
-/// `\$`. Fails with `Memory` alone.
+/// Quotes `text` as one word of a text that stands between two `"` and is read a second time. A
+/// text that [`fish_quote`] leaves as it is stays as it is. Any other text is put in `'`, with `\`
+/// as `\\\\`, `'` as `\\'`, `"` as `\"` and `$` as `\$`.
+///
+/// # Errors
+///
+/// `Memory` if an allocation fails.
 #[tactic(auto, using(crate::proofs::FishReaders::quoted_for_eval_reads_twice))]
 pub fn fish_quote_for_eval(alloc: Global, text: &str) -> Result<String, Error>
     ensures quoted { IfOk result (λ quoted. string_bytes quoted ≡ fish_quoted_for_eval text.now) }
 
-    // Between two `"` it is read as a word, and that word as the text.
+    // Between two `"` the result is read as a word, and that word is read as the text.
     ensures read_back { IfOk result (λ quoted. ReadsTwice (string_bytes quoted) text.now) }
     ensures memory { IfErr result (λ error. error ≡ Error.Memory) }
 {
     Ok(quote_for_eval(alloc, text)?)
 }
 
-// The word for two readings, where memory suffices.
+// Quotes a text as one word to be read twice. Fails if an allocation fails.
 #[tactic(auto, using(crate::proofs::FishEscaped::eval_safe, crate::proofs::FishEscaped::eval_unsafe))]
 fn quote_for_eval(alloc: Global, text: &str) -> Result<String, AllocError>
     ensures { IfOk result (λ quoted. string_bytes quoted ≡ fish_quoted_for_eval text.now) }
@@ -188,13 +197,18 @@ fn quote_for_eval(alloc: Global, text: &str) -> Result<String, AllocError>
     Ok(quoted)
 }
 
-/// A help as one word of what is between two `"` and is read a second time: always in `'`, with
-/// the escapes of `fish_quote_for_eval` and each line feed as a space. Fails with `Memory` alone.
+/// Quotes `help` as one word of a text that stands between two `"` and is read a second time. The
+/// result is always in `'`, with the escapes of [`fish_quote_for_eval`] and each line feed as a
+/// space.
+///
+/// # Errors
+///
+/// `Memory` if an allocation fails.
 #[tactic(auto, using(crate::proofs::FishReaders::help_for_eval_reads_twice))]
 pub fn fish_help_for_eval(alloc: Global, help: &str) -> Result<String, Error>
     ensures quoted { IfOk result (λ quoted. string_bytes quoted ≡ fish_help_for_eval_of help.now) }
 
-    // Between two `"` it is read as a word, and that word as the help.
+    // Between two `"` the result is read as a word, and that word is read as the help text.
     ensures read_back { IfOk result
         (λ quoted. ReadsTwice (string_bytes quoted) (line_feeds_as_spaces help.now)) }
     ensures memory { IfErr result (λ error. error ≡ Error.Memory) }
@@ -202,7 +216,7 @@ pub fn fish_help_for_eval(alloc: Global, help: &str) -> Result<String, Error>
     Ok(quoted_help(alloc, help)?)
 }
 
-// The help for two readings, where memory suffices.
+// Quotes a help text to be read twice. Fails if an allocation fails.
 #[tactic(auto, using(crate::proofs::FishEscaped::help_quoted))]
 fn quoted_help(alloc: Global, help: &str) -> Result<String, AllocError>
     ensures { IfOk result (λ quoted. string_bytes quoted ≡ fish_help_for_eval_of help.now) }
@@ -213,13 +227,17 @@ fn quoted_help(alloc: Global, help: &str) -> Result<String, AllocError>
     Ok(quoted)
 }
 
-/// The text as it is between two `'` in fish: `\` as `\\`, `'` as `\'`, and each line feed as a
-/// space. Fails with `Memory` alone.
+/// Escapes `text` so that it can be put between two `'` in fish: `\` as `\\`, `'` as `\'`, and each
+/// line feed as a space.
+///
+/// # Errors
+///
+/// `Memory` if an allocation fails.
 #[tactic(auto, unfolding(crate::specs::FishQuote::fish_escaped), using(crate::proofs::FishReaders::fish_escaped_reads_back))]
 pub fn fish_escape(alloc: Global, text: &str) -> Result<String, Error>
     ensures escaped { IfOk result (λ escaped. string_bytes escaped ≡ fish_escaped text.now) }
 
-    // Between two quotes, what was written is read as the text, and nothing is left.
+    // Between two quotes the result is read as the text, and nothing remains.
     ensures read_back { IfOk result
         (λ escaped. fish_word_of (codes "'" ++ string_bytes escaped ++ codes "'")
         ≡ Some (line_feeds_as_spaces text.now, [])) }
@@ -228,7 +246,11 @@ pub fn fish_escape(alloc: Global, text: &str) -> Result<String, Error>
     Ok(escape_text(alloc, &FishEscape, text)?)
 }
 
-/// Puts what `fish_quote_for_eval` makes of the text. Fails with the kind of the put that failed.
+/// Puts `text` as [`fish_quote_for_eval`] quotes it.
+///
+/// # Errors
+///
+/// The kind of the put that failed.
 #[tactic(auto, using(crate::proofs::FishEscaped::eval_safe, crate::proofs::FishEscaped::eval_unsafe))]
 pub fn put_fish_quoted_for_eval<W: Sink>(sink: &mut W, text: &str) -> Result<(), ErrorKind>
     ensures { Writes W.taken W.failed (as_write result) sink.old sink.new
@@ -240,7 +262,11 @@ pub fn put_fish_quoted_for_eval<W: Sink>(sink: &mut W, text: &str) -> Result<(),
     put_in_quotes(sink, &EvalEscape, text)
 }
 
-/// Puts what `fish_help_for_eval` makes of the help. Fails with the kind of the put that failed.
+/// Puts `help` as [`fish_help_for_eval`] quotes it.
+///
+/// # Errors
+///
+/// The kind of the put that failed.
 #[tactic(auto, using(crate::proofs::FishEscaped::help_quoted))]
 pub fn put_fish_help_for_eval<W: Sink>(sink: &mut W, help: &str) -> Result<(), ErrorKind>
     ensures { Writes W.taken W.failed (as_write result) sink.old sink.new

@@ -1,4 +1,4 @@
-//! The readers of words as fish spells them: bare, between `'`, between `"`, and after `\`.
+//! Readers of words as fish spells them: bare, between two `'`, between two `"`, and after `\`.
 
 ghost use Rattle.std.specs.Prelude.{◌≡◌, encode_utf8, false, true, IfOk, IfErr, OnOk};
 ghost use Rattle.std.specs.String.{string_bytes};
@@ -17,8 +17,8 @@ use crate::word_state::{WordState, read_word};
 use cc_base::Error;
 use std::alloc::{AllocError, Global};
 
-// Where a reader is in a word: outside quotes, between `'` or between `"`; or after a backslash in
-// each of these.
+// The state of a reader in a word: outside quotes, between two `'` or between two `"`; or after a
+// backslash in each of these.
 #[derive(Clone, Copy)]
 pub(crate) enum QuoteState {
     Bare,
@@ -29,12 +29,21 @@ pub(crate) enum QuoteState {
     InDoubleEscaped,
 }
 
-/// The word that a text begins with, and what follows it. Pieces up to a space, tab or line feed
-/// outside quotes make it. Between `'` a backslash is special before `'` and `\`; between `"`
-/// before `"`, `\`, `$` and a line feed, with which it vanishes; outside quotes `\t` is a tab, `\n`
-/// a line feed, and before any other character it keeps that character. Nothing is expanded.
-/// `None` where the text is empty or begins with a blank or with `#`, and where a quote or a
-/// backslash is open at its end. Fails with `Memory` alone.
+/// Reads the word with which `text` begins. Returns the word and the rest of the text. The word
+/// consists of pieces, up to a space, tab or line feed outside quotes. Nothing is expanded.
+///
+/// - Between two `'` a backslash is special before `'` and `\`.
+/// - Between two `"` it is special before `"`, `\`, `$` and a line feed, and vanishes together with
+///   the line feed.
+/// - Outside quotes `\t` is a tab and `\n` a line feed. Before any other character a backslash
+///   keeps that character.
+///
+/// Returns `None` if the text is empty, or begins with whitespace or with `#`. Also returns `None`
+/// if a quote is not closed, or if a backslash outside quotes is the last character.
+///
+/// # Errors
+///
+/// `Memory` if an allocation fails.
 pub fn fish_word(alloc: Global, text: &str) -> Result<Option<(String, &str)>, Error>
     ensures word { IfOk result (λ read. contents read ≡ fish_word_of text.now) }
     ensures memory { IfErr result (λ error. error ≡ Error.Memory) }
@@ -45,9 +54,13 @@ pub fn fish_word(alloc: Global, text: &str) -> Result<Option<(String, &str)>, Er
     Ok(read_word(alloc, QuoteState::Bare, false, text)?)
 }
 
-/// What a text that begins with `"` spells up to the `"` that closes it, as `fish_word` reads it
-/// there, and what follows that. `None` where the text begins with no `"` or does not close it.
-/// Fails with `Memory` alone.
+/// Reads a `text` that begins with `"` up to the `"` that closes it, as [`fish_word`] reads that
+/// part. Returns what it spells, and the rest of the text. Returns `None` if the text does not
+/// begin with `"`, or does not close it.
+///
+/// # Errors
+///
+/// `Memory` if an allocation fails.
 pub fn fish_double(alloc: Global, text: &str) -> Result<Option<(String, &str)>, Error>
     ensures double { IfOk result (λ read. contents read ≡ fish_double_of text.now) }
     ensures memory { IfErr result (λ error. error ≡ Error.Memory) }
@@ -58,7 +71,7 @@ pub fn fish_double(alloc: Global, text: &str) -> Result<Option<(String, &str)>, 
     }
 }
 
-// Whether a text begins with a word: no blank and no comment.
+// Returns whether a text begins with a word, and not with whitespace or a comment.
 #[tactic(auto, unfolding(crate::specs::FishQuote::fish_sign))]
 fn begins_word(text: &[u8]) -> bool
     ensures { result ≡ begins_with_word text.now }
@@ -107,7 +120,7 @@ impl WordState for QuoteState {
     }
 }
 
-// The state after a character; `None` where the word ends before it.
+// Returns the state after a character, or `None` if the word ends before it.
 #[tactic(auto, unfolding(crate::specs::FishQuote::fish_sign))]
 fn next_state(state: QuoteState, character: char) -> Option<QuoteState>
     ensures { result ≡ fish_next state character }

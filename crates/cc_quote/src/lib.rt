@@ -1,6 +1,22 @@
-//! Writers and readers of quoted words: a writer quotes or escapes a text so that the shell keeps
-//! it, and the reader of the same shell gives the text back; an escape of a description makes a
-//! space of each line feed. No reader expands anything. Plain paths need no quotes.
+//! Writers and readers of quoted words, for bash, zsh and other POSIX shells, fish, Elvish and
+//! PowerShell.
+//!
+//! A writer quotes or escapes a text so that the shell keeps it. The reader of the same shell
+//! returns the text. Escapes of a description write each line feed as a space. No reader expands
+//! anything.
+//!
+//! ```rattle
+//! use cc_base::Error;
+//! use cc_quote::posix_quote;
+//! use std::alloc::Global;
+//!
+//! // Returns `'it'\''s'`, which a POSIX shell reads as `it's`.
+//! fn quoted(alloc: Global) -> Result<String, Error> {
+//!     posix_quote(alloc, "it's")
+//! }
+//! ```
+//!
+//! Paths that need no quotes are called plain: [`is_plain_path`] tests for them.
 #![tactic(auto)]
 
 mod bash;

@@ -1,4 +1,5 @@
-//! Words as a posix shell quotes and reads them: bare, between `'`, between `"`, and after `\`.
+//! Words as a POSIX shell quotes and reads them: bare, between two `'`, between two `"`, and after
+//! `\`.
 
 ghost use Rattle.std.specs.Prelude.{
   ◌≡◌,
@@ -39,14 +40,18 @@ use crate::word_state::{WordState, read_word};
 use cc_base::Error;
 use std::alloc::{AllocError, Global};
 
-/// The text as one word of a posix shell: as it is where it is not empty and made of ASCII letters,
-/// digits and `+ - . / : @ _`; else between `'`, with each `'` as `'\''`. Fails with `Memory`
-/// alone.
+/// Quotes `text` as one word of a POSIX shell. A text stays as it is if it is not empty and
+/// consists of ASCII letters, digits and `+ - . / : @ _`. Any other text is put between two `'`,
+/// with each `'` as `'\''`.
+///
+/// # Errors
+///
+/// `Memory` if an allocation fails.
 #[tactic(auto)]
 pub fn posix_quote(alloc: Global, text: &str) -> Result<String, Error>
     ensures quoted { IfOk result (λ quoted. string_bytes quoted ≡ posix_quoted text.now) }
 
-    // What was written is read as the text, and nothing is left.
+    // The result is read as the text, and nothing remains.
     ensures read_back { IfOk result
         (λ quoted. posix_word_of (string_bytes quoted) ≡ Some (text.now, [])) }
     ensures memory { IfErr result (λ error. error ≡ Error.Memory) }
@@ -57,7 +62,7 @@ pub fn posix_quote(alloc: Global, text: &str) -> Result<String, Error>
     Ok(in_quotes(alloc, text)?)
 }
 
-// The text between `'`.
+// Returns the text between two `'`.
 fn in_quotes(alloc: Global, text: &str) -> Result<String, AllocError>
     ensures { IfOk result
         (λ quoted. string_bytes quoted ≡ codes "'" ++ posix_escaped text.now ++ codes "'") }
@@ -72,7 +77,7 @@ fn in_quotes(alloc: Global, text: &str) -> Result<String, AllocError>
     Ok(quoted)
 }
 
-// Whether a text that is not empty is made of bytes that need no quotes.
+// Returns whether a text is not empty and consists of bytes that need no quotes.
 #[tactic(auto, unfolding(crate::specs::PosixQuote::is_posix_safe_word))]
 fn is_safe_word(text: &str) -> bool
     ensures { result ≡ is_posix_safe_word text.now }
@@ -80,14 +85,14 @@ fn is_safe_word(text: &str) -> bool
     !text.is_empty() && are_safe(text.as_bytes())
 }
 
-// Whether no byte needs quotes.
+// Returns whether no byte needs quotes.
 fn are_safe(bytes: &[u8]) -> bool
     ensures { result ≡ list_all is_posix_safe bytes.now }
 {
     bytes.iter().all(|byte| is_safe(*byte))
 }
 
-// Whether a byte needs no quotes.
+// Returns whether a byte needs no quotes.
 #[tactic(auto, unfolding(crate::specs::PosixQuote::is_posix_safe))]
 fn is_safe(byte: u8) -> bool
     ensures { result ≡ is_posix_safe byte }
@@ -95,8 +100,8 @@ fn is_safe(byte: u8) -> bool
     byte.is_ascii_alphanumeric() || matches!(byte, b'+' | b'-' | b'.' | b'/' | b':' | b'@' | b'_')
 }
 
-// Where the reader of a word is: before the word; in it, outside quotes, between `'` or between
-// `"`; or after a backslash in each of these but `'`.
+// The state of a reader of a word: before the word; in it, outside quotes, between two `'` or
+// between two `"`; or after a backslash in each of these but `'`.
 #[derive(Clone, Copy)]
 pub(crate) enum QuoteState {
     Before,
@@ -108,15 +113,24 @@ pub(crate) enum QuoteState {
     InDoubleEscaped,
 }
 
-/// The word that a text begins with, and what follows it. Pieces up to a space, tab or line feed
-/// outside quotes make it: `'` keep everything; between `"` a backslash is special before `$`, a
-/// backtick, `"`, `\` and a line feed, with which it vanishes; outside quotes it keeps the next
-/// character, and vanishes with a line feed. `None` where no word begins the text, or where a quote
-/// or a backslash is open at its end. Fails with `Memory` alone.
+/// Reads the word with which `text` begins. Returns the word and the rest of the text. The word
+/// consists of pieces, up to a space, tab or line feed outside quotes. Nothing is expanded.
+///
+/// - Between two `'` every character is kept.
+/// - Between two `"` a backslash is special before `$`, a backtick, `"`, `\` and a line feed, and
+///   vanishes together with the line feed.
+/// - Outside quotes a backslash keeps the next character, and vanishes together with a line feed.
+///
+/// Returns `None` if the text does not begin with a word, if a quote is not closed, or if a
+/// backslash is the last character.
+///
+/// # Errors
+///
+/// `Memory` if an allocation fails.
 pub fn posix_word(alloc: Global, text: &str) -> Result<Option<(String, &str)>, Error>
     ensures word { IfOk result (λ read. contents read ≡ posix_word_of text.now) }
 
-    // It is the word that the first token of the text spells, where the text is cut as a script.
+    // The word is the one that the first token spells, if the text is cut as a script.
     ensures token { IfOk result (λ read. ReadsFirstToken text.now (contents read)) }
     ensures memory { IfErr result (λ error. error ≡ Error.Memory) }
 {
@@ -164,7 +178,7 @@ impl WordState for QuoteState {
     }
 }
 
-// The state after a character; `None` where the word ends before it.
+// Returns the state after a character, or `None` if the word ends before it.
 #[tactic(auto, unfolding(crate::specs::PosixSigns::sign))]
 fn next_state(state: QuoteState, character: char) -> Option<QuoteState>
     ensures { result ≡ next_state state (sign character) }

@@ -1,5 +1,5 @@
-//! Words as PowerShell quotes them: between two quotes, which are `'` and `’` (U+2019), and of two
-//! quotes in a row inside, the second is kept.
+//! Words as PowerShell quotes them: between two quotes, each `'` or `’` (U+2019). Two quotes in a
+//! row inside stand for the second.
 
 ghost use Rattle.std.specs.Prelude.{
   ◌≡◌,
@@ -56,8 +56,8 @@ const RIGHT_QUOTE_SECOND: u8 = 128;
 
 const RIGHT_QUOTE_THIRD: u8 = 153;
 
-/// PowerShell's escape of a text between two `'`: each `'` as `''`, each `’` (U+2019) as `'’`, and
-/// each line feed as a space.
+/// The escape of a text between two `'` in PowerShell: each `'` as `''`, each `’` (U+2019) as `'’`,
+/// and each line feed as a space.
 pub struct PowershellEscape;
 
 impl Escape for PowershellEscape {
@@ -79,7 +79,7 @@ impl Escape for PowershellEscape {
     }
 }
 
-// The index of the first byte that has a replacement.
+// Returns the index of the first byte that has a replacement.
 fn find_escaped(text: &[u8]) -> Option<usize>
     ensures { MatchOption result (powershell_escaped text.now ≡ text.now)
         (λ at. IsFirstEscaped text.now at) }
@@ -110,21 +110,25 @@ fn begins_quote_at(text: &[u8], at: usize) -> bool
     }
 }
 
-// Whether a text begins with the last two bytes of U+2019.
+// Returns whether a text begins with the last two bytes of U+2019.
 fn begins_second(text: &[u8]) -> bool
     ensures { result ≡ begins_second text.now }
 {
     matches!(text, [RIGHT_QUOTE_SECOND, RIGHT_QUOTE_THIRD, ..])
 }
 
-/// The text as it is between two `'` in PowerShell: each `'` as `''`, each `’` (U+2019) as
-/// `'’`, and each line feed as a space. Fails with `Memory` alone.
+/// Escapes `text` so that it can be put between two `'` in PowerShell: each `'` as `''`, each `’`
+/// (U+2019) as `'’`, and each line feed as a space.
+///
+/// # Errors
+///
+/// `Memory` if an allocation fails.
 #[tactic(auto, using(crate::proofs::PowershellWords::powershell_reads_back))]
 pub fn powershell_escape(alloc: Global, text: &str) -> Result<String, Error>
     ensures escaped { IfOk result
         (λ escaped. string_bytes escaped ≡ powershell_escaped text.now) }
 
-    // Between two quotes, what was written is read as the text, and nothing is left.
+    // Between two quotes the result is read as the text, and nothing remains.
     ensures read_back { IfOk result
         (λ escaped. powershell_word_of (codes "'" ++ string_bytes escaped ++ codes "'")
         ≡ Some (line_feeds_as_spaces text.now, [])) }
@@ -133,11 +137,18 @@ pub fn powershell_escape(alloc: Global, text: &str) -> Result<String, Error>
     Ok(escape_text(alloc, &PowershellEscape, text)?)
 }
 
-/// The word that a text begins with, and what follows it. A word that begins with a quote, which is
-/// `'` or `’` (U+2019), goes to the quote that closes it, and two quotes in a row in it are the
-/// second; any other ends before the first space, tab or line feed, and in it a quote is a
-/// character like any other. `None` where the text is empty or begins with a blank, or where a
-/// quote is open at its end. Fails with `Memory` alone.
+/// Reads the word with which `text` begins. Returns the word and the rest of the text.
+///
+/// - A word that begins with a quote, `'` or `’` (U+2019), ends at the quote that closes it. In it,
+///   two quotes in a row stand for the second.
+/// - Any other word ends before the first space, tab or line feed. In it, a quote is an ordinary
+///   character.
+///
+/// Returns `None` if the text is empty or begins with whitespace, or if a quote is not closed.
+///
+/// # Errors
+///
+/// `Memory` if an allocation fails.
 pub fn powershell_word(alloc: Global, text: &str) -> Result<Option<(String, &str)>, Error>
     ensures word { IfOk result (λ read. contents read ≡ powershell_word_of text.now) }
     ensures memory { IfErr result (λ error. error ≡ Error.Memory) }
@@ -148,7 +159,7 @@ pub fn powershell_word(alloc: Global, text: &str) -> Result<Option<(String, &str
     }
 }
 
-// The quote that a text begins with, and what follows it.
+// Returns the quote with which a text begins, and the rest.
 fn strip_quote(text: &str) -> Option<(&'static str, &str)>
     ensures { MatchOption result (BeginsWithNoQuote powershell_signs text.now)
         (λ found. BeginsWithQuote powershell_signs text.now found.0.now found.1.now) }
@@ -162,7 +173,7 @@ fn strip_quote(text: &str) -> Option<(&'static str, &str)>
     Some(("\u{2019}", rest))
 }
 
-// The text up to its first quote, and what follows the quote.
+// Returns the text before the first quote, and the text after it.
 fn split_at_quote(text: &str) -> Option<(&str, &str)>
     ensures { MatchOption result (IsWithoutQuotes powershell_signs text.now)
         (λ cut. (opening : List ℕ)
@@ -191,7 +202,7 @@ fn find_quote(text: &[u8]) -> Option<usize>
     None
 }
 
-// The word after its opening quote, and what follows it.
+// Returns the word after its opening quote, and the rest.
 fn quoted_word(alloc: Global, text: &str) -> Result<Option<(String, &str)>, AllocError>
     ensures { IfOk result
         (λ read. contents read ≡ word_from (quoted []) (powershell_signs text.now)) }

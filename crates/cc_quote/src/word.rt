@@ -1,12 +1,16 @@
-//! What the readers of words share.
+//! Functions that the readers of words share.
 
 ghost use Rattle.std.specs.Prelude.{◌≡◌, ◌++◌, [], encode_utf8, IfOk, MatchOption};
 ghost use Rattle.cc_quote.specs.QuotedWord.{contents, IsBareRead, IsCutAtBlank};
 
 use std::alloc::{AllocError, Global};
 
-/// The word that a text begins with, up to the first blank, and what follows it. `None` where the
-/// text is empty or begins with a blank.
+/// Reads the word with which `text` begins, up to the first space, tab or line feed. Returns the
+/// word and the rest of the text, or `None` if the text is empty or begins with whitespace.
+///
+/// # Errors
+///
+/// `AllocError` if an allocation fails.
 pub(crate) fn bare_word(alloc: Global, text: &str) -> Result<Option<(String, &str)>, AllocError>
     ensures { IfOk result (λ read. IsBareRead text.now (contents read)) }
 {
@@ -18,7 +22,7 @@ pub(crate) fn bare_word(alloc: Global, text: &str) -> Result<Option<(String, &st
     Ok(Some((word, rest)))
 }
 
-// The text up to its first space, tab or line feed, and the text from there on.
+// Splits a text before its first space, tab or line feed.
 fn split_at_blank(text: &str) -> (&str, &str)
     ensures { IsCutAtBlank text.now result.0.now result.1.now }
 {
@@ -26,7 +30,7 @@ fn split_at_blank(text: &str) -> (&str, &str)
     text.split_at(end)
 }
 
-/// The first character of a text, and what follows it. `None` where the text is empty.
+/// Returns the first character of `text` and the rest, or `None` if the text is empty.
 pub(crate) fn split_first(text: &str) -> Option<(char, &str)>
     ensures { MatchOption result (text.now ≡ [])
         (λ cut. text.now ≡ encode_utf8 cut.0 ++ cut.1.now) }

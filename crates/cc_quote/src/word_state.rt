@@ -1,4 +1,4 @@
-//! The reader of words by an automaton.
+//! A reader of words that is an automaton.
 
 ghost use Rattle.std.specs.Prelude.{◌≡◌, [], ℕ, Bool, List, Option, encode_utf8, IfOk, OnOk};
 ghost use Rattle.std.specs.String.{string_bytes};
@@ -8,35 +8,44 @@ ghost use Rattle.cc_quote.specs.WordReader.{ReadsBytes, ended, word_from};
 use crate::word::split_first;
 use std::alloc::{AllocError, Global};
 
-/// Where a reader of words is.
+/// The state of a reader of words.
 pub(crate) trait WordState: Copy {
-    // The state after a character, where a whole word or only the text up to the `"` that closes
-    // is read; none where the reading ends before it.
+    // The state after a character; `None` if the reading ends before it. The flag says whether only
+    // the text up to the closing `"` is read, instead of a whole word.
     ghost next: { Bool → Self → ℕ → Option Self };
 
-    // the word with what a character spells, which has these bytes
+    // the word with what a character adds to it; the last list is the bytes of the character
     ghost added: { Self → ℕ → List ℕ → List ℕ → List ℕ };
 
     // whether a word may end at the state
     ghost may_end: { Self → Bool };
 
-    /// The state after a character; `None` where the reading ends before it. `is_double`: only
-    /// the text up to the `"` that closes is read.
+    /// Returns the state after `character`, or `None` if the reading ends before it. `is_double`
+    /// says that only the text up to the closing `"` is read.
     fn next_state(self, is_double: bool, character: char) -> Option<Self>
         ensures { result ≡ next is_double self character };
 
-    /// Adds to the word what a character spells.
+    /// Adds what `character` spells to `word`.
+    ///
+    /// # Errors
+    ///
+    /// `AllocError` if an allocation fails.
     fn push_added(self, character: char, word: &mut String) -> Result<(), AllocError>
         ensures { OnOk result (string_bytes word.new
             ≡ added self character (string_bytes word.old) (encode_utf8 character)) };
 
-    /// Whether a word may end here.
+    /// Returns whether a word may end at the state.
     fn may_end(self) -> bool
         ensures { result ≡ may_end self };
 }
 
-/// The word from a state on, and what follows it; with `is_double`, what is spelled up to the `"`
-/// that closes. `None` where no word may end where the reading ends.
+/// Reads a word of `text` from the state `first` on. With `is_double` it reads what is spelled up
+/// to the closing `"`. Returns the word and the rest of the text, or `None` if no word may end
+/// where the reading ends.
+///
+/// # Errors
+///
+/// `AllocError` if an allocation fails.
 pub(crate) fn read_word<S: WordState>(
     alloc: Global,
     first: S,
@@ -60,7 +69,7 @@ pub(crate) fn read_word<S: WordState>(
     Ok(end_word(state, word, rest))
 }
 
-// The word and what follows it, where the reading ends at a state.
+// Returns the word and the rest if a word may end at the state.
 fn end_word<S: WordState>(state: S, word: String, rest: &str) -> Option<(String, &str)>
     ensures { contents result ≡ ended (S.may_end state) (string_bytes word) rest.now }
 {

@@ -1,5 +1,5 @@
-//! Texts as zsh's completion reads them between two `'`: backslashes are before what it takes for
-//! syntax.
+//! Texts between two `'` for zsh's completion, with a backslash before each character that it takes
+//! as syntax.
 
 ghost use Rattle.std.specs.Prelude.{◌≡◌, [], option_map, IfOk, IfErr, OnOk};
 ghost use Rattle.std.specs.String.{string_bytes};
@@ -11,8 +11,8 @@ use crate::word_state::{WordState, read_word};
 use cc_base::Error;
 use std::alloc::{AllocError, Global};
 
-/// zsh's escape of a description between two `'`: a backslash before `\ [ ] : $` and a backtick,
-/// `'` as `'\''`, and each line feed as a space.
+/// The escape of a description between two `'` in zsh: a backslash before `\ [ ] : $` and a
+/// backtick, `'` as `'\''`, and each line feed as a space.
 pub struct ZshHelpEscape;
 
 impl ByteEscape for ZshHelpEscape {
@@ -21,7 +21,7 @@ impl ByteEscape for ZshHelpEscape {
     ghost replacement = { λ _. zsh_help_replacement };
 
     fn replacement(&self, byte: u8) -> Option<&'static str> {
-        // All that are escaped come before the lower-case letters, of which most texts are made.
+        // All bytes to escape are less than the lower-case letters, of which most texts consist.
         if byte > b'`' {
             return None;
         }
@@ -39,8 +39,8 @@ impl ByteEscape for ZshHelpEscape {
     }
 }
 
-/// zsh's escape of a value between two `'`: a backslash before `\ [ ] : $ ( )`, a backtick and a
-/// space, and `'` as `'\''`.
+/// The escape of a value between two `'` in zsh: a backslash before `\ [ ] : $ ( )`, a backtick and
+/// a space, and `'` as `'\''`.
 pub struct ZshValueEscape;
 
 impl ByteEscape for ZshValueEscape {
@@ -59,13 +59,18 @@ impl ByteEscape for ZshValueEscape {
     }
 }
 
-/// The text as a description between two `'` in zsh: a backslash before `\ [ ] : $` and a backtick,
-/// `'` as `'\''`, and each line feed as a space. Fails with `Memory` alone.
+/// Escapes `text` as a description between two `'` in zsh: a backslash before `\ [ ] : $` and a
+/// backtick, `'` as `'\''`, and each line feed as a space.
+///
+/// # Errors
+///
+/// `Memory` if an allocation fails.
 #[tactic(auto, unfolding(crate::specs::ZshQuote::zsh_escaped_help), using(crate::proofs::ZshWords::help_reads_unescaped))]
 pub fn zsh_escape_help(alloc: Global, text: &str) -> Result<String, Error>
     ensures escaped { IfOk result (λ escaped. string_bytes escaped ≡ zsh_escaped_help text.now) }
 
-    // Between two quotes it is read as a word, which is the text once the backslashes are off.
+    // Between two quotes the result is read as a word. Without its backslashes that word is the
+    // text.
     ensures read_back { IfOk result
         (λ escaped. ReadsUnescaped (string_bytes escaped) (line_feeds_as_spaces text.now)) }
     ensures memory { IfErr result (λ error. error ≡ Error.Memory) }
@@ -73,13 +78,18 @@ pub fn zsh_escape_help(alloc: Global, text: &str) -> Result<String, Error>
     Ok(escape_text(alloc, &ZshHelpEscape, text)?)
 }
 
-/// The text as a value between two `'` in zsh: a backslash before `\ [ ] : $ ( )`, a backtick and a
-/// space, and `'` as `'\''`. Fails with `Memory` alone.
+/// Escapes `text` as a value between two `'` in zsh: a backslash before `\ [ ] : $ ( )`, a backtick
+/// and a space, and `'` as `'\''`.
+///
+/// # Errors
+///
+/// `Memory` if an allocation fails.
 #[tactic(auto, unfolding(crate::specs::ZshQuote::zsh_escaped_value), using(crate::proofs::ZshWords::value_reads_unescaped))]
 pub fn zsh_escape_value(alloc: Global, text: &str) -> Result<String, Error>
     ensures escaped { IfOk result (λ escaped. string_bytes escaped ≡ zsh_escaped_value text.now) }
 
-    // Between two quotes it is read as a word, which is the text once the backslashes are off.
+    // Between two quotes the result is read as a word. Without its backslashes that word is the
+    // text.
     ensures read_back { IfOk result
         (λ escaped. ReadsUnescaped (string_bytes escaped) text.now) }
     ensures memory { IfErr result (λ error. error ≡ Error.Memory) }
@@ -87,15 +97,19 @@ pub fn zsh_escape_value(alloc: Global, text: &str) -> Result<String, Error>
     Ok(escape_text(alloc, &ZshValueEscape, text)?)
 }
 
-// Where a reader of an escaped text is: after a backslash that escapes, or after none.
+// The state of a reader of an escaped text: after a backslash that escapes, or not.
 #[derive(Clone, Copy)]
 pub(crate) enum EscapeState {
     Plain,
     Escaping,
 }
 
-/// The text without its escaping backslashes: each keeps the next character, a backslash too.
-/// `None` where an escaping backslash is last. Fails with `Memory` alone.
+/// Removes the backslashes that escape from `text`. Each of them keeps the next character, even a
+/// backslash. Returns `None` if a backslash that escapes is the last character.
+///
+/// # Errors
+///
+/// `Memory` if an allocation fails.
 pub fn zsh_unescape(alloc: Global, text: &str) -> Result<Option<String>, Error>
     ensures unescaped { IfOk result
         (λ read. option_map string_bytes read ≡ zsh_unescaped text.now) }

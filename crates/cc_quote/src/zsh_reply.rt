@@ -1,4 +1,4 @@
-//! A value and its help as zsh's completion takes them apart at a colon.
+//! A value and its help text as zsh's completion splits them at a colon.
 
 ghost use Rattle.std.specs.Prelude.{◌≡◌, IfOk, IfErr, Some};
 ghost use Rattle.std.specs.String.{string_bytes};
@@ -11,7 +11,7 @@ use cc_base::Error;
 use memchr::{memchr, memchr2};
 use std::alloc::Global;
 
-/// zsh's escape of a value before a colon: `\` as `\\` and `:` as `\:`.
+/// The escape of a value before a colon in zsh: `\` as `\\` and `:` as `\:`.
 pub struct ZshReplyValue;
 
 impl ByteEscape for ZshReplyValue {
@@ -32,7 +32,7 @@ impl ByteEscape for ZshReplyValue {
     }
 }
 
-/// zsh's escape of a help after a colon: `\` as `\\`.
+/// The escape of a help text after a colon in zsh: `\` as `\\`.
 pub struct ZshReplyHelp;
 
 impl ByteEscape for ZshReplyHelp {
@@ -49,12 +49,16 @@ impl ByteEscape for ZshReplyHelp {
     }
 }
 
-/// The value as it is before a colon: `\` as `\\` and `:` as `\:`. Fails with `Memory` alone.
+/// Escapes `value` so that it can be put before a colon: `\` as `\\` and `:` as `\:`.
+///
+/// # Errors
+///
+/// `Memory` if an allocation fails.
 #[tactic(auto, using(crate::proofs::ZshReplies::value_unescaped))]
 pub fn zsh_reply_value(alloc: Global, value: &str) -> Result<String, Error>
     ensures escaped { IfOk result (λ escaped. string_bytes escaped ≡ zsh_replied_value value.now) }
 
-    // Without the backslashes it is the value.
+    // Without the backslashes that escape, the result is the value.
     ensures read_back { IfOk result
         (λ escaped. zsh_unescaped (string_bytes escaped) ≡ Some value.now) }
     ensures memory { IfErr result (λ error. error ≡ Error.Memory) }
@@ -62,12 +66,16 @@ pub fn zsh_reply_value(alloc: Global, value: &str) -> Result<String, Error>
     Ok(escape_text(alloc, &ZshReplyValue, value)?)
 }
 
-/// The help as it is after a colon: `\` as `\\`. Fails with `Memory` alone.
+/// Escapes `help` so that it can be put after a colon: `\` as `\\`.
+///
+/// # Errors
+///
+/// `Memory` if an allocation fails.
 #[tactic(auto, using(crate::proofs::ZshReplies::help_unescaped))]
 pub fn zsh_reply_help(alloc: Global, help: &str) -> Result<String, Error>
     ensures escaped { IfOk result (λ escaped. string_bytes escaped ≡ zsh_replied_help help.now) }
 
-    // Without the backslashes it is the help.
+    // Without the backslashes that escape, the result is the help text.
     ensures read_back { IfOk result
         (λ escaped. zsh_unescaped (string_bytes escaped) ≡ Some help.now) }
     ensures memory { IfErr result (λ error. error ≡ Error.Memory) }

@@ -1,4 +1,4 @@
--- Rows, tables and scripts, worked by the definitions, byte by byte.
+-- Examples of rows, tables and scripts, byte by byte.
 use Rattle.std.proofs.Common.{◌≡◌, List, [], ◌∷◌, Some, None, codes, map, refl}
 use Rattle.std.specs.Char.{encode_utf8}
 use Rattle.cc_arg.specs.declared.action.ArgAction.TheVariants.{SetTrue}
@@ -28,8 +28,8 @@ texts :
 unfolding row_begin text_begin row_end row_text elvish_frame table_text elvish_named named_text head_text script_text
 texts = (refl, refl, refl)
 
--- a node with a flag, a positional, an option whose help is empty, and a child, each with an alias,
--- and some with a hidden alias
+-- a node with a flag, a positional, an option with an empty help text, and a child, each with an
+-- alias, and some with a hidden alias
 abbrev app : Tree
 app = record {
   node = record (new_node (codes "app")) {
@@ -53,7 +53,8 @@ app_rows : map offer_row (node_offers app)
 unfolding encode_utf8 node_offers
 app_rows = refl
 
--- `app` with a child `run`, shown as `r` too and hidden as `go`, that has a child `job`
+-- `app` with a child `run`, whose visible alias is `r` and whose hidden alias is `go`, and which
+-- has a child `job`
 abbrev nested : Tree
 nested = record {
   node = new_node (codes "app");
@@ -61,13 +62,13 @@ nested = record {
       (more (new_node (codes "job")) none none) none;
 }
 
--- its tables are under each visible path
+-- the tables of that tree are under its visible paths
 nested_keys : map (λ table. table.key) (tree_tables offer_row nested)
     ≡ codes "app" ∷ codes "app;run" ∷ codes "app;r" ∷ codes "app;run;job" ∷ codes "app;r;job" ∷ []
 unfolding tables_below path_tables
 nested_keys = refl
 
--- two tables as a program's help gives them
+-- two tables as a program's help texts give them
 abbrev given : List (Table Row)
 given =
     record {
@@ -77,7 +78,7 @@ given =
     ∷ record { key = codes "app;run"; rows = record { word = codes "cand"; text = codes "'}" } ∷ [] }
     ∷ []
 
--- the same, as they are read
+-- the same tables as they are read
 abbrev read_back : List (Table Row)
 read_back =
     record {
@@ -90,7 +91,7 @@ read_back =
 reads :
     -- a script with these tables reads back to them
     (elvish_tables (script_text elvish_frame row_text (codes "app") given) ≡ Some read_back)
-    -- a program named as the word after which its tables are
+    -- a program whose name is the word before the tables
     × (elvish_tables (script_text elvish_frame row_text (codes "completions") []) ≡ Some [])
 unfolding is_word strip_words after_words sign cut elvish_tokens part step spelling after_step next tables_of read tables_begin elvish_tables elvish_named elvish_frame named_text head_text row_begin text_begin row_end row_text table_text script_text
 reads = (refl, refl)

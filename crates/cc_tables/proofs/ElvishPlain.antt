@@ -1,4 +1,4 @@
--- The Elvish script of a plain tree reads to the tree's tables.
+-- The Elvish script of a plain tree reads back to the tree's tables.
 use Rattle.std.proofs.Common.{◌≢◌, ◌==◌, not, ℕ, IsTrue, codes, refl, arith}
 use Rattle.std.proofs.lemmas.Bool.Decides.{nat_tests}
 use Rattle.cc_base.proofs.Members.{AllByRecursion-weaker}
@@ -25,7 +25,7 @@ bare_byte : (byte : ℕ) → name_byte byte ≢ foreign → IsTrue (is_bare byte
 unfolding is_bare
 bare_byte byte h = let k = letter_or_joiner byte h in grind (arith, nat_tests)
 
--- and no quote
+-- a byte that may occur in a plain name is not a quote
 no_quote_byte : (byte : ℕ) → name_byte byte ≢ foreign → IsTrue (not (byte == single_quote))
 unfolding is_bare
 no_quote_byte byte h = let bare = bare_byte byte h in grind (arith, nat_tests)
@@ -38,7 +38,7 @@ word_bare offer h = (
       (λ byte. IsTrue (is_bare byte)) bare_byte (word offer) h.bytes,
 )
 
--- the script of a plain tree reads to its tables
+-- the script of a plain tree reads back to its tables
 pub elvish_plain_reads : (tree : Tree) → IsTrue (is_plain_tree tree) → ElvishReads tree
 unfolding elvish_frame
 elvish_plain_reads tree h =

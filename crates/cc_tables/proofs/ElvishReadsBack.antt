@@ -1,4 +1,4 @@
--- An Elvish script reads back to the tables that it was written from.
+-- An Elvish script reads back to the tables from which it was written.
 use Rattle.std.proofs.Common.{◌≡◌, ◌==◌, not, IsTrue, ℕ, List, [], ◌∷◌, ◌++◌, map, Option, Some}
 use Rattle.std.proofs.Common.{codes, refl, ap, ◌∙◌}
 use Rattle.std.specs.List.{AllByRecursion}
@@ -28,7 +28,7 @@ use Rattle.cc_tables.specs.declared.offers.Offer.{Offer}
 use Rattle.cc_tables.proofs.PlainTables.{IsReadable, table_read}
 use Rattle.cc_tables.proofs.ScriptReadsBack.{named_head, script_reads}
 
--- what the reader gives from a state on, where the script is cut from a state of quotes on
+-- what the reader reads from a state on, if the script is cut from a quote state on
 abbrev reading : State RowState Row → QuoteState → List ℕ → Option (List (Table Row))
 reading state quote script = read spelling state (cut quote (map sign script))
 
@@ -36,7 +36,7 @@ reading state quote script = read spelling state (cut quote (map sign script))
 abbrev in_rows : List (Table Row) → List ℕ → List Row → List ℕ → Option (List (Table Row))
 in_rows tables name rows script = reading (in_table tables (record { key = name; rows = rows }) between_rows) between script
 
--- a row gives its word and its text
+-- a row is read as its word and its text
 row_reads : (tables : List (Table Row)) (name : List ℕ) (rows : List Row) (row : Row) (rest : List ℕ) → IsBareWord row.word → IsLine rest
     → in_rows tables name rows (row_text row ++ rest) ≡ in_rows tables name (rows ++ record row { text = line_feeds_as_spaces row.text } ∷ []) rest
 unfolding row_text row_begin text_begin row_end sign cut part step spelling after_step next read
@@ -66,12 +66,12 @@ end_reads : (tables : List (Table Row)) (name : List ℕ) (rows : List Row) (res
 unfolding elvish_frame sign cut part step spelling after_step next read
 end_reads tables name rows rest (line tail) = refl
 
--- after the last table is what ends them
+-- the list of tables ends after the last table
 tail_reads : (tables : List (Table Row)) → in_tables tables elvish_frame.tail ≡ Some tables
 unfolding elvish_frame sign cut part spelling next tables_of read
 tail_reads tables = refl
 
--- up to its tables a script holds the three words once, at the end
+-- before its tables a script holds the three words once, at the end
 head_reads : (bin rest : List ℕ) → IsBare bin → IsLine rest → after_words tables_begin (elvish_tokens (head_text elvish_frame bin ++ rest)) ≡ cut between (map sign rest)
 unfolding elvish_frame elvish_named is_word strip_words after_words sign cut elvish_tokens tables_begin
 head_reads bin rest h (line tail) =
@@ -80,7 +80,7 @@ head_reads bin rest h (line tail) =
     ∙ ap (after_words tables_begin) (bare_run bin (elvish_named.between ++ last) [] (codes "edit:completion:arg-completer[") h)
     ∙ ap (after_words tables_begin) (quoted_text bin (elvish_named.completions ++ rest) [] (single_quote ∷ []) [] (HasNoQuote-IsBare bin h))
 
--- a script reads back to its tables, with a space for each line feed of a text, where each word is
+-- a script reads back to its tables, with a space for each line feed of a text, if each word is
 -- bare and no byte of a key is a quote
 pub elvish_reads_back : (bin : List ℕ) (tables : List (Table Offer)) → IsBare bin
     → AllByRecursion (IsReadable (λ byte. IsTrue (not (byte == single_quote))) (λ offer. IsBareWord (word offer))) tables

@@ -1,4 +1,4 @@
--- A block and a script, worked by the definitions, byte by byte.
+-- Examples of a block and of a script, byte by byte.
 use Rattle.std.proofs.Common.{◌≡◌, List, [], ◌∷◌, Some, None, true, false, codes, refl}
 use Rattle.std.specs.Char.{encode_utf8}
 use Rattle.cc_arg.specs.declared.action.ArgAction.TheVariants.{SetTrue}
@@ -15,7 +15,7 @@ use Rattle.cc_tables.specs.NushellScript.{line_text, node_lines, nushell_frame, 
 use Rattle.cc_tables.specs.Script.{head_text, named_text, script_text, table_text}
 use Rattle.cc_tables.specs.Tables.{Table, path_tables}
 
--- a help with a number sign, a bracket and a line feed, and one that is empty
+-- a help text with a number sign, a bracket and a line feed, and an empty help text
 abbrev given : List (Table Line)
 given =
     record {
@@ -30,7 +30,7 @@ script : script_text nushell_frame line_text (codes "app") given
 unfolding nushell_frame named_text head_text line_begin value_text help_begin type_text help_text content line_text table_text script_text
 script = refl
 
--- the same, as they are read
+-- the same blocks as they are read
 abbrev read_back : List (Table Line)
 read_back =
     record {
@@ -45,13 +45,14 @@ two_blocks : nushell_blocks (script_text nushell_frame line_text (codes "app") g
 unfolding nushell_frame named_text head_text line_begin value_text help_begin type_text help_text content line_text table_text script_text after before_ending after_mark cut_at with_front name_of after_name record_of in_block_sign key_sign sign next closed read nushell_blocks
 two_blocks = refl
 
--- a block that is not closed, and one with a line that is no record
+-- a block that is not closed, and one with a line that is not a record
 malformed : (nushell_blocks (codes "  export extern \"app\" [\n    --x\n") ≡ None)
     × (nushell_blocks (codes "  export extern \"app\" [\n  --x\n  ]\n") ≡ None)
 unfolding after before_ending after_mark cut_at with_front name_of after_name record_of in_block_sign key_sign sign next closed read nushell_blocks
 malformed = (refl, refl)
 
--- `app` with a flag that has a help, and a child `run`, shown as `r` too, that has an option
+-- `app` with a flag that has a help text, and a child `run`, whose visible alias is `r` and which
+-- has an option
 abbrev app : Tree
 app = record {
   node = record (new_node (codes "app")) {
@@ -63,7 +64,7 @@ app = record {
   }) none none;
 }
 
--- its blocks are under each visible path
+-- the blocks of that tree are under its visible paths
 app_blocks : path_tables (codes " ") node_lines app
     ≡ record {
       key = codes "app";

@@ -1,4 +1,4 @@
--- The Nushell script of a plain tree reads to the tree's blocks.
+-- The Nushell script of a plain tree reads back to the tree's blocks.
 use Rattle.std.proofs.Common.{◌≡◌, ◌≢◌, ◌==◌, ℕ, Bool, true, false, IsTrue, List, map, codes, flat_map, refl}
 use Rattle.std.specs.List.{AllByRecursion}
 use Rattle.cc_base.proofs.Members.{AllByRecursion-weaker, AllByRecursion-append, AllByRecursion-map}
@@ -22,7 +22,7 @@ use Rattle.cc_tables.proofs.NushellReadsBack.{IsReadableLine, nushell_reads_back
 use Rattle.cc_tables.proofs.PlainOffers.{IsPlainOffer, arguments_plain}
 use Rattle.cc_tables.proofs.PlainTables.{reads_tables, space_foreign, tables_readable}
 
--- a byte of a plain name is no byte that occurs in none
+-- a byte of a plain name differs from a byte that occurs in no plain name
 no_line_feed : (byte : ℕ) → name_byte byte ≢ foreign → (byte == line_feed) ≡ false
 unfolding name_byte
 no_line_feed byte h = name_is_not byte line_feed h refl
@@ -60,7 +60,7 @@ node_readable tree h =
     (arguments_readable true (options tree.node) node.options)
     (arguments_readable false (flags tree.node) node.flags)
 
--- the script of a plain tree reads to its blocks
+-- the script of a plain tree reads back to its blocks
 pub nushell_plain_reads : (tree : Tree) → IsTrue (is_plain_tree tree) → NushellReads tree
 unfolding nushell_frame
 nushell_plain_reads tree h =

@@ -1,4 +1,4 @@
--- A Nushell script reads back to the blocks that it was written from.
+-- A Nushell script reads back to the blocks from which it was written.
 use Rattle.std.proofs.Common.{◌≡◌, ◌==◌, ℕ, Bool, true, false, cond, List, [], ◌∷◌, ◌++◌, map}
 use Rattle.std.proofs.Common.{Option, Some, None, codes, option_map, is_some, reverse}
 use Rattle.std.proofs.Common.{refl, sym, ap, ◌∙◌, append_assoc, append-nil, arith}
@@ -23,7 +23,7 @@ use Rattle.cc_tables.specs.Tables.{Table}
 use Rattle.cc_tables.proofs.PlainTables.{IsReadable, table_read}
 use Rattle.cc_tables.proofs.ScriptReadsBack.{script_reads}
 
--- ---- a text by its lines
+-- ---- the lines of a text
 
 -- no byte is a line feed
 abbrev pub IsOneLine : List ℕ → Type 0
@@ -39,7 +39,7 @@ line_first (byte ∷ text) begun rest (h, hs) =
     ∙ line_first text (begun ++ byte ∷ []) rest hs
     ∙ ap (λ line. line ∷ pieces_from line_feed [] rest) (append_assoc begun (byte ∷ []) text)
 
--- what the reader gives from a state on
+-- what the reader reads from a state on
 abbrev reading : State → List ℕ → Option (List (Table Line))
 reading state script = read state (pieces_from line_feed [] script)
 
@@ -55,7 +55,7 @@ one_line state text rest h = ap (read state) (line_first text [] rest h)
 abbrev pub IsWholeName : List ℕ → Type 0
 IsWholeName name = AllByRecursion (λ byte. ends_name byte ≡ false) name
 
--- a name goes up to what follows it
+-- a name ends where the text after it begins
 name_whole : (name rest : List ℕ) → IsWholeName name → name_of (name ++ rest) ≡ name ++ name_of rest
 unfolding name_of
 name_whole [] rest h = refl
@@ -70,18 +70,18 @@ name_passed (byte ∷ name) rest (h, hs) =
     ap (λ test. cond test (byte ∷ (name ++ rest)) (after_name (name ++ rest))) h
     ∙ name_passed name rest hs
 
--- a byte that ends no name is no space
+-- a byte that does not end a name is not a space
 not_space : (byte : ℕ) → ends_name byte ≡ false → (space == byte) ≡ false
 not_space byte h = grind (arith, nat_tests)
 
--- what is after a mark, with a text before it that lacks it
+-- the text after a mark does not depend on a text before it that lacks the mark
 rest_same : (front : List ℕ) (cut : Cut)
     → option_map (λ c. c.1) (with_front front cut) ≡ option_map (λ c. c.1) cut
 unfolding with_front
 rest_same front None = refl
 rest_same front (Some (before, rest)) = refl
 
--- no help begins in a name
+-- no help text begins within a name
 no_help : (name rest : List ℕ) → IsWholeName name
     → after_mark (codes " # ") (name ++ rest) ≡ after_mark (codes " # ") rest
 unfolding after_mark
@@ -90,11 +90,11 @@ no_help name rest h =
     (AllByRecursion-weaker (λ byte. ends_name byte ≡ false) (λ byte. (space == byte) ≡ false) not_space name h))
     ∙ rest_same name (cut_at (codes " # ") rest)
 
--- a record by its parts
+-- a record, given its parts
 abbrev line_of : List ℕ → Bool → Option (List ℕ) → Line
 line_of name takes_value help = record { name = name; takes_value = takes_value; help = help }
 
--- what follows a name
+-- the text after a name
 parts_read : (name : List ℕ) (takes_value : Bool) (help : Option (List ℕ)) →
     line_of (name ++ name_of (type_text takes_value ++ help_text help))
     (is_some (after (codes ": string") (after_name (type_text takes_value ++ help_text help))))
@@ -129,7 +129,7 @@ line_sign line h = ap holds (record_read line h)
 
 -- ---- lines
 
--- the name of a line goes up to its end, and is on one line; a help may be any
+-- the name of a line is read to its end and is on one line; the help text may be any text
 pub record IsReadableLine (line : Line) : Type 0 where
   pub whole : IsWholeName line.name
   pub one : IsOneLine line.name
@@ -183,7 +183,7 @@ line_reads blocks key lines line rest h =
 
 -- ---- blocks
 
--- the key is what is before the end of its line
+-- the key is the text before the end of its line
 key_before : (key : List ℕ) → before_ending (codes "\" [") (key ++ codes "\" [") ≡ Some key
 unfolding before_ending after
 key_before key =
@@ -224,26 +224,26 @@ key_reads blocks key rest h =
     ∙ one_line (between blocks) (opening ++ (key ++ codes "\" [")) rest (key_one_line key h)
     ∙ ap (λ s. reading (next (between blocks) s) rest) (key_line_sign key)
 
--- what closes a block
+-- a line that closes a block
 end_reads : (blocks : List (Table Line)) (key : List ℕ) (lines : List Line) (rest : List ℕ)
     → in_lines blocks key lines (nushell_frame.table_end ++ rest)
     ≡ in_blocks (blocks ++ record { key = key; rows = lines } ∷ []) rest
 unfolding nushell_frame after before_ending sign key_sign in_block_sign next read
 end_reads blocks key lines rest = refl
 
--- there is no key before the blocks
+-- no block begins before the blocks
 head_reads : (bin rest : List ℕ)
     → in_blocks [] (head_text nushell_frame bin ++ rest) ≡ in_blocks [] rest
 unfolding nushell_frame head_text named_text after before_ending sign key_sign in_block_sign next read
 head_reads bin rest = refl
 
--- nor after them
+-- no block begins after the blocks
 tail_reads : (blocks : List (Table Line)) → in_blocks blocks nushell_frame.tail ≡ Some blocks
 unfolding nushell_frame after before_ending sign key_sign in_block_sign next closed read
 tail_reads blocks = refl
 
--- a script reads back to its blocks, with a space for each line feed of a help, where the keys are
--- on one line and the lines can be read
+-- a script reads back to its blocks, with a space for each line feed of a help text, if the keys
+-- are on one line and the lines are readable
 pub nushell_reads_back : (bin : List ℕ) (blocks : List (Table Line))
     → AllByRecursion (IsReadable (λ byte. (byte == line_feed) ≡ false) IsReadableLine) blocks
     → nushell_blocks (script_text nushell_frame line_text bin blocks) ≡ Some (map (table_read line_read) blocks)

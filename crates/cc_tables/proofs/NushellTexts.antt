@@ -31,7 +31,7 @@ lines_of_node tree =
     ∙ ap₂ (λ first second. first ++ second) (lines_of_arguments true (options tree.node))
     (lines_of_arguments false (flags tree.node))
 
--- a help on one line
+-- a help text on one line
 pub line_feeds_replaced : (text : List ℕ) → replace_byte 10 (codes " ") text ≡ line_feeds_as_spaces text
 line_feeds_replaced [] = refl
 line_feeds_replaced (byte ∷ text) = ap₂ (λ first second. first ++ second) (by_test (byte == line_feed)) (line_feeds_replaced text)

@@ -1,4 +1,4 @@
--- What is offered at a plain node: words of the bytes that plain names have.
+-- The words that are offered at a plain node consist of bytes that may occur in plain names.
 use Rattle.std.proofs.Common.{◌≡◌, ◌≢◌, ℕ, IsTrue, List, []}
 use Rattle.std.proofs.Common.{◌∷◌, ◌++◌, map, flat_map, encode_utf8, subst, sym}
 use Rattle.std.proofs.Common.{arith}
@@ -33,12 +33,12 @@ pub record IsPlainOffer (offer : Offer) : Type 0 where
 abbrev pub ArePlainOffers : List Offer → Type 0
 ArePlainOffers offers = AllByRecursion IsPlainOffer offers
 
--- a dash may
+-- a dash may occur in a plain name
 dash_byte : name_byte 45 ≢ foreign
 unfolding name_byte
 dash_byte = λ e. cc
 
--- so may a letter or a digit
+-- a letter or a digit may occur in a plain name
 letter_byte : (byte : ℕ) → IsTrue (is_ascii_alphanumeric byte) → name_byte byte ≢ foreign
 unfolding name_byte
 letter_byte byte h = rw h (λ e. cc)

@@ -1,5 +1,5 @@
--- The tables of a plain tree can be read, by a reader to which the bytes of plain names mean
--- nothing else.
+-- The tables of a plain tree are readable by any reader to which the bytes of plain names have no
+-- special meaning.
 use Rattle.std.proofs.Common.{◌≡◌, ◌≢◌, ℕ, IsTrue, List, [], ◌∷◌, ◌++◌, map, flat_map, Option, Some}
 use Rattle.std.proofs.Common.{codes, refl, ap, ap₂, ◌∙◌}
 use Rattle.std.specs.List.{AllByRecursion}
@@ -23,24 +23,24 @@ use Rattle.cc_tables.specs.Tables.{Table, offered, path_tables, table_of, tree_t
 use Rattle.cc_tables.specs.declared.offers.Offer.{Offer}
 use Rattle.cc_tables.proofs.PlainOffers.{IsPlainOffer, node_plain}
 
--- what has to be so of a table: of each byte of its key, and of each row
+-- the requirements on a table: on each byte of its key, and on each row
 pub record IsReadable {Row : Type 0} (IsKeyByte : ℕ → Type 0) (IsReadableRow : Row → Type 0)
     (table : Table Row) : Type 0 where
   pub key : AllByRecursion IsKeyByte table.key
   pub rows : AllByRecursion IsReadableRow table.rows
 
--- a table as it is read, where each row is read so
+-- a table as it is read, given how a row is read
 abbrev pub table_read : {Item Row : Type 0} → (Item → Row) → Table Item → Table Row
 table_read as_read table = record { key = table.key; rows = map as_read table.rows }
 
--- what is so of the bytes of plain names is so of a plain name
+-- what holds for the bytes of plain names holds for each byte of a plain name
 pub of_plain_name : (IsByte : ℕ → Type 0) → ((byte : ℕ) → name_byte byte ≢ foreign → IsByte byte)
     → (name : List ℕ) → IsPlainName name → AllByRecursion IsByte name
 of_plain_name IsByte of_byte name h =
     AllByRecursion-weaker (λ byte. name_byte byte ≢ foreign) IsByte of_byte name
     (plain_bytes name h)
 
--- `;` and the space occur in no plain name
+-- `;` and the space do not occur in plain names
 pub semicolon_foreign : name_byte 59 ≡ foreign
 unfolding name_byte
 semicolon_foreign = refl
@@ -49,7 +49,7 @@ pub space_foreign : name_byte 32 ≡ foreign
 unfolding name_byte
 space_foreign = refl
 
--- the separator of keys is one byte, and each node has these rows
+-- for keys with a separator of one byte; `rows` returns the rows of a node
 module _ {Row : Type 0} (separator : ℕ) (is_foreign : name_byte separator ≡ foreign)
     (rows : Tree → List Row) where
   -- the table of a visit
@@ -57,7 +57,7 @@ module _ {Row : Type 0} (separator : ℕ) (is_foreign : name_byte separator ≡ 
   visit_table bin_name visit =
       table_of rows (joined_path (separator ∷ []) bin_name visit.key) visit.tree
 
-  -- no two tables of a plain tree have the same key
+  -- different tables of a plain tree have different keys
   pub keys_differ : (tree : Tree) → IsTrue (is_plain_tree tree)
       → AllDifferBy (λ table. table.key) (path_tables (separator ∷ []) rows tree)
   unfolding path_tables
@@ -72,7 +72,7 @@ module _ {Row : Type 0} (separator : ℕ) (is_foreign : name_byte separator ≡ 
       (of_byte : (byte : ℕ) → name_byte byte ≢ foreign → IsKeyByte byte)
       (of_separator : IsKeyByte separator)
       (of_node : (tree : Tree) → IsPlainBelow tree → AllByRecursion IsReadableRow (rows tree)) where
-    -- names of a path, each after the separator
+    -- the names of a path, each after the separator
     names_readable : (names : List (List ℕ)) → AllByRecursion IsPlainName names
         → AllByRecursion IsKeyByte (flat_map (λ name. (separator ∷ []) ++ name) names)
     names_readable [] h = tt
@@ -113,7 +113,7 @@ map-same f g same [] = refl
 map-same f g same (item ∷ items) =
     ap₂ (λ first rest. first ∷ rest) (same item) (map-same f g same items)
 
--- tables as they are read are those of the rows as they are read
+-- the tables as they are read are the tables of the rows as they are read
 as_read_tables : {Item Row : Type 0} (separator : List ℕ) (rows : Tree → List Item)
     (read : Tree → List Row) (as_read : Item → Row) →
     ((tree : Tree) → map as_read (rows tree) ≡ read tree) →
@@ -130,7 +130,7 @@ as_read_tables separator rows read as_read same tree =
     (λ visit. ap (λ rows_read. record { key = key visit; rows = rows_read }) (same visit.tree))
     (table_visits longer_path [] tree)
 
--- a plain tree's tables are read, where all tables that can be read are
+-- the tables of a plain tree are read, if all readable tables are read
 pub reads_tables : {Item Row : Type 0} (separator : ℕ)
     (is_foreign : name_byte separator ≡ foreign) (rows : Tree → List Item)
     (read : Tree → List Row) (as_read : Item → Row)
@@ -147,7 +147,7 @@ reads_tables separator is_foreign rows read as_read same tables_of tree h reads 
   keys = keys_differ separator is_foreign read tree h;
 }
 
--- the same, where the rows are the offers at each node
+-- the same for the offers at each node as rows
 module _ {Row : Type 0} (as_read : Offer → Row) (IsKeyByte : ℕ → Type 0) (IsRow : Offer → Type 0)
     (of_byte : (byte : ℕ) → name_byte byte ≢ foreign → IsKeyByte byte) (of_separator : IsKeyByte 59)
     (of_offer : (offer : Offer) → IsPlainOffer offer → IsRow offer) where

@@ -1,4 +1,4 @@
--- Rows, tables and scripts, worked by the definitions, byte by byte.
+-- Examples of rows, tables and scripts, byte by byte.
 use Rattle.std.proofs.Common.{◌≡◌, List, [], ◌∷◌, Some, None, codes, map, flat_map, refl}
 use Rattle.std.proofs.Common.{encode_utf8_all}
 use Rattle.std.specs.Char.{encode_utf8}
@@ -31,7 +31,7 @@ texts :
 unfolding kind_text row_begin list_begin kind_begin text_begin row_end words_text details_text row_text powershell_frame table_text powershell_named named_text head_text script_text
 texts = (refl, refl, refl)
 
--- two tables as a program's help gives them
+-- two tables as a program's help texts give them
 abbrev given : List (Table Row)
 given =
     record {
@@ -44,7 +44,7 @@ given =
     ∷ record { key = codes "app;run"; rows = record { word = codes "break"; list = codes "break"; kind = parameter_value; text = codes "'}" } ∷ [] }
     ∷ []
 
--- the same, as they are read
+-- the same tables as they are read
 abbrev read_back : List (Table Row)
 read_back =
     record {
@@ -57,14 +57,14 @@ read_back =
     ∷ record { key = codes "app;run"; rows = record { word = codes "break"; list = codes "break"; kind = parameter_value; text = codes "'}" } ∷ [] }
     ∷ []
 
--- an argument with a capital short, whose help is empty, and a visible short alias
+-- an argument with a capital short, an empty help text and a visible short alias
 abbrev switch : Arg
 switch = record (new_arg (codes "switch")) { short = Some 83; visible_short_aliases = 120 ∷ []; help = Some [] }
 
 switch_rows :
-    -- its rows: a space is after the capital, and the short describes both
+    -- the rows of that argument: a space follows the capital, and the short describes both names
     (flat_map row_text (map offer_row (argument_offers switch)) ≡ codes "\n            [CompletionResult]::new('-S', '-S ', [CompletionResultType]::ParameterName, 'S')\n            [CompletionResult]::new('-x', '-x', [CompletionResultType]::ParameterName, 'S')")
-    -- a long is described by its help, and an alias by the same
+    -- the help text describes a long, and also its alias
     × (map offer_row (argument_offers (record (new_arg (codes "level")) { long = Some (codes "level"); visible_aliases = codes "depth" ∷ []; help = Some (codes "How deep") }))
     ≡ record { word = codes "--level"; list = codes "--level"; kind = parameter_name; text = codes "How deep" }
     ∷ record { word = codes "--depth"; list = codes "--depth"; kind = parameter_name; text = codes "How deep" }

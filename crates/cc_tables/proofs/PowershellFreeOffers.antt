@@ -1,5 +1,5 @@
--- What is offered at a plain node whose quotes are escaped holds none of PowerShell's further
--- quotes.
+-- The offers at a plain node hold none of PowerShell's further quotes, if the quotes of the tree
+-- are escaped.
 use Rattle.std.proofs.Common.{◌≡◌, ◌≢◌, refl, sym, subst, ℕ, ◌++◌, Bool, true, false, IsTrue, List, [], ◌∷◌, map, flat_map, encode_utf8, Option, Some, None, is_none, unwrap_or, arith}
 use Rattle.std.specs.Char.{is_ascii_alphanumeric}
 use Rattle.std.specs.List.{AllByRecursion, list_all}
@@ -29,11 +29,11 @@ use Rattle.cc_tables.proofs.PlainTables.{of_plain_name}
 use Rattle.cc_command.proofs.EscapedBuilt.{escaped_more, escaped_node}
 use Rattle.cc_tables.proofs.PowershellFreeTexts.{IsAscii, IsFree, ascii_part}
 
--- what describes an offer is free
+-- the description of an offer is free of these quotes
 abbrev IsFreeText : Offer → Type 0
 IsFreeText offer = IsFree (shown_text offer.description offer.fallback)
 
--- so it is, and the word is ASCII
+-- the description is free of these quotes, and the word is ASCII
 pub record IsFreeOffer (offer : Offer) : Type 0 where
   pub word : AllByRecursion IsAscii (word offer)
   pub text : IsFree (shown_text offer.description offer.fallback)

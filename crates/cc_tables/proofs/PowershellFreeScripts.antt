@@ -1,5 +1,5 @@
--- The PowerShell script of a plain tree whose quotes are escaped holds none of PowerShell's further
--- quotes, so it reads back by a reader that takes them too.
+-- The PowerShell script of a plain tree holds none of PowerShell's further quotes, if the quotes of
+-- the tree are escaped. So it also reads back for a reader that takes them as quotes.
 use Rattle.std.proofs.Common.{◌≡◌, ◌∙◌, refl, subst, ap, inl, inr, ℕ, ◌++◌, Bool, true, false, cond, IsTrue, List, [], ◌∷◌, codes, flat_map, Some}
 use Rattle.std.specs.Char.{is_ascii_uppercase}
 use Rattle.std.specs.List.{AllByRecursion}
@@ -186,6 +186,6 @@ escaped_reads tree h k =
       keys = plain.keys;
     }
 
--- what is said of the script of a plain tree
+-- the specification holds for the script of a plain tree
 pub powershell_plain_reads : (tree : Tree) → IsTrue (is_plain_tree tree) → PowershellReads tree
 powershell_plain_reads tree h = record { reads = tables_read tree h; all_quotes = λ k. escaped_reads tree h k }

@@ -12,7 +12,7 @@ use Rattle.cc_tables.specs.PowershellReader.{all_signs, sign_with}
 abbrev pub IsFree : List ℕ → Type 0
 IsFree text = unescaped_quote text ≡ None
 
--- the first byte of a text is none by which a quote goes on
+-- the first byte of a text does not continue a quote
 abbrev pub begins_apart : List ℕ → Bool
 begins_apart [] = true
 begins_apart (byte ∷ _) = nat_lt byte 128
@@ -32,7 +32,7 @@ first_none (Some quote) b h = cc
 both_none : (a b : Option ℕ) → a ≡ None → b ≡ None → first_of a b ≡ None
 both_none a b h k = ap₂ first_of h k
 
--- the signs of a free text are those of the reader that takes two quotes
+-- the signs of a free text are the same for the reader that knows two quotes
 pub signs_same : (text : List ℕ) → IsFree text → all_signs text ≡ powershell_signs text
 unfolding powershell_signs
 signs_same [] h = refl
@@ -60,7 +60,7 @@ ascii_no_third byte h =
     let c : (byte == 155) ≡ false = grind (arith, nat_tests) in
     rw (a, b, c) refl
 
--- an ASCII byte begins none
+-- no quote begins at an ASCII byte
 ascii_at : (byte : ℕ) (rest : List ℕ) → IsAscii byte → quote_at byte rest ≡ None
 ascii_at byte rest h = rw (ascii_no_first byte h) refl
 
@@ -84,7 +84,7 @@ free_append (byte ∷ a) b h k =
     both_none (quote_at byte (a ++ b)) (unescaped_quote (a ++ b))
     (at_append byte a b parts.0 k.apart) (free_append a b parts.1 k)
 
--- any free text may follow ASCII
+-- a free text may follow an ASCII text
 pub ascii_free : (a b : List ℕ) → AllByRecursion IsAscii a → IsFree b → IsFree (a ++ b)
 ascii_free [] b h k = k
 ascii_free (byte ∷ a) b h k =
@@ -101,7 +101,7 @@ ascii_apart (byte ∷ text) h = h.0
 pub ascii_part : (text : List ℕ) → AllByRecursion IsAscii text → IsPart text
 ascii_part text h = record { free = ascii_alone text h; apart = ascii_apart text h }
 
--- a text of which each byte passes the test
+-- each byte of a text passes the test
 pub ascii_bytes : (text : List ℕ) → IsTrue (list_all (λ byte. nat_lt byte 128) text) → AllByRecursion IsAscii text
 ascii_bytes [] h = tt
 ascii_bytes (byte ∷ text) h =
@@ -121,7 +121,7 @@ part_flat_map f (item ∷ items) h = part_append (f item) (flat_map f items) h.0
 
 -- ---- between quotes
 
--- what stands for a byte, by the tests of the escape
+-- the text written for a byte, by the tests of the escape
 abbrev escaped_by : Bool → Bool → Bool → ℕ → List ℕ
 escaped_by is_quote is_feed is_right byte =
     cond is_quote (single_quote ∷ single_quote ∷ []) (cond is_feed (32 ∷ []) (cond is_right (single_quote ∷ byte ∷ []) (byte ∷ [])))
@@ -172,7 +172,7 @@ escaped_before false true c byte tail h k = k
 escaped_before false false true byte tail h k = both_none (quote_at byte tail) (unescaped_quote tail) h k
 escaped_before false false false byte tail h k = both_none (quote_at byte tail) (unescaped_quote tail) h k
 
--- what stands for a free text between two quotes is free
+-- a free text stays free when it is escaped
 pub escaped_free : (text : List ℕ) → IsFree text → IsFree (powershell_escaped text)
 escaped_free [] h = refl
 escaped_free (byte ∷ rest) h =

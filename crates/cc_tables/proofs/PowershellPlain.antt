@@ -1,4 +1,4 @@
--- The PowerShell script of a plain tree reads to the tree's tables.
+-- The PowerShell script of a plain tree reads back to the tree's tables.
 use Rattle.std.proofs.Common.{◌≢◌, not, ℕ, Bool, true, false, cond, IsTrue, List, [], ◌∷◌, codes, refl, arith}
 use Rattle.std.specs.Char.{is_ascii_uppercase}
 use Rattle.std.proofs.lemmas.Bool.Decides.{nat_tests}
@@ -24,17 +24,17 @@ use Rattle.cc_tables.proofs.PowershellReadsBack.{IsPowershellRow, powershell_rea
 use Rattle.cc_tables.proofs.PlainOffers.{IsPlainOffer}
 use Rattle.cc_tables.proofs.PlainTables.{of_plain_name, reads_offers}
 
--- a byte that may occur in a plain name begins no quote
+-- a byte that may occur in a plain name does not begin a quote
 unquoted_byte : (byte : ℕ) → name_byte byte ≢ foreign → IsTrue (not (is_quote_first byte))
 unfolding is_quote_first
 unquoted_byte byte h = let k = letter_or_joiner byte h in grind (arith, nat_tests)
 
--- nor does a `;`
+-- a `;` does not begin a quote
 unquoted_separator : IsTrue (not (is_quote_first 59))
 unfolding is_quote_first
 unquoted_separator = refl
 
--- nor does the space after a capital
+-- the space after a capital does not begin a quote
 space_unquoted : (kind : Kind) (name : List ℕ) → IsUnquoted (capital_space kind name)
 unfolding is_quote_first
 space_unquoted Short (byte ∷ []) = by_test (is_ascii_uppercase byte)
@@ -53,7 +53,7 @@ row_unquoted offer h =
       list = AllByRecursion-append (λ byte. IsTrue (not (is_quote_first byte))) (word offer) (capital_space offer.kind offer.name) unquoted (space_unquoted offer.kind offer.name);
     }
 
--- the script of a plain tree reads to its tables
+-- the script of a plain tree reads back to its tables
 pub tables_read : (tree : Tree) → IsTrue (is_plain_tree tree) → ReadsTables (powershell_tables (powershell_script tree)) (tree_tables offer_read tree) tree
 unfolding powershell_frame
 tables_read tree h =

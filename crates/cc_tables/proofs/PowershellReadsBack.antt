@@ -1,4 +1,4 @@
--- A PowerShell script reads back to the tables that it was written from.
+-- A PowerShell script reads back to the tables from which it was written.
 use Rattle.std.proofs.Common.{◌≡◌, not, IsTrue, ℕ, List, [], ◌∷◌, ◌++◌, map, Option, Some}
 use Rattle.std.proofs.Common.{codes, refl, ap, ◌∙◌, append_assoc}
 use Rattle.std.specs.List.{AllByRecursion}
@@ -30,16 +30,16 @@ use Rattle.cc_tables.specs.declared.offers.Offer.{Offer}
 use Rattle.cc_tables.proofs.PlainTables.{IsReadable, table_read}
 use Rattle.cc_tables.proofs.ScriptReadsBack.{named_head, script_reads}
 
--- a row as it is read: with a space for each line feed of its text
+-- a row as it is read, with a space for each line feed of its text
 abbrev spaced_row : Row → Row
 spaced_row row = record row { text = line_feeds_as_spaces row.text }
 
--- no quote is in the word and in the list text; the other text may be any
+-- the word and the list text have no quotes; the other text may be any text
 pub record IsPowershellRow (row : Row) : Type 0 where
   pub word : IsUnquoted row.word
   pub list : IsUnquoted row.list
 
--- what the reader gives from a state on, where the script is cut from a state of quotes on
+-- what the reader reads from a state on, if the script is cut from a quote state on
 abbrev reading : State RowState Row → QuoteState → List ℕ → Option (List (Table Row))
 reading state quote script = read spelling state (cut quote (powershell_signs script))
 
@@ -51,7 +51,7 @@ in_rows tables name rows script = reading (in_table tables (record { key = name;
 abbrev in_row : List (Table Row) → List ℕ → List Row → RowState → State RowState Row
 in_row tables name rows state = in_table tables (record { key = name; rows = rows }) state
 
--- a row gives its word, and the list text is still open
+-- a row is read up to its word, and the list text is still open
 words_read : (tables : List (Table Row)) (name : List ℕ) (rows : List Row) (row : Row) (rest : List ℕ) → IsPowershellRow row
     → in_rows tables name rows (words_text row ++ rest) ≡ reading (in_row tables name rows (after_word row.word)) (in_quotes [] (single_quote ∷ []) row.list) rest
 unfolding words_text row_begin list_begin sign sign_before powershell_signs cut if_quoted part step spelling after_step next read
@@ -60,7 +60,7 @@ words_read tables name rows row rest h =
     ∙ ap (read spelling (in_row tables name rows between_rows)) (quoted_text row.word (list_begin ++ (row.list ++ rest)) (bare (codes "[CompletionResult]::new(") ∷ []) (single_quote ∷ []) [] h.word)
     ∙ ap (read spelling (in_row tables name rows (after_word row.word))) (quoted_text row.list rest [] (single_quote ∷ []) [] h.list)
 
--- it gives its list text and its kind
+-- the row is read up to its kind
 kind_reads : (tables : List (Table Row)) (name : List ℕ) (rows : List Row) (word list : List ℕ) (kind : ResultKind) (rest : List ℕ)
     → reading (in_row tables name rows (after_word word)) (in_quotes [] (single_quote ∷ []) list) (kind_begin ++ (kind_text kind ++ (text_begin ++ rest)))
     ≡ reading (in_row tables name rows (after_kind word list kind)) (in_quotes [] (single_quote ∷ []) []) rest
@@ -107,12 +107,12 @@ end_reads : (tables : List (Table Row)) (name : List ℕ) (rows : List Row) (res
 unfolding powershell_frame sign sign_before powershell_signs cut part step spelling after_step next read
 end_reads tables name rows rest (line tail) = refl
 
--- after the last table is what ends them
+-- the list of tables ends after the last table
 tail_reads : (tables : List (Table Row)) → in_tables tables powershell_frame.tail ≡ Some tables
 unfolding powershell_frame sign sign_before powershell_signs cut if_quoted part spelling next tables_of read
 tail_reads tables = refl
 
--- up to its tables a script holds the three words once, at the end
+-- before its tables a script holds the three words once, at the end
 head_reads : (bin rest : List ℕ) → IsUnquoted bin → IsLine rest → after_words tables_begin (powershell_tokens (head_text powershell_frame bin ++ rest)) ≡ cut between (powershell_signs rest)
 unfolding powershell_frame powershell_named is_word strip_words after_words sign sign_before powershell_signs cut powershell_tokens tables_begin
 head_reads bin rest h (line tail) =
@@ -121,8 +121,8 @@ head_reads bin rest h (line tail) =
     ∙ ap (after_words tables_begin) (quoted_text bin (powershell_named.between ++ last) [] (single_quote ∷ []) [] h)
     ∙ ap (after_words tables_begin) (quoted_text bin (powershell_named.completions ++ rest) [] (single_quote ∷ []) [] h)
 
--- a script reads back to its tables, with a space for each line feed of a text, where no quote
--- is in a key, in a word and in a list text
+-- a script reads back to its tables, with a space for each line feed of a text, if no key, word or
+-- list text has a quote
 pub powershell_reads_back : (bin : List ℕ) (tables : List (Table Offer)) → IsUnquoted bin
     → AllByRecursion (IsReadable (λ byte. IsTrue (not (is_quote_first byte))) (λ offer. IsPowershellRow (offer_row offer))) tables
     → powershell_tables (script_text powershell_frame offer_text bin tables) ≡ Some (map (table_read offer_read) tables)

@@ -1,4 +1,4 @@
--- A script reads back to the tables that it was written from, where its parts are read.
+-- A script reads back to the tables from which it was written, if its parts are read back.
 use Rattle.std.proofs.Common.{◌≡◌, ℕ, List, [], ◌∷◌, ◌++◌, map, flat_map, Option, Some, ap, ◌∙◌}
 use Rattle.std.proofs.Common.{append_assoc}
 use Rattle.std.specs.List.{AllByRecursion}
@@ -10,15 +10,16 @@ use Rattle.cc_tables.specs.declared.tables.Named.{Named}
 use Rattle.cc_tables.proofs.PlainTables.{IsReadable, table_read}
 use Rattle.cc_generator.proofs.ReadInTurn.{items_begin, items_read}
 
--- a head that names the program, and what follows it
+-- a head that names the program, and the text after it
 pub named_head : (frame : Frame) (named : Named) (bin rest : List ℕ) → frame.named ≡ Some named
     → head_text frame bin ++ rest ≡ frame.head ++ (bin ++ (named.between ++ (bin ++ (named.completions ++ rest))))
 unfolding head_text named_text
 named_head frame named bin rest e = ap (λ given. frame.head ++ named_text given bin ++ rest) e ∙ simp append_assoc
 
--- How a script of this frame is read, from its tables on: `in_tables` is the reader between two
--- tables, with those before; `in_rows` within a table, with its key and the rows before. A text that
--- follows a part is a rest, as each part with what follows it is.
+-- The reading of a script with the given frame, from its tables on. `in_tables` is the reader
+-- between two tables, with the tables before; `in_rows` is the reader within a table, with its key
+-- and the rows before. `IsRest` holds for a text that may follow a part, and for each part with
+-- such a text after it.
 module _ {Item Row : Type 0} (frame : Frame) (row_text : Item → List ℕ) (as_read : Item → Row)
     (IsKeyByte : ℕ → Type 0) (IsRow : Item → Type 0) (IsRest : List ℕ → Type 0)
     (in_tables : List (Table Row) → List ℕ → Option (List (Table Row)))

@@ -1,4 +1,4 @@
--- The tables of a tree are those of its visits under the keys that are written.
+-- The tables of a tree are the tables of its visits under the keys that are written.
 use Rattle.std.proofs.Common.{◌≡◌, ℕ, List, [], ◌++◌, flat_map, append-nil, ap, ◌∙◌, sym}
 use Rattle.std.proofs.lemmas.List.Folds.{flat_map-map}
 use Rattle.cc_command.specs.Tree.{Tree}
@@ -9,7 +9,7 @@ use Rattle.cc_tables.specs.Script.{head_text, node_text, script_text, table_text
 use Rattle.cc_tables.specs.Tables.{Table, path_tables, table_of}
 use Rattle.cc_tables.specs.declared.tables.Frame.{Frame}
 
--- the text of a tree's tables in a frame is that of the tables of the visits
+-- the text of a tree's tables in a frame is the text of the tables of the visits
 tables_of_visits : {Row : Type 0} (frame : Frame) (row_text : Row → List ℕ)
     (rows : Tree → List Row) (tree : Tree) →
     flat_map (table_text frame row_text) (path_tables frame.separator rows tree)
@@ -31,7 +31,7 @@ tables_of_visits {Row} frame row_text rows tree =
     (joined_path-longer frame.separator bin_name) [] tree
     ∙ ap (λ first. table_visits (joined frame.separator) first tree) (append-nil bin_name))
 
--- the script of a tree, by its visits
+-- the script of a tree, given its visits
 pub script_of_visits : {Row : Type 0} (frame : Frame) (row_text : Row → List ℕ)
     (rows : Tree → List Row) (tree : Tree) (bin : List ℕ) → bin ≡ full_name tree.node →
     head_text frame bin ++ flat_map (λ visit. node_text frame row_text rows visit.key visit.tree)

@@ -1,6 +1,6 @@
--- The tables that an Elvish script spells: after the bare words `completions`, `=` and `[` are
--- groups of `&'key'=`, `{`, rows and `}`, up to `]`. A row is `cand`, a bare word and a quoted
--- text. What follows is not read.
+-- The tables in an Elvish script. They come after the bare words `completions`, `=` and `[`, and
+-- end before `]`. A table is `&'key'=`, `{`, rows and `}`. A row is `cand`, a bare word and a
+-- quoted text. The rest of the script is not read.
 use Rattle.std.specs.Prelude.{ℕ, List, [], ◌∷◌, ◌++◌, ◌&&◌, if◌then◌else◌, Option, None}
 use Rattle.std.specs.Prelude.{bytes_eq, codes}
 use Rattle.cc_command.specs.Tree.{Tree}
@@ -17,7 +17,7 @@ use Rattle.cc_tables.specs.TableReader.Step.{goes_on, ends_row, ends_table, fail
 use Rattle.cc_tables.specs.Tables.{Table, tree_tables}
 use Rattle.cc_tables.specs.declared.offers.Offer.{Offer}
 
--- one piece is a word or a text, and a key is between `&` and `=`
+-- the meaning of a token: one piece is a word or a text, and a key is between `&` and `=`
 unfoldable pub part : Token → Part (List ℕ)
 part (bare run ∷ []) = word run
 part (quoted _ text ∷ []) = argument text
@@ -25,13 +25,13 @@ part (bare before ∷ quoted _ text ∷ bare after ∷ []) =
     if bytes_eq before (codes "&") && bytes_eq after (codes "=") then key text else unknown
 part _ = unknown
 
--- where the reader is in a table: between two rows, after `cand`, or after the word of a row
+-- the state of the reader in a table: between two rows, after `cand`, or after the word of a row
 pub data RowState : Type 0 where
   between_rows : RowState
   after_cand : RowState
   after_word : List ℕ → RowState
 
--- what a part does there
+-- the effect of a part at a state
 unfoldable pub step : RowState → Part (List ℕ) → Step RowState Row
 step between_rows (word run) =
     if bytes_eq run (codes "cand") then goes_on after_cand
@@ -47,21 +47,21 @@ spelling = record { part = part; between_rows = between_rows; step = step; last_
 unfoldable pub tables_begin : List (List ℕ)
 tables_begin = codes "completions" ∷ codes "=" ∷ codes "[" ∷ []
 
--- the tables of a script; `None` where it spells none
+-- the tables of a script; `None` if it is malformed
 unfoldable pub elvish_tables : List ℕ → Option (List (Table Row))
 elvish_tables script =
     read spelling (between_tables []) (after_words tables_begin (elvish_tokens script))
 
--- the row of an offer as it is read: with a space for each line feed of its text
+-- the row of an offer as it is read, with a space for each line feed of its text
 abbrev pub offer_read : Offer → Row
 offer_read offer = record (offer_row offer) { text = line_feeds_as_spaces (offer_row offer).text }
 
--- the script of a tree reads to the tree's tables
+-- the script of a tree reads back to the tree's tables
 abbrev pub ElvishReads : Tree → Type 0
 ElvishReads tree =
     ReadsTables (elvish_tables (elvish_script tree)) (tree_tables offer_read tree) tree
 
--- what is said of the scripts
+-- the specification of the scripts
 abbrev pub elvish_spec : ShellSpec
 elvish_spec = record {
   script = λ tree. elvish_script tree;

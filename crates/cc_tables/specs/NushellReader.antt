@@ -1,6 +1,6 @@
--- The blocks that a Nushell script spells, read line by line. A line `  export extern "key" [`
--- opens a block, and the lines up to one that is `  ]` are its records. Other lines between blocks
--- are not read.
+-- The blocks in a Nushell script, which is read line by line. A line ` export extern "key" [` opens
+-- a block. The lines after it, up to a line ` ]`, are the records of the block. Other lines between
+-- blocks are not read.
 use Rattle.std.specs.Prelude.{ℕ, List, [], ◌∷◌, ◌++◌, ◌==◌, ◌||◌, Bool, Option, Some}
 use Rattle.std.specs.Prelude.{None, if◌then◌else◌, bytes_eq, codes, is_some, map, option_map}
 use Rattle.cc_command.specs.Tree.{Tree}
@@ -18,7 +18,7 @@ use Rattle.cc_tables.specs.Tables.{Table, path_tables}
 abbrev pub ends_name : ℕ → Bool
 ends_name byte = byte == colon || byte == space
 
--- the name that a text begins with, and what follows it
+-- the name with which a text begins, and the text after it
 unfoldable pub name_of : List ℕ → List ℕ
 name_of [] = []
 name_of (byte ∷ bytes) = if ends_name byte then [] else byte ∷ name_of bytes
@@ -27,8 +27,8 @@ unfoldable pub after_name : List ℕ → List ℕ
 after_name [] = []
 after_name (byte ∷ bytes) = if ends_name byte then byte ∷ bytes else after_name bytes
 
--- the record of a line, without the spaces before it: its name; whether `: string` follows; and
--- what is after the first ` # `
+-- the record of a line without the spaces at its start: its name, whether `: string` follows, and
+-- the text after the first ` # `
 unfoldable pub record_of : List ℕ → Line
 record_of text = record {
   name = name_of text;
@@ -36,14 +36,15 @@ record_of text = record {
   help = after_mark (codes " # ") text;
 }
 
--- what a line is: it opens the block of a key, closes a block, is a record, or is none of these
+-- the meaning of a line: it opens the block of a key, closes a block, is a record, or is none of
+-- these
 pub data Sign : Type 0 where
   opens : List ℕ → Sign
   closes : Sign
   holds : Line → Sign
   other : Sign
 
--- a line that is not the end of a block is a record, where it begins with four spaces
+-- a line that does not end a block is a record if it begins with four spaces
 unfoldable pub in_block_sign : List ℕ → Sign
 in_block_sign text = elim (after (codes "    ") text) [
   | Some content ↦ holds (record_of content)
@@ -61,8 +62,8 @@ sign text = elim (after (codes "  export extern \"") text) [
 
 -- ---- a script
 
--- how far the reader is, with the blocks that it has read, and in a block with that one as far as
--- it is read
+-- the state of the reader, with the blocks that it has read; in a block, with the part of it that
+-- has been read
 pub data State : Type 0 where
   between : List (Table Line) → State
   in_block : List (Table Line) → Table Line → State
@@ -77,7 +78,7 @@ next (in_block blocks block) (holds line) =
 next (in_block blocks block) closes = between (blocks ++ block ∷ [])
 next _ _ = malformed
 
--- the blocks, where each is closed
+-- the blocks, if each is closed
 unfoldable pub closed : State → Option (List (Table Line))
 closed (between blocks) = Some blocks
 closed _ = None
@@ -87,21 +88,21 @@ unfoldable pub read : State → List (List ℕ) → Option (List (Table Line))
 read state [] = closed state
 read state (line ∷ lines) = read (next state (sign line)) lines
 
--- the blocks of a script; `None` where it spells none
+-- the blocks of a script; `None` if it is malformed
 unfoldable pub nushell_blocks : List ℕ → Option (List (Table Line))
 nushell_blocks script = read (between []) (pieces_from line_feed [] script)
 
--- a line as it is read: with a space for each line feed of its help
+-- a line as it is read, with a space for each line feed of its help text
 abbrev pub line_read : Line → Line
 line_read line = record line { help = option_map line_feeds_as_spaces line.help }
 
--- the script of a tree reads to the tree's blocks
+-- the script of a tree reads back to the tree's blocks
 abbrev pub NushellReads : Tree → Type 0
 NushellReads tree =
     ReadsTables (nushell_blocks (nushell_script tree))
     (path_tables (codes " ") (λ tree. map line_read (node_lines tree)) tree) tree
 
--- what is said of the scripts
+-- the specification of the scripts
 abbrev pub nushell_spec : ShellSpec
 nushell_spec = record {
   script = λ tree. nushell_script tree;

@@ -10,18 +10,18 @@ use Rattle.cc_tables.specs.Script.{tree_script}
 use Rattle.cc_tables.specs.declared.offers.Offer.{Offer}
 use Rattle.cc_tables.specs.declared.tables.Frame.{Frame}
 
--- a name of an option or a flag as it is typed, whether it takes a value, and its help
+-- a name of an option or a flag as a user types it, whether it takes a value, and its help text
 pub record Line : Type 0 where
   pub name : List ℕ
   pub takes_value : Bool
   pub help : Option (List ℕ)
 
--- the line of an offer, of an option or of a flag
+-- the line of an offer, for an option or for a flag
 abbrev pub offer_line : Bool → Offer → Line
 offer_line takes_value offer =
     record { name = word offer; takes_value = takes_value; help = offer.description }
 
--- the lines of arguments: one for each name that is shown
+-- the lines of arguments, one for each shown name
 abbrev pub argument_lines : Bool → List Arg → List Line
 argument_lines takes_value arguments =
     map (offer_line takes_value) (flat_map argument_offers arguments)
@@ -30,7 +30,7 @@ argument_lines takes_value arguments =
 unfoldable pub node_lines : Tree → List Line
 node_lines tree = argument_lines true (options tree.node) ++ argument_lines false (flags tree.node)
 
--- the frame, and what is around a key and the lines of a block
+-- the frame, and the texts around a key and around the lines of a block
 unfoldable pub nushell_frame : Frame
 nushell_frame = record {
   head = codes "module completions {\n\n";
@@ -42,23 +42,23 @@ nushell_frame = record {
   tail = codes "}\n\nexport use completions *\n";
 }
 
--- before the name of a line
+-- the text before the name of a line
 unfoldable pub line_begin : List ℕ
 line_begin = codes "    "
 
--- after the name of an option
+-- the text after the name of an option
 unfoldable pub value_text : List ℕ
 value_text = codes ": string"
 
--- before the help
+-- the text before the help text
 unfoldable pub help_begin : List ℕ
 help_begin = codes " # "
 
--- what is after a name: an option takes a value
+-- the text after a name: only an option takes a value
 unfoldable pub type_text : Bool → List ℕ
 type_text takes_value = if takes_value then value_text else []
 
--- the help, where there is one
+-- the help text, if there is one
 unfoldable pub help_text : Option (List ℕ) → List ℕ
 help_text (Some help) = help_begin ++ line_feeds_as_spaces help
 help_text None = []
@@ -67,11 +67,11 @@ help_text None = []
 unfoldable pub content : Line → List ℕ
 content line = line_begin ++ line.name ++ type_text line.takes_value ++ help_text line.help
 
--- a line
+-- the text of a line
 unfoldable pub line_text : Line → List ℕ
 line_text line = content line ++ codes "\n"
 
--- the line of an offer
+-- the text of an offer's line
 unfoldable pub offer_text : Bool → Offer → List ℕ
 offer_text takes_value offer = line_text (offer_line takes_value offer)
 

@@ -1,4 +1,4 @@
--- What a table offers at a node.
+-- The names that a table offers at a node.
 use Rattle.std.specs.Prelude.{ℕ, List, [], ◌++◌, map, codes, encode_utf8, unwrap_or}
 use Rattle.std.specs.List.{flat_map}
 use Rattle.cc_arg.specs.declared.parts.ArgParts.{ArgParts as Arg}
@@ -20,11 +20,11 @@ dashes Short = codes "-"
 dashes Long = codes "--"
 dashes Subcommand = []
 
--- a name as it is typed
+-- a name as a user types it
 abbrev pub word : Offer → List ℕ
 word offer = dashes offer.kind ++ offer.name
 
--- the offer of a short; the argument's own short stands for a missing help
+-- the offer of a short, with the argument's own short as the fallback
 abbrev pub short_offer : Arg → ℕ → Offer
 short_offer argument character = record {
   kind = Short;
@@ -33,7 +33,7 @@ short_offer argument character = record {
   fallback = encode_utf8 (unwrap_or argument.short character);
 }
 
--- the offer of a long; the argument's own long stands for a missing help
+-- the offer of a long, with the argument's own long as the fallback
 abbrev pub long_offer : Arg → List ℕ → Offer
 long_offer argument name =
     record {
@@ -52,7 +52,7 @@ argument_offer argument (ShownLong name) = long_offer argument name
 abbrev pub argument_offers : Arg → List Offer
 argument_offers argument = map (argument_offer argument) (shown_names argument)
 
--- the offer of a name of a child; the name stands for a missing about
+-- the offer of a name of a child, with the name as the fallback
 abbrev pub child_offer : Node → List ℕ → Offer
 child_offer child name =
     record { kind = Subcommand; name = name; description = child.about; fallback = name }
@@ -61,7 +61,7 @@ child_offer child name =
 abbrev pub child_offers : Node → List Offer
 child_offers child = map (child_offer child) (visible_names child)
 
--- the offers of some siblings
+-- the offers of siblings
 abbrev pub children_offers : Forest → List Offer
 children_offers none = []
 children_offers (more child below rest) = child_offers child ++ children_offers rest

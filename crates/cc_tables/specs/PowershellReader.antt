@@ -1,7 +1,7 @@
--- The tables that a PowerShell script spells: after the bare words `@(switch`, `($command)` and `{`
--- are groups of a quoted key, `{`, rows, `break` and `}`, up to the bare word `})`. A row is a
--- call `[CompletionResult]::new(` with four arguments and `)`. Every quote is a `'`. What follows
--- is not read.
+-- The tables in a PowerShell script. They come after the bare words `@(switch`, `($command)` and
+-- `{`, and end before `})`. A table is a quoted key, `{`, rows, `break` and `}`. A row is a call
+-- `[CompletionResult]::new(` with four arguments and `)`. Every quote is a `'`. The rest of the
+-- script is not read.
 use Rattle.std.specs.Prelude.{ℕ, Bool, IsTrue, List, [], ◌∷◌, ◌++◌, ◌&&◌, if◌then◌else◌, drop}
 use Rattle.std.specs.Prelude.{encode_utf8, Option, Some, None}
 use Rattle.std.specs.Prelude.{option_map, unwrap_or, bytes_eq, codes}
@@ -24,18 +24,18 @@ use Rattle.cc_tables.specs.TableReader.Step.{goes_on, ends_row, ends_table, fail
 use Rattle.cc_tables.specs.Tables.{Table, tree_tables}
 use Rattle.cc_tables.specs.declared.offers.Offer.{Offer}
 
--- a quoted argument of the call: the first, one before others, or the last
+-- a quoted argument of the call: the first one, one before others, or the last one
 pub data Argument : Type 0 where
   first : List ℕ → Argument
   further : List ℕ → Argument
   last : List ℕ → Argument
 
--- a part, where its quotes are `'`
+-- a part, if its quotes are `'`
 unfoldable pub if_quoted : List ℕ → Part Argument → Part Argument
 if_quoted opening part = if bytes_eq opening (codes "'") then part else unknown
 
--- a key is alone; the first argument is between the name of the call and `,`, a further one
--- before `,`, and the last one before `)`
+-- the meaning of a token: a key is alone; the first argument is between the name of the call and
+-- `,`, a further one before `,`, and the last one before `)`
 unfoldable pub part : Token → Part Argument
 part (bare run ∷ []) = word run
 part (quoted opening text ∷ []) = if_quoted opening (key text)
@@ -55,8 +55,8 @@ kind_of run =
     else (if bytes_eq run (codes "[CompletionResultType]::ParameterValue,")
     then Some parameter_value else None)
 
--- where the reader is in a table: between two rows, after the word, the list text or the kind of a
--- row, or after `break`
+-- the state of the reader in a table: between two rows, after the word, the list text or the kind
+-- of a row, or after `break`
 pub data RowState : Type 0 where
   between_rows : RowState
   after_word : List ℕ → RowState
@@ -64,7 +64,7 @@ pub data RowState : Type 0 where
   after_kind : List ℕ → List ℕ → ResultKind → RowState
   after_break : RowState
 
--- what a part does there
+-- the effect of a part at a state
 unfoldable pub step : RowState → Part Argument → Step RowState Row
 step between_rows (argument (first run)) = goes_on (after_word run)
 step between_rows (word run) = if bytes_eq run (codes "break") then goes_on after_break else fails
@@ -83,22 +83,22 @@ spelling = record { part = part; between_rows = between_rows; step = step; last_
 unfoldable pub tables_begin : List (List ℕ)
 tables_begin = codes "@(switch" ∷ codes "($command)" ∷ codes "{" ∷ []
 
--- the tables of a script; `None` where it spells none
+-- the tables of a script; `None` if it is malformed
 unfoldable pub powershell_tables : List ℕ → Option (List (Table Row))
 powershell_tables script =
     read spelling (between_tables []) (after_words tables_begin (powershell_tokens script))
 
--- the row of an offer as it is read: with a space for each line feed of its text
+-- the row of an offer as it is read, with a space for each line feed of its text
 abbrev pub offer_read : Offer → Row
 offer_read offer = record (offer_row offer) { text = line_feeds_as_spaces (offer_row offer).text }
 
 -- ---- with all quotes of PowerShell
 
--- PowerShell takes for quotes, besides `'` and U+2019, also U+2018, U+201A and U+201B. Each closes
--- what any other opened.
+-- In addition to `'` and U+2019, PowerShell takes U+2018, U+201A and U+201B as quotes. Each of them
+-- closes what any other opened.
 
--- the signs of a byte and of what follows it: where the byte begins one of the three further
--- quotes, the next two bytes belong to it
+-- the signs of a byte and of the text after it; if the byte begins one of the three further quotes,
+-- the next two bytes belong to it
 abbrev pub sign_with : Option ℕ → Bool → ℕ → List Sign → List Sign
 sign_with (Some character) right byte signs = quote (encode_utf8 character) ∷ drop 2 signs
 sign_with None right byte signs = sign_before right byte signs
@@ -113,24 +113,24 @@ all_signs (byte ∷ rest) =
 abbrev pub all_tokens : List ℕ → List Token
 all_tokens script = cut between (all_signs script)
 
--- the tables of a script; `None` where it spells none
+-- the tables of a script; `None` if it is malformed
 abbrev pub all_tables : List ℕ → Option (List (Table Row))
 all_tables script =
     read spelling (between_tables []) (after_words tables_begin (all_tokens script))
 
--- the script of a tree reads to the tree's tables
+-- the script of a tree reads back to the tree's tables, for a reader that knows all quotes
 unfoldable pub ReadsByAllQuotes : Tree → Type 0
 ReadsByAllQuotes tree =
     ReadsTables (all_tables (powershell_script tree)) (tree_tables offer_read tree) tree
 
--- The script of a tree reads to the tree's tables; where no text has one of the three further
--- quotes, it does so too by a reader that takes them for quotes.
+-- The script of a tree reads back to the tree's tables. If no text has one of the three further
+-- quotes, it also reads back for a reader that takes them as quotes.
 pub record PowershellReads (tree : Tree) : Type 0 where
   pub reads : ReadsTables (powershell_tables (powershell_script tree))
       (tree_tables offer_read tree) tree
   pub all_quotes : IsTrue (is_escaped_tree tree) → ReadsByAllQuotes tree
 
--- what is said of the scripts
+-- the specification of the scripts
 abbrev pub powershell_spec : ShellSpec
 powershell_spec = record {
   script = λ tree. powershell_script tree;

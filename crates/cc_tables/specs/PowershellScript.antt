@@ -11,29 +11,30 @@ use Rattle.cc_tables.specs.declared.offers.Offer.{Offer}
 use Rattle.cc_tables.specs.declared.tables.Frame.{Frame}
 use Rattle.cc_tables.specs.declared.tables.Named.{Named}
 
--- the kind of a result: of an option or a flag, or of a subcommand
+-- the kind of a result: an option or a flag, or a subcommand
 pub data ResultKind : Type 0 where
   parameter_name : ResultKind
   parameter_value : ResultKind
 
--- a word that is offered, the text by which lists show it, its kind, and what describes it
+-- a word that is offered, the text by which lists show it, its kind, and its description
 pub record Row : Type 0 where
   pub word : List ℕ
   pub list : List ℕ
   pub kind : ResultKind
   pub text : List ℕ
 
--- what lists show after a name of this kind: a space after a short that is an ASCII capital
+-- the text that lists show after a name of the given kind: a space after a short that is an ASCII
+-- capital
 abbrev pub capital_space : Kind → List ℕ → List ℕ
 capital_space Short (byte ∷ []) = if is_ascii_uppercase byte then codes " " else []
 capital_space _ _ = []
 
--- the kind of the result that a name of this kind is
+-- the kind of the result for a name of the given kind
 abbrev pub result_kind : Kind → ResultKind
 result_kind Subcommand = parameter_value
 result_kind _ = parameter_name
 
--- the help or the about where there is one and it is not empty, else the text that stands for it
+-- the help text or the about text, or the fallback if it is missing or empty
 abbrev pub shown_text : Option (List ℕ) → List ℕ → List ℕ
 shown_text (Some (byte ∷ bytes)) fallback = byte ∷ bytes
 shown_text _ fallback = fallback
@@ -47,14 +48,14 @@ offer_row offer = record {
   text = shown_text offer.description offer.fallback;
 }
 
--- around the two occurrences of the program's name
+-- the texts around the two occurrences of the program's name
 unfoldable pub powershell_named : Named
 powershell_named = record {
   between = codes "' -ScriptBlock {\n    param($wordToComplete, $commandAst, $cursorPosition)\n\n    $commandElements = $commandAst.CommandElements\n    $command = @(\n        '";
   completions = codes "'\n        for ($i = 1; $i -lt $commandElements.Count; $i++) {\n            $element = $commandElements[$i]\n            if ($element -isnot [StringConstantExpressionAst] -or\n                $element.StringConstantType -ne [StringConstantType]::BareWord -or\n                $element.Value.StartsWith('-') -or\n                $element.Value -eq $wordToComplete) {\n                break\n        }\n        $element.Value\n    }) -join ';'\n\n    $completions = @(switch ($command) {";
 }
 
--- the frame, and what is around a key and the rows of a table
+-- the frame, and the texts around a key and around the rows of a table
 unfoldable pub powershell_frame : Frame
 powershell_frame = record {
   head = codes "\nusing namespace System.Management.Automation\nusing namespace System.Management.Automation.Language\n\nRegister-ArgumentCompleter -Native -CommandName '";
@@ -71,23 +72,23 @@ unfoldable pub kind_text : ResultKind → List ℕ
 kind_text parameter_name = codes "ParameterName"
 kind_text parameter_value = codes "ParameterValue"
 
--- before the word of a row
+-- the text before the word of a row
 unfoldable pub row_begin : List ℕ
 row_begin = codes "\n            [CompletionResult]::new('"
 
--- between the word and the list text
+-- the text between the word and the list text
 unfoldable pub list_begin : List ℕ
 list_begin = codes "', '"
 
--- between the list text and the kind
+-- the text between the list text and the kind
 unfoldable pub kind_begin : List ℕ
 kind_begin = codes "', [CompletionResultType]::"
 
--- between the kind and the text
+-- the text between the kind and the description
 unfoldable pub text_begin : List ℕ
 text_begin = codes ", '"
 
--- after the text
+-- the text after the description
 unfoldable pub row_end : List ℕ
 row_end = codes "')"
 
@@ -100,11 +101,11 @@ unfoldable pub details_text : Row → List ℕ
 details_text row =
     kind_begin ++ kind_text row.kind ++ text_begin ++ powershell_escaped row.text ++ row_end
 
--- a row
+-- the text of a row
 unfoldable pub row_text : Row → List ℕ
 row_text row = words_text row ++ details_text row
 
--- the row of an offer
+-- the text of an offer's row
 unfoldable pub offer_text : Offer → List ℕ
 offer_text offer = row_text (offer_row offer)
 

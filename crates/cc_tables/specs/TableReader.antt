@@ -1,5 +1,5 @@
--- The reader of the tables that a script spells. It goes over the script's tokens, and a shell says
--- what a token is to it, how a row is spelled and which word ends the tables.
+-- The reader of the tables in a script. It goes through the script's tokens. The shell determines
+-- what a token means, how a row is spelled, and which word ends the tables.
 use Rattle.std.specs.Prelude.{◌≡◌, ℕ, List, [], ◌∷◌, ◌++◌, if◌then◌else◌, Option, Some, None}
 use Rattle.std.specs.Prelude.{bytes_eq, codes}
 use Rattle.cc_base.specs.Differ.{AllDifferBy}
@@ -9,30 +9,30 @@ use Rattle.cc_visits.specs.Paths.{CoversPaths}
 use Rattle.cc_visits.specs.Visits.{longer_path, table_visits}
 use Rattle.cc_tables.specs.Tables.{Table}
 
--- what a token is: a bare word, the key of a table, or an argument in a row
+-- the meaning of a token: a bare word, the key of a table, or an argument in a row
 pub data Part (Argument : Type 0) : Type 0 where
   word : List ℕ → Part Argument
   key : List ℕ → Part Argument
   argument : Argument → Part Argument
   unknown : Part Argument
 
--- what a token does within a table: the reader goes on at another state, a row is complete, or the
--- table is; a token that does not belong there does none of them
+-- the effect of a token within a table: the reader goes on at another state, a row is complete, the
+-- table is complete, or the token does not belong there
 pub data Step (RowState Row : Type 0) : Type 0 where
   goes_on : RowState → Step RowState Row
   ends_row : Row → Step RowState Row
   ends_table : Step RowState Row
   fails : Step RowState Row
 
--- how a shell spells its tables: what a token is, where the reader is between two rows, what a part
--- does at a state, and the bare word after the last table
+-- how a shell spells its tables: the meaning of a token, the state between two rows, the effect of
+-- a part at a state, and the bare word after the last table
 pub record Spelling (Argument RowState Row : Type 0) : Type 0 where
   pub part : Token → Part Argument
   pub between_rows : RowState
   pub step : RowState → Part Argument → Step RowState Row
   pub last_word : List ℕ
 
--- how far the reader is, with the tables and the rows that it has read
+-- the state of the reader, with the tables and the rows that it has read
 pub data State (RowState Row : Type 0) : Type 0 where
   between_tables : List (Table Row) → State RowState Row
   after_key : List (Table Row) → List ℕ → State RowState Row
@@ -49,7 +49,7 @@ after_step between_rows tables table (ends_row row) =
 after_step between_rows tables table ends_table = between_tables (tables ++ table ∷ [])
 after_step between_rows tables table fails = malformed
 
--- the state after a part; what does not belong there is malformed
+-- the state after a part; a part that does not belong there makes the text malformed
 unfoldable pub next : {Argument RowState Row : Type 0} → Spelling Argument RowState Row
     → State RowState Row → Part Argument → State RowState Row
 next spelling (between_tables tables) (key name) = after_key tables name
@@ -63,7 +63,7 @@ next spelling (in_table tables table state) part =
 next spelling (finished tables) _ = finished tables
 next spelling _ _ = malformed
 
--- the tables, where the list of them is closed
+-- the tables, if their list is closed
 unfoldable pub tables_of : {RowState Row : Type 0} → State RowState Row → Option (List (Table Row))
 tables_of (finished tables) = Some tables
 tables_of _ = None
@@ -75,8 +75,8 @@ read spelling state [] = tables_of state
 read spelling state (token ∷ tokens) =
     read spelling (next spelling state (spelling.part token)) tokens
 
--- What is read are these tables of a tree, one for each visit of it. The visits are exactly its
--- visible paths, each once, and no two tables have the same key.
+-- The reader reads the given tables of a tree, one for each visit. The visits are exactly the
+-- visible paths of the tree, each once. No two tables have the same key.
 pub record ReadsTables {Row : Type 0} (tables_read : Option (List (Table Row)))
     (tables_are : List (Table Row)) (tree : Tree) : Type 0 where
   pub tables : tables_read ≡ Some tables_are

@@ -1,4 +1,4 @@
-//! The Elvish script: a frame, and in it a table for each visible path.
+//! The Elvish script: a frame with a table for each visible path.
 
 ghost use Rattle.std.specs.Prelude.{◌≡◌, ◌++◌};
 ghost use Rattle.cc_tables.specs.ElvishScript.{elvish_frame, offer_row, row_begin};
@@ -13,9 +13,9 @@ use cc_quote::{ElvishEscape, put_escaped};
 use std::alloc::Global;
 use std::io::ErrorKind;
 
-// ---- the fixed texts
+// ---- fixed texts
 
-// The frame, and what is around a key and the rows of a table.
+// Returns the frame, and the texts around a key and around the rows of a table.
 #[tactic(auto, unfolding(crate::specs::ElvishScript::elvish_frame, crate::specs::ElvishScript::elvish_named))]
 fn frame() -> Frame<'static>
     ensures { result ≡ elvish_frame }
@@ -60,7 +60,7 @@ set edit:completion:arg-completer[";
     }
 }
 
-// The beginning of a row, with the dashes of a name of this kind.
+// Returns the text before a name of the given kind, including its dashes.
 #[tactic(auto, unfolding(crate::specs::ElvishScript::row_begin))]
 fn row_begin(kind: Kind) -> &'static str
     ensures { result.now ≡ row_begin ++ dashes kind }
@@ -72,7 +72,7 @@ fn row_begin(kind: Kind) -> &'static str
     }
 }
 
-/// Writes Elvish scripts. The file of a program `N` is `N.elv`.
+/// The generator of Elvish scripts. The script of a program `N` goes into the file `N.elv`.
 #[derive(Clone, Copy, PartialEq, Eq, Debug)]
 pub struct Elvish;
 
@@ -111,7 +111,7 @@ impl Rows for Elvish {
     }
 }
 
-// The help or the about where there is one, else the fallback.
+// Returns the help text or the about text, or the fallback if there is neither.
 fn shown_text<'a>(offer: &'a Offer<'_>) -> &'a str
     ensures { result.now ≡ (offer_row offer.now).text }
 {

@@ -1,4 +1,4 @@
-//! The Nushell script: a frame, and in it a block for each visible path.
+//! The Nushell script: a frame with a block for each visible path.
 
 ghost use Rattle.std.specs.Prelude.{◌≡◌, ◌++◌, false, flat_map, true};
 ghost use Rattle.cc_base.specs.Writes.{Writes, as_write};
@@ -17,9 +17,9 @@ use cc_quote::{Replace, put_escaped};
 use std::alloc::Global;
 use std::io::ErrorKind;
 
-// ---- the fixed texts
+// ---- fixed texts
 
-// The frame, and what is around a key and the lines of a block.
+// Returns the frame, and the texts around a key and around the lines of a block.
 #[tactic(auto, unfolding(crate::specs::NushellScript::nushell_frame))]
 fn frame() -> Frame<'static>
     ensures { result ≡ nushell_frame }
@@ -35,7 +35,7 @@ fn frame() -> Frame<'static>
     }
 }
 
-// The beginning of a line, with the dashes of a name of this kind.
+// Returns the text before a name of the given kind, including its dashes.
 #[tactic(auto, unfolding(crate::specs::NushellScript::line_begin))]
 fn line_begin(kind: Kind) -> &'static str
     ensures { result.now ≡ line_begin ++ dashes kind }
@@ -47,7 +47,7 @@ fn line_begin(kind: Kind) -> &'static str
     }
 }
 
-// What is after a name.
+// Returns the text after a name.
 #[tactic(auto, unfolding(crate::specs::NushellScript::type_text, crate::specs::NushellScript::value_text))]
 fn type_text(takes_value: bool) -> &'static str
     ensures { result.now ≡ type_text takes_value }
@@ -55,7 +55,7 @@ fn type_text(takes_value: bool) -> &'static str
     if takes_value { ": string" } else { "" }
 }
 
-/// Writes Nushell scripts. The file of a program `N` is `N.nu`.
+/// The generator of Nushell scripts. The script of a program `N` goes into the file `N.nu`.
 #[derive(Clone, Copy, PartialEq, Eq, Debug)]
 pub struct Nushell;
 
@@ -125,7 +125,7 @@ impl Rows for Lines {
     }
 }
 
-// Writes the help where there is one.
+// Writes the help text, if there is one.
 #[tactic(auto, unfolding(crate::specs::NushellScript::help_text, crate::specs::NushellScript::help_begin))]
 fn write_help<W: Sink>(sink: &mut W, offer: &Offer<'_>) -> Result<(), ErrorKind>
     ensures { Writes W.taken W.failed (as_write result) sink.old sink.new
@@ -140,7 +140,7 @@ fn write_help<W: Sink>(sink: &mut W, offer: &Offer<'_>) -> Result<(), ErrorKind>
     }
 }
 
-// Writes a text on one line: each line feed as a space.
+// Writes a text on one line, with each line feed as a space.
 fn put_one_line<W: Sink>(sink: &mut W, text: &str) -> Result<(), ErrorKind>
     ensures { Writes W.taken W.failed (as_write result) sink.old sink.new
         (line_feeds_as_spaces text.now) }

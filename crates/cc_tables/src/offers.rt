@@ -1,4 +1,4 @@
-//! What a table offers at a node.
+//! The names that a table offers at a node.
 
 ghost use Rattle.std.specs.Prelude.{◌≡◌, List, ℕ, flat_map};
 ghost use Rattle.std.specs.Option.{option_copied};
@@ -14,7 +14,7 @@ use cc_base::{Sink, TextRef};
 use cc_command::{Arguments, Command};
 use std::io::ErrorKind;
 
-/// What kind of name is offered.
+/// The kind of a name.
 #[derive(Clone, Copy)]
 pub enum Kind {
     /// A short of an argument.
@@ -32,13 +32,13 @@ pub struct Offer<'a> {
     pub kind: Kind,
     /// The name, without its dashes.
     pub name: TextRef<'a>,
-    /// The help of the argument or the about of the child.
+    /// The help text of the argument, or the about text of the child.
     pub description: Option<TextRef<'a>>,
-    /// What describes it where there is no help or about.
+    /// The description if there is no help text or about text.
     pub fallback: TextRef<'a>,
 }
 
-/// How the rows of offers are written.
+/// A way to write the rows of offers.
 pub trait Rows {
     ghost use Rattle.std.specs.Prelude.{List, ℕ};
     ghost use Rattle.cc_base.specs.Writes.{Writes};
@@ -48,10 +48,12 @@ pub trait Rows {
     // the text of the row of an offer
     ghost row_text: { Self → Offer → List ℕ };
 
-    /// Writes the row of an offer. Fails with the kind of the put that failed.
+    /// Writes the row of an `offer`. An impl should be inlined where the offer is built, because
+    /// the kind, and with it the fixed texts, is known there.
     ///
-    /// An impl inlines it where the offer is made: its kind is known there, and with it the fixed
-    /// texts.
+    /// # Errors
+    ///
+    /// The kind of the put that failed.
     fn write_row<W: Sink>(&self, sink: &mut W, offer: &Offer<'_>) -> Result<(), ErrorKind>
         ensures { Writes W.taken W.failed (as_write result) sink.old sink.new
             (row_text self.now offer.now) };
@@ -76,7 +78,11 @@ impl<R: Rows> TableRows for R {
     }
 }
 
-/// Writes a row for each shown name of the arguments. Fails with the kind of the put that failed.
+/// Writes a row for each shown name of the `arguments`.
+///
+/// # Errors
+///
+/// The kind of the put that failed.
 pub fn write_arguments<R: Rows, W: Sink>(
     sink: &mut W,
     rows: &R,
@@ -92,7 +98,7 @@ pub fn write_arguments<R: Rows, W: Sink>(
     Ok(())
 }
 
-// Writes a row for each name of an argument that is shown.
+// Writes a row for each shown name of an argument.
 fn write_argument<R: Rows, W: Sink>(sink: &mut W, rows: &R, argument: &Arg) -> Result<(), ErrorKind>
     ensures { Writes W.taken W.failed (as_write result) sink.old sink.new
         (flat_map (R.row_text rows.now) (argument_offers argument.now)) }

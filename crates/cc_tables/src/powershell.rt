@@ -1,4 +1,4 @@
-//! The PowerShell script: a frame, and in it a table for each visible path.
+//! The PowerShell script: a frame with a table for each visible path.
 
 ghost use Rattle.std.specs.Prelude.{◌≡◌, ◌++◌};
 ghost use Rattle.cc_base.specs.Writes.{Writes, as_write};
@@ -16,9 +16,9 @@ use cc_quote::{PowershellEscape, put_escaped};
 use std::alloc::Global;
 use std::io::ErrorKind;
 
-// ---- the fixed texts
+// ---- fixed texts
 
-// The frame, and what is around a key and the rows of a table.
+// Returns the frame, and the texts around a key and around the rows of a table.
 #[tactic(auto, unfolding(crate::specs::PowershellScript::powershell_frame, crate::specs::PowershellScript::powershell_named))]
 fn frame() -> Frame<'static>
     ensures { result ≡ powershell_frame }
@@ -68,7 +68,7 @@ Register-ArgumentCompleter -Native -CommandName '";
     }
 }
 
-// The beginning of a row, with the dashes of a name of this kind.
+// Returns the text before a name of the given kind, including its dashes.
 #[tactic(auto, unfolding(crate::specs::PowershellScript::row_begin))]
 fn row_begin(kind: Kind) -> &'static str
     ensures { result.now ≡ row_begin ++ dashes kind }
@@ -80,7 +80,7 @@ fn row_begin(kind: Kind) -> &'static str
     }
 }
 
-// Between the two names of a row, with the dashes of the second.
+// Returns the text between the two names of a row, including the dashes of the second.
 #[tactic(auto, unfolding(crate::specs::PowershellScript::list_begin))]
 fn list_begin(kind: Kind) -> &'static str
     ensures { result.now ≡ list_begin ++ dashes kind }
@@ -92,8 +92,8 @@ fn list_begin(kind: Kind) -> &'static str
     }
 }
 
-// Between the second name and the text. The lists of PowerShell take no account of case, so a space
-// tells a capital apart.
+// Returns the text between the second name and the description. Lists of PowerShell ignore case, so
+// a space marks a capital.
 #[tactic(auto, unfolding(crate::specs::PowershellScript::kind_begin, crate::specs::PowershellScript::kind_text, crate::specs::PowershellScript::text_begin))]
 fn details_begin(kind: Kind, name: &str) -> &'static str
     ensures { result.now ≡ capital_space kind name.now ++ kind_begin ++ kind_text (result_kind kind)
@@ -108,7 +108,7 @@ fn details_begin(kind: Kind, name: &str) -> &'static str
     }
 }
 
-/// Writes PowerShell scripts. The file of a program `N` is `_N.ps1`.
+/// The generator of PowerShell scripts. The script of a program `N` goes into the file `_N.ps1`.
 #[derive(Clone, Copy, PartialEq, Eq, Debug)]
 pub struct PowerShell;
 
@@ -146,7 +146,7 @@ impl Rows for PowerShell {
     }
 }
 
-// Writes a row up to what describes it. What is typed is written twice: lists show it too.
+// Writes a row up to its description. The name is written twice, because lists show it too.
 #[inline(always)]
 fn write_words<W: Sink>(sink: &mut W, offer: &Offer<'_>) -> Result<(), ErrorKind>
     ensures { Writes W.taken W.failed (as_write result) sink.old sink.new
@@ -160,7 +160,7 @@ fn write_words<W: Sink>(sink: &mut W, offer: &Offer<'_>) -> Result<(), ErrorKind
     put_piece(sink, details_begin(offer.kind, name))
 }
 
-// The help or the about where there is one and it is not empty, else the fallback.
+// Returns the help text or the about text, or the fallback if it is missing or empty.
 fn shown_text<'a>(offer: &'a Offer<'_>) -> &'a str
     ensures { result.now ≡ (offer_row offer.now).text }
 {

@@ -1,4 +1,4 @@
-//! A script that is tables: a frame, and in it a table for each visible path.
+//! A script that consists of tables: a frame with a table for each visible path.
 
 ghost use Rattle.std.specs.Prelude.{◌++◌, flat_map};
 ghost use Rattle.cc_base.specs.Writes.{Writes, as_write};
@@ -11,22 +11,22 @@ use cc_visits::{Joined, KeyScheme, TableVisits};
 use std::alloc::{AllocError, Global};
 use std::io::ErrorKind;
 
-/// The fixed texts of a script, and what separates the names of a key.
+/// The fixed texts of a script, and the separator between the names of a key.
 #[derive(Drop)]
 pub struct Frame<'a> {
     /// The beginning of the script.
     pub head: TextRef<'a>,
-    /// What follows it, where the script names the program.
+    /// The text after the head, if the script names the program.
     pub named: Option<Named<'a>>,
-    /// Before the key of a table.
+    /// The text before the key of a table.
     pub key_begin: TextRef<'a>,
-    /// After the key.
+    /// The text after the key.
     pub key_end: TextRef<'a>,
-    /// After the rows of a table.
+    /// The text after the rows of a table.
     pub table_end: TextRef<'a>,
-    /// Between two names of a key.
+    /// The text between two names of a key.
     pub separator: TextRef<'a>,
-    /// After the tables.
+    /// The text after the tables.
     pub tail: TextRef<'a>,
 }
 
@@ -44,19 +44,19 @@ impl<'a> KeyScheme for Frame<'a> {
 /// The fixed texts of a script that names the program twice before its tables.
 #[derive(Drop)]
 pub struct Named<'a> {
-    /// Between the two occurrences of the name.
+    /// The text between the two occurrences of the name.
     pub between: TextRef<'a>,
-    /// From the name to the tables.
+    /// The text from the second name to the tables.
     pub completions: TextRef<'a>,
 }
 
-/// How the rows of a table are written.
+/// A way to write the rows of a table.
 pub trait TableRows {
     ghost use Rattle.std.specs.Prelude.{List, ℕ, flat_map};
     ghost use Rattle.cc_base.specs.Writes.{Writes, as_write};
     ghost use Rattle.cc_command.specs.Tree.{Tree};
 
-    // a row
+    // the type of a row
     ghost Row: { Type 0 };
 
     // the rows at a node
@@ -65,14 +65,22 @@ pub trait TableRows {
     // the text of a row
     ghost text: { Self → Self.Row → List ℕ };
 
-    /// Writes the rows at a node. Fails with the kind of the put that failed.
+    /// Writes the rows at the node of `command`.
+    ///
+    /// # Errors
+    ///
+    /// The kind of the put that failed.
     fn write_rows<W: Sink>(&self, sink: &mut W, command: &Command) -> Result<(), ErrorKind>
         ensures { Writes W.taken W.failed (as_write result) sink.old sink.new
             (flat_map (text self.now) (rows self.now command.now)) };
 }
 
-/// Writes the script of a command's tree. Fails with `Write` where the sink failed, and with
-/// `Memory`.
+/// Writes the script of the tree of `command` to `sink`, with the texts of `frame` and the rows of
+/// `rows`.
+///
+/// # Errors
+///
+/// `Write` if the sink fails, and `Memory` if an allocation fails.
 pub fn write_tables<R: TableRows, W: Sink>(
     alloc: Global,
     sink: &mut W,
@@ -89,7 +97,7 @@ pub fn write_tables<R: TableRows, W: Sink>(
     write_frame(alloc, sink, bin_name, visits, frame, rows)
 }
 
-// Writes the frame, and in it a table for each visit.
+// Writes the frame, with a table for each visit.
 fn write_frame<R: TableRows, W: Sink>(
     alloc: Global,
     sink: &mut W,
@@ -120,7 +128,7 @@ fn write_head<W: Sink>(sink: &mut W, frame: &Frame<'_>, bin_name: &str) -> Resul
     }
 }
 
-// Writes what names the program.
+// Writes the part that names the program.
 fn write_named<W: Sink>(sink: &mut W, named: &Named<'_>, bin_name: &str) -> Result<(), Error>
     ensures { Writes W.taken W.failed result sink.old sink.new
         (bin_name.now ++ named.now.between ++ bin_name.now ++ named.now.completions) }
@@ -130,7 +138,7 @@ fn write_named<W: Sink>(sink: &mut W, named: &Named<'_>, bin_name: &str) -> Resu
     Ok(put_piece(sink, named.completions.as_str())?)
 }
 
-// Writes a table for each visit that is left.
+// Writes a table for each remaining visit.
 fn write_visits<R: TableRows, W: Sink>(
     alloc: Global,
     sink: &mut W,

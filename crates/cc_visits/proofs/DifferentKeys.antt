@@ -1,4 +1,4 @@
--- Paths of plain names are told apart by the text that joins them, where the separator begins with a
+-- Different paths of plain names give different texts when joined, if the separator begins with a
 -- byte that no plain name has.
 use Rattle.std.proofs.Common.{◌≡◌, ◌≢◌, ℕ, IsTrue, List, [], ◌∷◌, ◌++◌, flat_map, refl, sym, ap, ◌∙◌, append_assoc}
 use Rattle.std.specs.List.{AllByRecursion}
@@ -15,12 +15,12 @@ use Rattle.cc_visits.specs.Paths.{CoversPaths}
 use Rattle.cc_visits.specs.Visits.{Keyed, joined_path}
 use Rattle.cc_visits.proofs.PlainVisits.{IsPlainVisit, plain_visits}
 
--- the separator: this byte, and what follows it
+-- the separator: its first byte, and the bytes after that
 module _ (first_byte : ℕ) (rest : List ℕ) (is_foreign : name_byte first_byte ≡ foreign) where
   abbrev separator : List ℕ
   separator = first_byte ∷ rest
 
-  -- no byte is the first one of the separator
+  -- no byte is the first byte of the separator
   abbrev HasNoSeparator : List ℕ → Type 0
   HasNoSeparator bytes = AllByRecursion (λ byte. byte ≢ first_byte) bytes
 
@@ -56,7 +56,7 @@ module _ (first_byte : ℕ) (rest : List ℕ) (is_foreign : name_byte first_byte
       ap (λ first. first ∷ path) both.0 ∙ ap (λ rest. next ∷ rest) (same_path path other h.1 k.1 both.1)
   same_path path _ h k e = cc
 
-  -- no two visits that cover the paths of a plain tree have the same joined key
+  -- visits that cover the paths of a plain tree have different joined keys
   pub joined_keys_differ : (first : List ℕ) (tree : Tree) (visits : List (Keyed (List (List ℕ)))) → IsTrue (is_plain_tree tree) → CoversPaths tree visits →
       AllDifferBy (λ visit. joined_path (first_byte ∷ rest) first visit.key) visits
   joined_keys_differ first tree visits h covers =

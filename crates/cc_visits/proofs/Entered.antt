@@ -6,7 +6,7 @@ use Rattle.cc_command.specs.Tree.{Forest, none, more, Tree}
 use Rattle.cc_visits.specs.Visits.{Keyed, keyed, Step, enter, leave, keys_below, paths_below, path_visits, steps_below, path_steps, where_entered}
 
 module _ {Key B : Type 0} (child_key : Key → List ℕ → Key) (text : Keyed Key → List B) where
-  -- what one node is
+  -- the steps of one node under one key
   abbrev steps_at : Node → Node → Forest → Key → List (Step Key)
   steps_at above node below child =
       enter (keyed child above (record { node = node; children = below })) ∷

@@ -1,4 +1,4 @@
--- What is still to come from a stack, as items come and go.
+-- The results that a stack still gives, as items come and go.
 use Rattle.std.proofs.Common.{◌≡◌, ℕ, suc, ◌+◌, ◌-◌, ◌<◌, List, [], ◌∷◌, ◌++◌, length, reverse, ap, ◌∙◌, sym, append_assoc, append-nil, arith}
 use Rattle.std.specs.List.{flat_map, range_with_len}
 use Rattle.std.proofs.lemmas.List.{nil_from_length, reverse-append, reverse-reverse}
@@ -22,14 +22,14 @@ module _ {A B : Type 0} (from_item : A → List B) where
   unfolding from_stack
   from_stack_popped rest item = ap (flat_map from_item) (reverse-append rest (item ∷ []))
 
-  -- items that were moved onto the stack come first, in their order
+  -- items that are moved onto the stack come first, in their order
   pub from_stack_pushed : (rest items : List A) → from_stack from_item (rest ++ reverse items) ≡ flat_map from_item items ++ from_stack from_item rest
   unfolding from_stack
   from_stack_pushed rest items =
       ap (flat_map from_item) (reverse-append rest (reverse items) ∙ ap (λ xs. xs ++ reverse rest) (reverse-reverse items)) ∙
       flat_map-append from_item items (reverse rest)
 
--- the items of one more number, where the items of all numbers are made number by number
+-- the items of one more number, if the items are listed number by number
 pub items_more : {A : Type 0} (f : ℕ → List A) (before after whole : List A) (start end : ℕ) → start < end → after ≡ before ++ f start →
     before ++ flat_map f (numbers_between start end) ≡ whole → after ++ flat_map f (numbers_between (start + 1) end) ≡ whole
 items_more f before after whole start end low one so_far =

@@ -1,11 +1,12 @@
--- The node above a visited one is that which the path without its last name leads to.
+-- The path without its last name leads to the node above a visited node.
 use Rattle.std.proofs.Common.{◌≡◌, ℕ, List, [], ◌∷◌, ◌++◌, Contains, refl, subst}
 use Rattle.cc_command.specs.declared.node.Node.{Node}
 use Rattle.cc_command.specs.Names.{visible_names}
 use Rattle.cc_command.specs.Tree.{Tree, IsSibling}
 use Rattle.cc_visits.specs.Paths.{LeadsTo}
 
--- the path leads to a tree with this node, of which the other tree is a child with this name
+-- the path leads to a tree with the given node, and `child` is a child of that tree with the given
+-- name
 pub record LeadsToParent (above : Node) (from : Tree) (path : List (List ℕ)) (name : List ℕ) (node : Node) (child : Tree) : Type 0 where
   pub grandparent : Node
   pub parent : Tree

@@ -1,4 +1,4 @@
--- What the visible paths of a plain tree lead to is plain, and so are their names.
+-- The visible paths of a plain tree have plain names and lead to plain nodes.
 use Rattle.std.proofs.Common.{ℕ, IsTrue, List, [], ◌∷◌, subst}
 use Rattle.std.specs.List.{AllByRecursion}
 use Rattle.cc_base.proofs.Members.{IsIn-from_Contains, Contains-from_IsIn, AllByRecursion-IsIn, AllByRecursion-from_IsIn}
@@ -25,20 +25,20 @@ plain_names above from (name ∷ names) parent to plain leads =
       plain_names from.node leads.0 names parent to child leads.1.1.1,
     )
 
--- it leads to a plain node
+-- a path from a plain node leads to a plain node
 pub plain_path : (above : Node) (from : Tree) (path : List (List ℕ)) (parent : Node) (to : Tree) → IsPlainBelow from → LeadsTo above from path parent to → IsPlainBelow to
 plain_path above from [] parent to plain leads = subst IsPlainBelow leads.1 plain
 plain_path above from (name ∷ names) parent to plain leads =
     plain_path from.node leads.0 names parent to (plain_sibling from.children leads.0 plain.children leads.1.0) leads.1.1.1
 
--- whose parent is plain too
+-- the node above that one is plain too
 pub plain_above : (above : Node) (from : Tree) (path : List (List ℕ)) (parent : Node) (to : Tree) → IsTrue (is_plain_node above) → IsPlainBelow from →
     LeadsTo above from path parent to → IsTrue (is_plain_node parent)
 plain_above above from [] parent to is plain leads = subst (λ node. IsTrue (is_plain_node node)) leads.0 is
 plain_above above from (name ∷ names) parent to is plain leads =
     plain_above from.node leads.0 names parent to plain.node (plain_sibling from.children leads.0 plain.children leads.1.0) leads.1.1.1
 
--- each of the visits that cover the paths of a plain tree is plain
+-- visits that cover the paths of a plain tree are plain
 pub plain_visits : (tree : Tree) (visits : List (Keyed (List (List ℕ)))) → IsTrue (is_plain_tree tree) → CoversPaths tree visits → AllByRecursion IsPlainVisit visits
 plain_visits tree visits h covers =
     let plain = (plain_tree tree h).below in

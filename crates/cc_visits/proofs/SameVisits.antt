@@ -1,4 +1,5 @@
--- Visits under keys of one kind are those under keys of another kind, where each step of a key is a step of the other.
+-- Visits under keys of one kind are the visits under keys of another kind, if each step of a key of
+-- one kind is a step of the other.
 use Rattle.std.proofs.Common.{◌≡◌, ℕ, List, [], ◌∷◌, ◌++◌, map, flat_map, refl, ap, ◌∙◌, sym, append_assoc, append-nil}
 use Rattle.std.proofs.lemmas.List.{map-append}
 use Rattle.std.proofs.lemmas.List.Concat.{flat_map-append}
@@ -60,7 +61,7 @@ module _ {A B : Type 0} (child_key : A → List ℕ → A) (other : B → List �
   pub rekeyed-table_visits : (key : A) (tree : Tree) → map (rekeyed f) (table_visits child_key key tree) ≡ table_visits other (f key) tree
   rekeyed-table_visits key tree = ap (λ t. keyed (f key) tree.node tree ∷ t) (rekeyed-tables_below tree.children tree.node (key ∷ []))
 
--- a longer path is joined as its text is made longer
+-- the text of a longer path is the text of the path with the name joined to it
 pub joined_path-longer : (separator first : List ℕ) (path : List (List ℕ)) (name : List ℕ) →
     joined_path separator first (longer_path path name) ≡ joined separator (joined_path separator first path) name
 joined_path-longer separator first path name =

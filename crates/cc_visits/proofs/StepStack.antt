@@ -1,4 +1,4 @@
--- The steps that are still to come in path order, as items are taken from the stack and put on it.
+-- The remaining steps in path order, as items are taken from the stack and put on it.
 use Rattle.std.proofs.Common.{◌≡◌, ℕ, zero, suc, ◌+◌, ◌<◌, ◌≤◌, List, [], ◌∷◌, ◌++◌, length, reverse, true, false, cond, Some, refl, ap, ap₂, ◌∙◌, sym, subst, append_assoc, append-nil, arith}
 use Rattle.std.specs.List.{flat_map, range_with_len, All}
 use Rattle.std.proofs.lemmas.List.Concat.{flat_map-append}
@@ -14,7 +14,7 @@ use Rattle.cc_visits.specs.Visits.{keyed, keys_below, Step, enter, leave, steps_
 use Rattle.cc_visits.specs.declared.path_steps.StepItem.{StepItem}
 use Rattle.cc_visits.proofs.FromStack.{from_stack_none, from_stack_popped, from_stack_pushed}
 
--- ---- items whose numbers are listed
+-- ---- items whose numbers are within the list
 
 -- one item
 pub AreListed_one : (flat : List Entry) (item : StepItem) → item.number < length flat → item.above < length flat → AreListed flat (item ∷ [])
@@ -22,7 +22,7 @@ unfolding AreListed
 AreListed_one flat item number above = All-cons (IsListed flat) item [] (number, above) (All-nil (IsListed flat))
 
 module _ (flat : List Entry) (stack rest : List StepItem) (item : StepItem) (is : stack ≡ rest ++ item ∷ []) where
-  -- the rest of a stack
+  -- the other items of a stack
   pub AreListed_rest : AreListed flat stack → AreListed flat rest
   unfolding AreListed
   AreListed_rest listed = (All-pop (IsListed flat) stack rest (Some item) is listed).0
@@ -36,7 +36,7 @@ module _ (flat : List Entry) (stack rest : List StepItem) (item : StepItem) (is 
   unfolding AreListed
   AreListed_above listed = (All-pop (IsListed flat) stack rest (Some item) is listed).1.1
 
-  -- an item is put on
+  -- an item is put on the stack
   pub AreListed_push : AreListed flat rest → item.number < length flat → item.above < length flat → AreListed flat stack
   unfolding AreListed
   AreListed_push listed number above =
@@ -66,13 +66,13 @@ module _ (flat : List Entry) (child_key : List ℕ → List ℕ → List ℕ) wh
       (All-permutation (IsListed flat) items (reverse items) (IsPermutation-reverse items)
       (subst P (sym are) (AreListed-range number key (entry_at flat number).first_child (entry_at flat number).child_count is_listed its.within))))
 
-  -- those of the root's children alone
+  -- the items of the root's children alone
   pub begin_listed : (key : List ℕ) (items stack : List StepItem) → 0 < length flat → HasItsChildren flat 0 →
       items ≡ step_items flat child_key 0 key (children_at flat 0) → stack ≡ reverse items → AreListed flat stack
   unfolding AreListed
   begin_listed key items stack is_listed its are reversed = steps_listed 0 key [] items stack is_listed its are reversed (All-nil (IsListed flat))
 
-  -- ---- the steps that are still to come
+  -- ---- the remaining steps
 
   steps_of-items : (above : ℕ) (key : List ℕ) (numbers : List ℕ) →
       flat_map (steps_of flat child_key) (step_items flat child_key above key numbers) ≡ steps_below child_key key (node_at above) (forest_of (trees_at flat numbers))
@@ -111,7 +111,7 @@ module _ (flat : List Entry) (child_key : List ℕ → List ℕ → List ℕ) wh
       (sym (step_leave item.number item.above item.key kept rest (kept_is ∙ ap (λ key. rest ++ step_item true item.above item.number key ∷ []) own_is))) ∙
       sym (ap (from_stack from_item) pushed ∙ from_stack_pushed from_item kept items))
 
-  -- all below the root
+  -- everything below the root
   pub steps_begin : (key : List ℕ) (items stack : List StepItem) → HasItsChildren flat 0 →
       items ≡ step_items flat child_key 0 key (children_at flat 0) → stack ≡ reverse items →
       from_stack (steps_of flat child_key) stack ≡ steps_below child_key key (node_at 0) (tree_at flat 0).children

@@ -17,7 +17,7 @@ module _ {A B : Type 0} where
   flat_map-each f g each [] = IsPermutation-refl []
   flat_map-each f g each (x ∷ xs) = IsPermutation-append (f x) (g x) (flat_map f xs) (flat_map g xs) (each x) (flat_map-each f g each xs)
 
-  -- two parts each, or first all first parts
+  -- two parts of each element, or all first parts before all second parts
   flat_map-split : (f g : A → List B) → (xs : List A) → IsPermutation (flat_map (λ x. f x ++ g x) xs) (flat_map f xs ++ flat_map g xs)
   flat_map-split f g [] = IsPermutation-refl []
   flat_map-split f g (x ∷ xs) =
@@ -62,7 +62,7 @@ module _ {Key : Type 0} (child_key : Key → List ℕ → Key) where
       (IsPermutation-append (flat_map paths keys) (flat_map tables keys) (flat_map later keys) (tables_below child_key keys above rest)
       (flat_map-each paths tables each keys) (IsPermutation-below rest above keys))
 
-  -- the visits in path order, in table order
+  -- the visits in path order are a permutation of those in table order
   pub IsPermutation-visits : (key : Key) (tree : Tree) → IsPermutation (path_visits child_key key tree) (table_visits child_key key tree)
   IsPermutation-visits key tree =
       let paths : List (Keyed Key) = paths_below child_key key tree.node tree.children in

@@ -1,4 +1,4 @@
--- The visits that are still to come in table order, as items are taken from the stack and put on it.
+-- The remaining visits in table order, as items are taken from the stack and put on it.
 use Rattle.std.proofs.Common.{◌≡◌, ℕ, zero, suc, ◌+◌, ◌-◌, ◌<◌, ◌≤◌, List, [], ◌∷◌, ◌++◌, length, reverse, refl, ap, ◌∙◌, sym, subst, append_assoc, append-nil, arith, Some}
 use Rattle.std.specs.List.{flat_map, range_with_len, All}
 use Rattle.std.proofs.lemmas.List.{nil_from_length, length-append, length-reverse, reverse-append, reverse-reverse}
@@ -15,10 +15,10 @@ use Rattle.cc_visits.specs.Visits.{keyed, keys_below, tables_below, tables_from,
 use Rattle.cc_visits.specs.declared.table_visits.TableItem.{TableItem}
 use Rattle.cc_visits.proofs.FromStack.{from_stack_none, from_stack_popped, from_stack_pushed}
 
--- ---- items whose numbers are listed
+-- ---- items whose numbers are within the list
 
 module _ (flat : List Entry) (stack rest : List TableItem) (item : TableItem) (popped : stack ≡ rest ++ item ∷ []) where
-  -- the rest of a stack
+  -- the other items of a stack
   pub AreListed_rest : AreListed flat stack → AreListed flat rest
   unfolding AreListed
   AreListed_rest listed = (All-pop (IsListed flat) stack rest (Some item) popped listed).0
@@ -50,7 +50,7 @@ module _ (flat : List Entry) (keys : List (List ℕ)) (above : ℕ) (is_listed :
       (All-permutation (IsListed flat) items (reverse items) (IsPermutation-reverse items)
       (subst P (sym are) (AreListed-range (entry_at flat above).first_child (entry_at flat above).child_count its.within))))
 
-  -- those of the root's children alone
+  -- the items of the root's children alone
   pub tables_listed : (items stack : List TableItem) → HasItsChildren flat above →
       items ≡ table_items above keys (children_at flat above) → stack ≡ reverse items → AreListed flat stack
   unfolding AreListed
@@ -63,7 +63,7 @@ no_items above keys start end numbers none is =
     let no_more : 0 ≡ end - start = omega arith in
     ap (λ n. table_items above keys (range_with_len start n)) no_more ∙ ap (table_items above keys) is
 
--- ---- the visits that are still to come
+-- ---- the remaining visits
 
 module _ (flat : List Entry) (child_key : List ℕ → List ℕ → List ℕ) where
   abbrev node_at : ℕ → Node
@@ -78,7 +78,7 @@ module _ (flat : List Entry) (child_key : List ℕ → List ℕ → List ℕ) wh
       ap (λ t. t ++ flat_map (tables_of flat child_key) (table_items above keys numbers)) (flat_map-map (tables_of flat child_key) (item_at above number) keys) ∙
       ap (λ t. flat_map (λ key. tables_from child_key key (node_at above) (tree_at flat number)) keys ++ t) (tables_of-items above keys numbers)
 
-  -- what is below a node is put on the stack
+  -- the nodes below a node are put on the stack
   tables-pushed : (number : ℕ) (keys : List (List ℕ)) (rest items new : List TableItem) → HasItsChildren flat number →
       items ≡ table_items number keys (children_at flat number) → new ≡ rest ++ reverse items →
       from_stack (tables_of flat child_key) new ≡ tables_below child_key keys (node_at number) (tree_at flat number).children ++ from_stack (tables_of flat child_key) rest
@@ -88,7 +88,8 @@ module _ (flat : List Entry) (child_key : List ℕ → List ℕ → List ℕ) wh
       ap (λ t. t ++ from_stack from_item rest)
       (ap (flat_map from_item) are ∙ tables_of-items number keys (children_at flat number) ∙ ap (tables_below child_key keys (node_at number)) its.forest)
 
-  -- a child is taken from the stack: its visits come first, and what is below it is put on
+  -- a child is taken from the stack: its visits come first, and the nodes below it are put on the
+  -- stack
   table-step : (number above : ℕ) (key : List ℕ) (keys : List (List ℕ)) (old rest items new : List TableItem) → HasItsChildren flat number →
       old ≡ rest ++ item_at above number key ∷ [] → keys ≡ keys_below child_key key (node_at number) →
       items ≡ table_items number keys (children_at flat number) → new ≡ rest ++ reverse items →
@@ -101,7 +102,7 @@ module _ (flat : List Entry) (child_key : List ℕ → List ℕ → List ℕ) wh
       append_assoc (under_each keys (node_at above) tree) (tables_below child_key keys tree.node tree.children) (from_stack from_item rest) ∙
       ap (λ t. under_each keys (node_at above) tree ++ t) (sym (tables-pushed number keys rest items new its are pushed))
 
-  -- the root under its key, then what is below it
+  -- the root under its key, then everything below it
   pub tables_begin : (key : List ℕ) (keys : List (List ℕ)) (items stack : List TableItem) → HasItsChildren flat 0 → keys ≡ key ∷ [] →
       items ≡ table_items 0 keys (children_at flat 0) → stack ≡ reverse items →
       under_each (reverse keys) (node_at 0) (tree_at flat 0) ++ from_stack (tables_of flat child_key) stack ≡ table_visits child_key key (tree_at flat 0)
@@ -111,19 +112,19 @@ module _ (flat : List Entry) (child_key : List ℕ → List ℕ → List ℕ) wh
       append-nil (tables_below child_key keys (node_at 0) (tree_at flat 0).children)) ∙
       ap (λ ks. under_each (reverse ks) (node_at 0) (tree_at flat 0) ++ tables_below child_key ks (node_at 0) (tree_at flat 0).children) keys_are
 
-  -- no keys and no nodes are left
+  -- neither keys nor nodes remain
   pub tables_end : (number above : ℕ) (ready : List (List ℕ)) (stack : List TableItem) → length ready ≡ 0 → length stack ≡ 0 →
       under_each (reverse ready) (node_at above) (tree_at flat number) ++ from_stack (tables_of flat child_key) stack ≡ []
   tables_end number above ready stack no_keys no_items =
       ap (λ ks. under_each (reverse ks) (node_at above) (tree_at flat number) ++ from_stack (tables_of flat child_key) stack) (nil_from_length ready no_keys) ∙
       from_stack_none (tables_of flat child_key) stack no_items
 
-  -- the key that is taken from the end is the first one
+  -- the key at the end is the first one to be taken
   taken_first : (first : List ℕ) (ready left : List (List ℕ)) → ready ≡ left ++ first ∷ [] →
       reverse ready ≡ first ∷ reverse left
   taken_first first ready left taken = ap (λ ks. reverse ks) taken ∙ reverse-append left (first ∷ [])
 
-  -- the node that is being visited has a further key
+  -- the node that is being visited has another key
   pub table_later : (number above : ℕ) (first : List ℕ) (ready left : List (List ℕ)) (stack : List TableItem) →
       ready ≡ left ++ first ∷ [] →
       under_each (reverse ready) (node_at above) (tree_at flat number) ++ from_stack (tables_of flat child_key) stack
@@ -131,7 +132,7 @@ module _ (flat : List Entry) (child_key : List ℕ → List ℕ → List ℕ) wh
   table_later number above first ready left stack taken =
       ap (λ ks. under_each ks (node_at above) (tree_at flat number) ++ from_stack (tables_of flat child_key) stack) (taken_first first ready left taken)
 
-  -- no key is left: the next node's first key comes
+  -- no key remains, so the first key of the next node comes
   pub table_next : (before above_before number above : ℕ) (key first : List ℕ) (done empty keys left : List (List ℕ))
       (old rest items new : List TableItem) → length done ≡ 0 → length empty ≡ 0 → HasItsChildren flat number →
       old ≡ rest ++ item_at above number key ∷ [] → keys ≡ empty ++ keys_below child_key key (node_at number) →

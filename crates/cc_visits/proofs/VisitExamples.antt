@@ -13,13 +13,13 @@ app =
     with_child (with_child (new_tree (codes "app")) aliased) (new_tree (codes "list"))
 
 visits :
-    -- table order: both names of `run`, then what is below it under each
+    -- table order: both names of `run`, then everything below it under each name
     (map (λ visit. visit.key) (table_visits (joined (codes ";")) (codes "app") app)
     ≡ codes "app" ∷ codes "app;run" ∷ codes "app;r" ∷ codes "app;run;job" ∷ codes "app;r;job" ∷ codes "app;list" ∷ [])
-    -- path order: one name of `run` with what is below it, then the other
+    -- path order: one name of `run` with everything below it, then the other
     × (map (λ visit. visit.key) (path_visits (joined (codes " ")) (codes "app") app)
     ≡ codes "app" ∷ codes "app run" ∷ codes "app run job" ∷ codes "app r" ∷ codes "app r job" ∷ codes "app list" ∷ [])
-    -- the nodes that are visited in path order, and the nodes above them
+    -- the nodes visited in path order, and the nodes above them
     × (map (λ visit. visit.tree.node.name) (path_visits longer_path [] app)
     ≡ codes "app" ∷ codes "run" ∷ codes "job" ∷ codes "run" ∷ codes "job" ∷ codes "list" ∷ [])
     × (map (λ visit. visit.above.name) (path_visits longer_path [] app)
@@ -27,7 +27,7 @@ visits :
 unfolding tables_below paths_below
 visits = (refl, refl, refl, refl)
 
--- a name and a bracket where a node is entered, a bracket where it is left
+-- a name and an opening bracket when a node is entered, a closing bracket when it is left
 abbrev shown : Step (List ℕ) → List ℕ
 shown (enter visit) = visit.key ++ codes "{"
 shown (leave visit) = codes "}"

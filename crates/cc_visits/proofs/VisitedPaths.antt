@@ -1,4 +1,5 @@
--- The visits in path order are the visible paths, each with the node that it leads to, and each once.
+-- The visits in path order are the visible paths, each with the node to which it leads, and each
+-- once.
 use Rattle.std.proofs.Common.{◌≡◌, ◌≢◌, ◌↔◌, ℕ, IsTrue, List, [], ◌∷◌, ◌++◌, map, flat_map, Contains, inl, inr, refl, sym, ap, subst, ◌∙◌, append_assoc, append-nil}
 use Rattle.std.proofs.lemmas.List.{append_cancel_left}
 use Rattle.cc_base.specs.Differ.{AllDifferBy}
@@ -18,7 +19,7 @@ Path = List (List ℕ)
 
 -- ---- every visit is a visible path, and every visible path is visited
 
--- the visit's path goes on from the path of a node, by names that lead from one of its children down
+-- the visit's path continues the path of a node, by names that lead down from one of its children
 pub record GoesOn (base : Path) (above : Node) (forest : Forest) (visit : Keyed Path) : Type 0 where
   pub name : List ℕ
   pub names : Path
@@ -32,7 +33,7 @@ pub record GoesOn (base : Path) (above : Node) (forest : Forest) (visit : Keyed 
 abbrev pub visits_at : Node → Tree → Path → List (Keyed Path)
 visits_at above tree path = keyed path above tree ∷ paths_below longer_path path tree.node tree.children
 
--- every visit below a path goes on from it
+-- every visit below a path continues it
 pub goes_on : (forest : Forest) (base : Path) (above : Node) (visit : Keyed Path) → IsIn (paths_below longer_path base above forest) visit → GoesOn base above forest visit
 unfolding paths_below
 goes_on none base above visit h = absurd h
@@ -69,7 +70,7 @@ goes_on (more node below rest) base above visit h =
           record { name = g.name; names = g.names; is = g.is; child = g.child; sibling = inr g.sibling; named = g.named; leads = g.leads }
     ]
 
--- every path that goes on from it, by names that lead down from the siblings, is visited
+-- every path is visited that continues it by names that lead down from the siblings
 pub is_visited : (forest : Forest) (base : Path) (above : Node) (name : List ℕ) (names : Path) (child : Tree) (parent : Node) (to : Tree) → IsSibling forest child →
     IsIn (visible_names child.node) name → LeadsTo above child names parent to → IsIn (paths_below longer_path base above forest) (keyed (base ++ name ∷ names) parent to)
 unfolding paths_below
@@ -110,7 +111,7 @@ path_is_visited tree [] parent to leads = inl (ap (λ above. keyed [] above tree
 path_is_visited tree (name ∷ names) parent to leads =
     inr (is_visited tree.children [] tree.node name names leads.0 parent to leads.1.0 (IsIn-from_Contains (visible_names leads.0.node) name leads.1.1.0) leads.1.1.1)
 
--- the visits in path order are exactly the visible paths, each with what it leads to
+-- the visits in path order are exactly the visible paths, each with the nodes to which it leads
 pub visits_are_paths : (tree : Tree) (visit : Keyed Path) → Contains (path_visits longer_path [] tree) visit ↔ IsVisiblePath tree visit
 visits_are_paths tree visit = (
   λ h. visit_is_path tree visit (IsIn-from_Contains (path_visits longer_path [] tree) visit h),
@@ -122,13 +123,13 @@ visits_are_paths tree visit = (
 abbrev AllDiffer : List (Keyed Path) → Type 0
 AllDiffer visits = AllDifferBy (λ visit. visit.key) visits
 
--- paths that go on by different names differ
+-- paths that continue by different names differ
 by_other_name : (base : Path) (name next : List ℕ) (names later : Path) → name ≢ next → base ++ name ∷ names ≢ base ++ next ∷ later
 by_other_name base name next names later differ e =
     let tails : name ∷ names ≡ next ∷ later = append_cancel_left base (name ∷ names) (next ∷ later) e in
     differ (cc)
 
--- the path goes on from the path of the parent, by one of these names of a node
+-- the path continues the path of the parent, by one of the given names of a node
 record GoesBy (base names : Path) (path : Path) : Type 0 where
   pub name : List ℕ
   pub is_given : IsIn names name
@@ -151,7 +152,7 @@ goes_by above tree base names visit h =
           }
     ]
 
--- a path and those that go on from it
+-- a path, and the paths that continue it
 AllDiffer-visits_at : (above : Node) (tree : Tree) (path : Path) → AllDiffer (paths_below longer_path path tree.node tree.children) → AllDiffer (visits_at above tree path)
 AllDiffer-visits_at above tree path h = (
   AllByRecursion-from_IsIn (λ other. path ≢ other.key) (paths_below longer_path path tree.node tree.children) (λ other at e.
@@ -195,7 +196,7 @@ AllDiffer-paths_below (more node below rest) base above differ plain =
     (λ same. not_shared node rest other.child other.name names.apart (subst (IsIn (visible_names node)) same one.is_given) other.sibling other.named)
     (one.is ∙ e ∙ sym other.is))
 
--- where the siblings of a tree differ no path is visited twice
+-- if siblings differ, no path is visited twice
 paths_differ : (tree : Tree) → IsTrue (siblings_differ tree.children) → IsTrue (is_plain_forest tree.children) → AllDiffer (path_visits longer_path [] tree)
 paths_differ tree differ plain = AllDiffer-visits_at tree.node tree [] (AllDiffer-paths_below tree.children [] tree.node differ plain)
 

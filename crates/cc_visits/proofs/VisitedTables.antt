@@ -1,4 +1,5 @@
--- The visits in table order are the visible paths, each with the nodes that it leads to, and each once.
+-- The visits in table order are the visible paths, each with the nodes to which it leads, and each
+-- once.
 use Rattle.std.proofs.Common.{◌↔◌, ℕ, IsTrue, List, [], Contains, refl}
 use Rattle.std.specs.Str.{bytes_eq}
 use Rattle.std.specs.Cmp.Lexicographic.{pointwise}
@@ -12,7 +13,7 @@ use Rattle.cc_visits.specs.Visits.{Keyed, longer_path, path_visits, table_visits
 use Rattle.cc_visits.proofs.TableOrder.{IsPermutation-visits}
 use Rattle.cc_visits.proofs.VisitedPaths.{paths_cover, visits_are_paths}
 
--- the visits in table order are exactly the visible paths, each with what it leads to
+-- the visits in table order are exactly the visible paths, each with the nodes to which it leads
 pub tables_are_paths : (tree : Tree) (visit : Keyed (List (List ℕ))) → Contains (table_visits longer_path [] tree) visit ↔ IsVisiblePath tree visit
 tables_are_paths tree visit =
     let paths : List (Keyed (List (List ℕ))) = path_visits longer_path [] tree in

@@ -1,4 +1,4 @@
--- What the values of the code mean.
+-- The meaning of the values of the code.
 use Rattle.std.specs.Prelude.{ℕ, List}
 use Rattle.cc_visits.specs.Visits.{Keyed, keyed, Step, enter, leave}
 use Rattle.cc_visits.specs.declared.visit.Visit.{Visit}

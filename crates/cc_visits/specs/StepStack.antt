@@ -1,24 +1,24 @@
--- What is on the stack of an iterator in path order, and which steps are still to come from it.
+-- The stack of an iterator in path order, and the steps that it still gives.
 use Rattle.std.specs.Prelude.{ℕ, ◌<◌, List, [], ◌∷◌, Bool, length, map, false, if◌then◌else◌}
 use Rattle.std.specs.List.{flat_map, All}
 use Rattle.cc_flat.specs.Flat.{Entry, tree_at}
 use Rattle.cc_visits.specs.Visits.{keyed, keys_below, Step, leave, steps_from}
 use Rattle.cc_visits.specs.declared.path_steps.StepItem.{StepItem}
 
--- a node under a key, to be left or entered
+-- a node under a key, which is to be left or entered
 abbrev pub step_item : Bool → ℕ → ℕ → List ℕ → StepItem
 step_item leaving above number key =
     record { above = above; number = number; key = key; leaving = leaving }
 
--- a node that is to be entered under each of these keys
+-- a node that is to be entered under each of the given keys
 abbrev pub entries_at : ℕ → ℕ → List (List ℕ) → List StepItem
 entries_at above number keys = map (step_item false above number) keys
 
--- the numbers of the item are in the list
+-- the numbers of an item are within the list of nodes
 abbrev pub IsListed : List Entry → StepItem → Type 0
 IsListed flat item = (item.number < length flat) × (item.above < length flat)
 
--- so are those of each item
+-- the numbers of each item are within the list of nodes
 unfoldable pub AreListed : List Entry → List StepItem → Type 0
 AreListed flat items = All (IsListed flat) items
 
@@ -29,7 +29,7 @@ step_items flat child_key above key numbers =
     flat_map (λ number. entries_at above number
     (keys_below child_key key (tree_at flat number).node)) numbers
 
--- the steps that come from an item
+-- the steps that an item gives
 abbrev pub steps_of : List Entry → (List ℕ → List ℕ → List ℕ) → StepItem → List (Step (List ℕ))
 steps_of flat child_key item =
     if item.leaving then leave

@@ -1,4 +1,4 @@
-//! How the keys of nodes are made.
+//! Keys of nodes.
 
 ghost use Rattle.std.specs.Prelude.{◌≡◌, ◌++◌, ℕ, List, IfOk, OnOk};
 ghost use Rattle.cc_command.specs.Names.{visible_names};
@@ -10,18 +10,21 @@ use std::alloc::{AllocError, Global};
 use std::marker::Model;
 use std::rc::Rc;
 
-/// How the key of a node is made from its parent's key and one of its own names.
+/// A way to build the key of a node from its parent's key and one of its own names.
 pub trait KeyScheme {
     // the key of a child, from its parent's key and its name
     ghost child_key: { Self → List ℕ → List ℕ → List ℕ };
 
-    /// The key of a child that has this name, below a node with this key. Fails where
-    /// memory runs out.
+    /// Returns the key of a child with the given `name`, below a node with the given `key`.
+    ///
+    /// # Errors
+    ///
+    /// `AllocError` if an allocation fails.
     fn child_key(&self, alloc: Global, key: &str, name: &str) -> Result<Text, AllocError>
         ensures { IfOk result (λ text. text ≡ child_key self.now key.now name.now) };
 }
 
-/// Keys that are names with a separator between them.
+/// Keys that consist of names with a separator between them.
 #[derive(Drop)]
 pub struct Joined<'a> {
     /// The text between two names.
@@ -46,8 +49,12 @@ impl<'a> KeyScheme for Joined<'a> {
     }
 }
 
-/// Adds the keys of a node below a parent with this key: one for each of its visible names.
-/// Fails where memory runs out.
+/// Adds to `made` the keys of a node below a parent with the given `key`: one for each visible name
+/// of `command`.
+///
+/// # Errors
+///
+/// `AllocError` if an allocation fails.
 pub(crate) fn push_keys_below<K: KeyScheme>(
     made: &mut Vec<Text>,
     alloc: Global,
@@ -64,9 +71,7 @@ pub(crate) fn push_keys_below<K: KeyScheme>(
     Ok(())
 }
 
-/// A key that several items hold.
-///
-/// A clause sees its bytes.
+/// A key that several items share. Clauses see its bytes.
 #[derive(Drop)]
 pub struct SharedKey {
     text: Rc<Text>,
@@ -82,7 +87,11 @@ impl Model for SharedKey {
 }
 
 impl SharedKey {
-    /// A key with this text, which is not copied. Fails where memory runs out.
+    /// Returns a key with the given `text`, which is not copied.
+    ///
+    /// # Errors
+    ///
+    /// `AllocError` if an allocation fails.
     pub fn new(alloc: Global, text: Text) -> Result<SharedKey, AllocError>
         ensures { IfOk result (λ key. key ≡ text) }
     {
@@ -90,8 +99,11 @@ impl SharedKey {
         Ok(SharedKey { text })
     }
 
-    /// The same key once more, with no copy of its text. Fails where it is held too often to be
-    /// counted.
+    /// Returns the same key once more, without copying its text.
+    ///
+    /// # Errors
+    ///
+    /// `AllocError` if there are more references to the key than can be counted.
     pub fn share(&self) -> Result<SharedKey, AllocError>
         ensures { IfOk result (λ shared. shared ≡ self.now) }
     {
@@ -99,7 +111,7 @@ impl SharedKey {
         Ok(SharedKey { text })
     }
 
-    /// The text of the key.
+    /// Returns the text of the key.
     pub fn as_str(&self) -> &str
         ensures { result.now ≡ self.now }
     {

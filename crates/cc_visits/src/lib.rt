@@ -1,4 +1,27 @@
 //! The visits of a command tree, in the two orders in which scripts list its commands.
+//!
+//! A visit is one visible path with the node to which it leads. In table order ([`TableVisits`])
+//! all names of a command come before the commands below it. In path order ([`PathSteps`]) each
+//! name is followed by all paths below it.
+//!
+//! ```rattle
+//! use cc_base::Text;
+//! use cc_command::Command;
+//! use cc_flat::Flat;
+//! use cc_visits::{Joined, TableVisits};
+//! use std::alloc::{AllocError, Global};
+//!
+//! // Returns the key of the first visit, which is `app`.
+//! fn first_key(alloc: Global, root: &Command) -> Result<Option<Text>, AllocError> {
+//!     let flat = Flat::new(alloc, root)?;
+//!     let keys = Joined { separator: ";" };
+//!     let mut visits = TableVisits::new(alloc, &flat, "app", &keys)?;
+//!     match visits.next(alloc)? {
+//!         Some(visit) => Ok(Some(visit.key)),
+//!         None => Ok(None),
+//!     }
+//! }
+//! ```
 #![tactic(auto)]
 
 mod keys;

@@ -1,4 +1,4 @@
-//! The visits of a tree in path order, with the ends of nodes.
+//! The visits of a tree in path order, with a step at the start and at the end of each node.
 
 ghost use Rattle.std.specs.Prelude.{◌≡◌, ◌++◌, ◌<◌, length, IfOk, OnOk};
 ghost use Rattle.cc_flat.specs.Flat.{HasItsChildren, children_at};
@@ -12,16 +12,16 @@ use cc_flat::Flat;
 use std::alloc::{AllocError, Global};
 use std::marker::Model;
 
-/// A node is entered under a key, or left again.
+/// A step through a tree: a node is entered under a key, or left again.
 #[derive(Drop)]
 pub enum PathStep<'a> {
-    /// The node is entered: what is below it comes next.
+    /// The node is entered. The nodes below it come next.
     Enter(Visit<'a>),
-    /// The node is left: everything below it has come.
+    /// The node is left. Everything below it has been visited.
     Leave(Visit<'a>),
 }
 
-// A node that is still to be entered or left, under this key.
+// A node that is yet to be entered or left under a key.
 #[derive(Drop)]
 pub(crate) struct StepItem {
     pub above: usize,
@@ -30,16 +30,19 @@ pub(crate) struct StepItem {
     pub leaving: bool,
 }
 
-/// The steps through a tree that are still to come, in path order: the root is entered under its
-/// key; then child by child, and for each key of the child in turn, the child is entered, followed
-/// by all below it, and left; at last the root is left.
+/// The remaining steps through a tree, in path order:
 ///
-/// A clause sees the list of steps.
+/// - The root is entered under its key.
+/// - Then come its children, one after another. For each of its keys a child is entered, followed
+///   by everything below it, and left.
+/// - At the end the root is left.
+///
+/// Clauses see the list of steps.
 #[derive(Drop)]
 pub struct PathSteps<'f, 'a, K: KeyScheme> {
     flat: &'f Flat<'a>,
     keys: &'f K,
-    // what is still to come, the next one last
+    // the remaining items, the next one last
     stack: Vec<StepItem>,
 }
 
@@ -68,7 +71,11 @@ impl<'f, 'a, K: KeyScheme> PathSteps<'f, 'a, K> {
     ghost use Rattle.cc_visits.specs.Visits.{path_steps, steps_below};
     ghost use Rattle.cc_visits.specs.Meaning.{step_of};
 
-    /// All steps, from entering the root under the key to leaving it. Fails where memory runs out.
+    /// Returns all steps, from entering the root under `key` to leaving it.
+    ///
+    /// # Errors
+    ///
+    /// `AllocError` if an allocation fails.
     #[tactic(auto, using(crate::proofs::FromStack::from_stack_one, crate::proofs::StepStack::AreListed_one))]
     pub fn new(
         alloc: Global,
@@ -91,8 +98,12 @@ impl<'f, 'a, K: KeyScheme> PathSteps<'f, 'a, K> {
         Ok(PathSteps { flat, keys, stack })
     }
 
-    /// The steps below the root, which has the key and is itself neither entered nor left. Fails
-    /// where memory runs out.
+    /// Returns the steps below the root. The root has the given `key`, and is itself neither
+    /// entered nor left.
+    ///
+    /// # Errors
+    ///
+    /// `AllocError` if an allocation fails.
     #[tactic(auto, using(crate::proofs::StepStack::steps_begin, crate::proofs::StepStack::begin_listed))]
     pub fn below(
         alloc: Global,
@@ -109,8 +120,12 @@ impl<'f, 'a, K: KeyScheme> PathSteps<'f, 'a, K> {
         Ok(PathSteps { flat, keys, stack })
     }
 
-    /// The next step; `None` where none is left. Fails where memory runs out. What later calls
-    /// return is then open: steps may be missing, or leave a node that was not entered.
+    /// Returns the next step, or `None` if none remains.
+    ///
+    /// # Errors
+    ///
+    /// `AllocError` if an allocation fails. The contract then says nothing of later calls: steps
+    /// may be missing, or leave a node that was not entered.
     #[tactic(auto, using(crate::proofs::StepStack::step_enter, crate::proofs::StepStack::step_leave, crate::proofs::StepStack::steps_listed, crate::proofs::StepStack::AreListed_rest, crate::proofs::StepStack::AreListed_push, crate::proofs::StepStack::AreListed_top, crate::proofs::StepStack::AreListed_above, crate::proofs::FromStack::from_stack_none))]
     pub fn next(&mut self, alloc: Global) -> Result<Option<PathStep<'a>>, AllocError>
         ensures first { IfOk result
@@ -143,7 +158,7 @@ impl<'f, 'a, K: KeyScheme> PathSteps<'f, 'a, K> {
     }
 }
 
-// The children of a node, each under its keys below the node's key.
+// Returns the children of a node, each under its keys below the node's key.
 fn items_below<K: KeyScheme>(
     alloc: Global,
     flat: &Flat<'_>,

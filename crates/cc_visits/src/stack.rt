@@ -1,11 +1,15 @@
-//! The stack on which a walk keeps what is still to be visited.
+//! The stack on which a walk keeps what remains to be visited.
 
 ghost use Rattle.std.specs.Prelude.{◌≡◌, ◌++◌, reverse, is_ok, if◌then◌else◌};
 
 use std::alloc::AllocError;
 
-/// Moves items onto a stack, the first one last, so that it is on top. Where memory runs out, the
-/// stack is as it was.
+/// Moves `items` onto `stack` so that the first item is on top. If an allocation fails, the stack
+/// stays as it was.
+///
+/// # Errors
+///
+/// `AllocError` if an allocation fails.
 pub(crate) fn push_reversed<T: Drop>(
     stack: &mut Vec<T>,
     mut items: Vec<T>,

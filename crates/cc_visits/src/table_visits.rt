@@ -13,7 +13,7 @@ use cc_flat::Flat;
 use std::alloc::{AllocError, Global};
 use std::marker::Model;
 
-// A child that is still to be visited, under one key of its parent.
+// A child that is yet to be visited, under one key of its parent.
 #[derive(Drop)]
 pub(crate) struct TableItem {
     pub above: usize,
@@ -21,21 +21,22 @@ pub(crate) struct TableItem {
     pub key: SharedKey,
 }
 
-/// The visits of a tree that are still to come, in table order: the root under its key; then child
-/// by child, and for each key of the parent in turn, the child under each of its keys, then all
-/// below it.
+/// The remaining visits of a tree, in table order:
 ///
-/// A clause sees the list of visits.
+/// - The root is visited under its key.
+/// - Then come its children, one after another. For each key of the parent, the child is visited
+///   under each of its own keys, followed by everything below it.
+///
+/// Clauses see the list of visits.
 #[derive(Drop)]
 pub struct TableVisits<'f, 'a, K: KeyScheme> {
     flat: &'f Flat<'a>,
     keys: &'f K,
-    // the node that is being visited, the node above it, and its keys that are still to come, the
-    // next one last
+    // the node that is being visited, the node above it, and its remaining keys, the next one last
     number: usize,
     above: usize,
     ready: Vec<Text>,
-    // what comes after it, the next one last
+    // the items after it, the next one last
     stack: Vec<TableItem>,
 }
 
@@ -70,7 +71,11 @@ impl<'f, 'a, K: KeyScheme> TableVisits<'f, 'a, K> {
     ghost use Rattle.cc_visits.specs.Visits.{table_visits};
     ghost use Rattle.cc_visits.specs.Meaning.{visit_of};
 
-    /// All visits: the root under the key, then all below it. Fails where memory runs out.
+    /// Returns all visits: the root under `key`, then everything below it.
+    ///
+    /// # Errors
+    ///
+    /// `AllocError` if an allocation fails.
     #[tactic(auto, using(crate::proofs::TableStack::tables_begin, crate::proofs::TableStack::tables_listed))]
     pub fn new(
         alloc: Global,
@@ -96,8 +101,12 @@ impl<'f, 'a, K: KeyScheme> TableVisits<'f, 'a, K> {
         })
     }
 
-    /// The next visit; `None` where none is left. Fails where memory runs out. What later calls
-    /// return is then open: visits may be missing, or be of a node with a key of another.
+    /// Returns the next visit, or `None` if none remains.
+    ///
+    /// # Errors
+    ///
+    /// `AllocError` if an allocation fails. The contract then says nothing of later calls: visits
+    /// may be missing, or show a node with the key of another.
     #[tactic(auto, using(crate::proofs::TableStack::table_later, crate::proofs::TableStack::some_key, crate::proofs::TableStack::tables_end, crate::proofs::TableStack::table_listed, crate::proofs::TableStack::AreListed_rest, crate::proofs::TableStack::AreListed_top, crate::proofs::TableStack::AreListed_above))]
     pub fn next(&mut self, alloc: Global) -> Result<Option<Visit<'a>>, AllocError>
         ensures first { IfOk result
@@ -124,8 +133,8 @@ impl<'f, 'a, K: KeyScheme> TableVisits<'f, 'a, K> {
     }
 }
 
-// Puts the children of a node on the stack, each under each of the node's keys, the first one last.
-// Most nodes have none, and cost no call.
+// Puts the children of a node on the stack, each under each of the node's keys, so that the first
+// is on top. Most nodes have no children, and cost no call.
 #[tactic(auto, using(crate::proofs::TableStack::no_items))]
 #[inline(always)]
 fn push_below(
@@ -149,7 +158,7 @@ fn push_below(
     push_reversed(stack, below)
 }
 
-// The children of a node, each under each of the node's keys.
+// Returns the children of a node, each under each of the node's keys.
 #[inline(never)]
 fn items_below(
     alloc: Global,
@@ -171,7 +180,7 @@ fn items_below(
     Ok(items)
 }
 
-// A copy of each key, to be shared.
+// Copies each key so that it can be shared.
 fn shared_keys(alloc: Global, keys: &[Text]) -> Result<Vec<SharedKey>, AllocError>
     ensures { IfOk result (λ shared. shared.items ≡ keys.now) }
 {
@@ -182,7 +191,7 @@ fn shared_keys(alloc: Global, keys: &[Text]) -> Result<Vec<SharedKey>, AllocErro
     Ok(shared)
 }
 
-// Adds a node under each of the keys of its parent.
+// Adds a node under each of its parent's keys.
 fn push_shared(
     items: &mut Vec<TableItem>,
     above: usize,

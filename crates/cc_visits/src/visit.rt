@@ -14,13 +14,14 @@ use cc_flat::Flat;
 pub struct Visit<'a> {
     /// The key.
     pub key: Text,
-    /// The node above it: its parent, or the root itself where the root is visited.
+    /// The node above it: its parent, or the root itself if the root is visited.
     pub above: &'a Command,
     /// The node, with everything below it.
     pub command: &'a Command,
 }
 
-/// The visit of the node with a number, where the node above it has this one.
+/// Returns the visit of the node with a `number` under `key`. `above` is the number of the node
+/// above it.
 pub(crate) fn visit_at<'a>(flat: &Flat<'a>, above: usize, number: usize, key: Text) -> Visit<'a>
     requires above { above < length flat.now }
     requires number { number < length flat.now }

@@ -1,4 +1,4 @@
-//! Building a command: what is missing is added and filled in, all the way down.
+//! Building a command: adds and fills in what is missing, in the command and in all below it.
 
 ghost use Rattle.std.specs.Prelude.{◌≡◌, ◌++◌, [], Some, IfOk, IfErr, IsTrue, OnOk, OnErr};
 ghost use Rattle.std.specs.Result.{IsOk};
@@ -29,14 +29,20 @@ use std::alloc::{AllocError, Global};
 use std::vec::IntoIter;
 
 impl Command {
-    /// Builds the command and all below it: gives each child the global arguments of its parent
-    /// whose ids it lacks; adds the flag `help`, the flag `version` where there is a version, and
-    /// the child `help` where there are children, each unless it is disabled or there already;
-    /// fills in ranges, actions and indexes; and names every child in full. A plain command stays
-    /// plain, and quiet possible values stay quiet. Building a built command changes nothing and
-    /// never fails.
+    /// Builds the command and all commands below it:
     ///
-    /// Fails with `Memory` alone; the command is then unchanged.
+    /// - Each child gets the global arguments of its parent, except those whose ids it has already.
+    /// - Each command gets the flag `help`. If it has a version, it gets the flag `version`. If it
+    /// has children, it gets the child `help`. None of them is added if it is disabled or exists
+    /// already. - Ranges, actions and indexes are filled in. - Each child gets its full name as its
+    /// bin name.
+    ///
+    /// A plain command stays plain, and quiet possible values stay quiet. Building a built command
+    /// changes nothing and never fails.
+    ///
+    /// # Errors
+    ///
+    /// `Memory` if an allocation fails. The command is then unchanged.
     pub fn build(&mut self, alloc: Global) -> Result<(), Error>
         ensures ok { OnOk result (self.new ≡ built_tree self.old) }
         ensures whole { OnOk result (built_tree self.new ≡ self.new) }
@@ -56,7 +62,7 @@ impl Command {
         Ok(())
     }
 
-    // Puts what building adds to the command, then to those below it, after the other additions.
+    // Appends the additions to the command, then those to the commands below it.
     #[cycle(additions)]
     fn push_additions(
         &self,
@@ -80,7 +86,7 @@ impl Command {
         Ok(())
     }
 
-    // The command's full name under its new bin name.
+    // Returns the full name of the command under its new bin name.
     fn full_name_with<'a>(&'a self, addition: &'a Addition) -> &'a str
         ensures { result.now
             ≡ full_name (record self.now.node { bin_name = addition.now.bin_name }) }
@@ -91,7 +97,7 @@ impl Command {
         }
     }
 
-    // Copies of what the command propagates: the flags that building adds are not global.
+    // Copies the arguments that the children inherit. The flags that building adds are not global.
     fn globals_with(&self, alloc: Global, addition: &Addition) -> Result<Vec<Arg>, AllocError>
         ensures { IfOk result (λ kept. kept.items
             ≡ globals (self.now.node.arguments ++ addition.now.arguments.items)) }
@@ -102,7 +108,7 @@ impl Command {
         Ok(kept)
     }
 
-    // Puts in the additions to the command and all below it.
+    // Puts the additions into the command and into all commands below it.
     #[cycle(built)]
     fn put_in(&mut self, alloc: Global, additions: &mut IntoIter<Addition>)
         requires suit { SuitTree self.old (into_iter_items additions.old) }
@@ -117,10 +123,12 @@ impl Command {
 }
 
 /// Sets the bin name of a command and builds it, both or neither. A plain command stays plain under
-/// a plain bin name, and quiet possible values stay quiet. A free function, so that `clap_complete`
-/// need not re-export it.
+/// a plain bin name, and quiet possible values stay quiet. This is a free function, so that
+/// `clap_complete` does not re-export it.
 ///
-/// Fails with `Memory` alone; the command is then unchanged.
+/// # Errors
+///
+/// `Memory` if an allocation fails. The command is then unchanged.
 pub fn build_as(command: &mut Command, alloc: Global, bin_name: String) -> Result<(), Error>
     ensures ok { OnOk result
         (command.new ≡ built_under (Some (string_bytes bin_name)) command.old) }
@@ -136,7 +144,7 @@ pub fn build_as(command: &mut Command, alloc: Global, bin_name: String) -> Resul
     Ok(())
 }
 
-// First everything is allocated, then it is put in by steps that cannot fail.
+// Allocates everything first. The steps that then change the command cannot fail.
 fn build_under(
     command: &mut Command,
     alloc: Global,

@@ -1,4 +1,4 @@
-//! What can be set of a command.
+//! The builders of a command.
 
 ghost use Rattle.std.specs.Prelude.{◌≡◌, ◌++◌, ◌∷◌, [], Some, IfOk, IfErr, OnOk, false};
 ghost use Rattle.std.specs.String.{string_bytes};
@@ -11,7 +11,7 @@ use cc_base::{Error, SubcommandCandidates, Text};
 use std::alloc::AllocError;
 
 impl Command {
-    /// Sets the name by which the program is called.
+    /// Sets the bin name: the name by which users call the program.
     pub fn bin_name(mut self, name: String) -> Command
         ensures { result
             ≡ with_root (λ node. record node { bin_name = Some (string_bytes name) }) self }
@@ -20,7 +20,7 @@ impl Command {
         self
     }
 
-    /// Sets the name by which the program is called, in place.
+    /// Sets the bin name in place.
     pub fn set_bin_name(&mut self, name: String)
         ensures { self.new
             ≡ with_root (λ node. record node { bin_name = Some (string_bytes name) }) self.old }
@@ -29,7 +29,7 @@ impl Command {
         self.node.bin_name = Some(Text::from(name));
     }
 
-    /// Sets what the command says of itself.
+    /// Sets the description.
     pub fn about(mut self, about: String) -> Command
         ensures { result
             ≡ with_root (λ node. record node { about = Some (string_bytes about) }) self }
@@ -39,8 +39,8 @@ impl Command {
         self
     }
 
-    /// Sets what a parser's long help says in place of `about`. Scripts and candidates do not
-    /// change.
+    /// Sets the description in a parser's long help, instead of `about`. Scripts and candidates do
+    /// not change.
     pub fn long_about(mut self, about: String) -> Command
         ensures { result
             ≡ with_root (λ node. record node { long_about = Some (string_bytes about) }) self }
@@ -50,7 +50,7 @@ impl Command {
         self
     }
 
-    /// Sets what a parser's help ends with. Scripts and candidates do not change.
+    /// Sets the text at the end of a parser's help. Scripts and candidates do not change.
     pub fn after_help(mut self, text: String) -> Command
         ensures { result
             ≡ with_root (λ node. record node { after_help = Some (string_bytes text) }) self }
@@ -60,7 +60,7 @@ impl Command {
         self
     }
 
-    /// Sets the version, which a flag shows.
+    /// Sets the version, which the flag `--version` shows.
     pub fn version(mut self, version: String) -> Command
         ensures { result
             ≡ with_root (λ node. record node { version = Some (string_bytes version) }) self }
@@ -70,7 +70,11 @@ impl Command {
         self
     }
 
-    /// Adds a name that a parser takes and that is not shown. Fails with `Memory` alone.
+    /// Adds a hidden alias: a parser accepts it, but it is not shown.
+    ///
+    /// # Errors
+    ///
+    /// `Memory` if an allocation fails.
     pub fn alias(mut self, alias: String) -> Result<Command, Error>
         ensures ok { IfOk result (λ command. command ≡ with_root
             (λ node. record node { aliases = node.aliases ++ string_bytes alias ∷ [] }) self) }
@@ -81,7 +85,11 @@ impl Command {
         Ok(added.map(|()| self)?)
     }
 
-    /// Adds a name that is shown. Fails with `Memory` alone.
+    /// Adds a visible alias.
+    ///
+    /// # Errors
+    ///
+    /// `Memory` if an allocation fails.
     pub fn visible_alias(mut self, alias: String) -> Result<Command, Error>
         ensures ok { IfOk result (λ command. command ≡ with_root (λ node. record node {
           visible_aliases = node.visible_aliases ++ string_bytes alias ∷ [];
@@ -93,8 +101,8 @@ impl Command {
         Ok(added.map(|()| self)?)
     }
 
-    /// Says whether the command is hidden: live completion then offers it only where no visible
-    /// candidate is left. Scripts have it all the same.
+    /// Sets whether the command is hidden. Live completion offers a hidden command only if no
+    /// visible candidate matches. Scripts contain it anyway.
     pub fn hide(mut self, hide: bool) -> Command
         ensures { result ≡ with_root (λ node. record node { hide = hide }) self }
     {
@@ -103,8 +111,7 @@ impl Command {
         self
     }
 
-    /// Sets the display order among the children of a parent, which sorts the candidates of live
-    /// completion.
+    /// Sets the display order among siblings, which sorts the candidates of live completion.
     pub fn display_order(mut self, order: usize) -> Command
         ensures { result ≡ with_root (λ node. record node { display_order = Some order }) self }
     {
@@ -113,7 +120,7 @@ impl Command {
         self
     }
 
-    /// Sets the heading of the children, with which live completion tags their candidates.
+    /// Sets the help heading of the children, with which live completion tags their candidates.
     pub fn subcommand_help_heading(mut self, heading: String) -> Command
         ensures { result ≡ with_root
             (λ node. record node { subcommand_help_heading = Some (string_bytes heading) }) self }
@@ -123,8 +130,12 @@ impl Command {
         self
     }
 
-    /// Adds an argument. One that is no positional takes the command's next display order, unless
-    /// it has its own; the order is used up all the same. Fails with `Memory` alone.
+    /// Adds an argument. If it is an option or a flag, it uses up the next display order of the
+    /// command, and gets it unless it has a display order of its own.
+    ///
+    /// # Errors
+    ///
+    /// `Memory` if an allocation fails.
     pub fn arg(mut self, argument: Arg) -> Result<Command, Error>
         ensures ok { IfOk result (λ command.
             command ≡ record self { node = with_argument self.node argument }) }
@@ -134,8 +145,12 @@ impl Command {
         Ok(added.map(|()| self)?)
     }
 
-    /// Adds a child. It takes the command's next display order, unless it has its own; the order
-    /// is used up all the same. Fails with `Memory` alone.
+    /// Adds a child. It uses up the next display order of the command, and gets it unless it has a
+    /// display order of its own.
+    ///
+    /// # Errors
+    ///
+    /// `Memory` if an allocation fails.
     pub fn subcommand(mut self, child: Command) -> Result<Command, Error>
         ensures ok { IfOk result (λ command. command ≡ with_child self child) }
         ensures memory { IfErr result (λ error. error ≡ Error.Memory) }
@@ -144,7 +159,7 @@ impl Command {
         Ok(added.map(|()| self)?)
     }
 
-    /// Says whether the flag `help` is left out.
+    /// Sets whether to omit the generated flag `--help`.
     pub fn disable_help_flag(mut self, disable: bool) -> Command
         ensures { result ≡ with_root (λ node. record node { disable_help_flag = disable }) self }
     {
@@ -153,7 +168,7 @@ impl Command {
         self
     }
 
-    /// Says whether the flag `version` is left out.
+    /// Sets whether to omit the generated flag `--version`.
     pub fn disable_version_flag(mut self, disable: bool) -> Command
         ensures { result
             ≡ with_root (λ node. record node { disable_version_flag = disable }) self }
@@ -163,7 +178,7 @@ impl Command {
         self
     }
 
-    /// Says whether the child `help` is left out.
+    /// Sets whether to omit the generated child `help`.
     pub fn disable_help_subcommand(mut self, disable: bool) -> Command
         ensures { result
             ≡ with_root (λ node. record node { disable_help_subcommand = disable }) self }
@@ -173,7 +188,7 @@ impl Command {
         self
     }
 
-    /// Says whether words that name no child are taken as the names of other programs.
+    /// Sets whether a word that is not the name of a child is the name of another program.
     pub fn allow_external_subcommands(mut self, allow: bool) -> Command
         ensures { result
             ≡ with_root (λ node. record node { allow_external_subcommands = allow }) self }
@@ -183,7 +198,7 @@ impl Command {
         self
     }
 
-    /// Says whether the words of a call do not begin with the program's name.
+    /// Sets whether the words of a command line begin without the program's name.
     pub fn no_binary_name(mut self, none: bool) -> Command
         ensures { result ≡ with_root (λ node. record node { no_binary_name = none }) self }
     {
@@ -192,7 +207,7 @@ impl Command {
         self
     }
 
-    /// Says whether a subcommand has to follow. Scripts and candidates do not change.
+    /// Sets whether a parser requires a subcommand. Scripts and candidates do not change.
     pub fn subcommand_required(mut self, required: bool) -> Command
         ensures { result
             ≡ with_root (λ node. record node { subcommand_required = required }) self }
@@ -202,7 +217,7 @@ impl Command {
         self
     }
 
-    /// Says whether a parser shows the help where there are no arguments. Scripts and candidates do
+    /// Sets whether a parser shows the help if there are no arguments. Scripts and candidates do
     /// not change.
     pub fn arg_required_else_help(mut self, help: bool) -> Command
         ensures { result
@@ -213,7 +228,7 @@ impl Command {
         self
     }
 
-    /// Sets the number of the list that names of other programs are taken from.
+    /// Sets the list that has the names of other programs, by its number.
     pub fn add(mut self, candidates: SubcommandCandidates) -> Command
         ensures { result ≡ with_root (λ node. record node { candidates = Some candidates }) self }
     {
@@ -222,7 +237,7 @@ impl Command {
         self
     }
 
-    // This keeps a built command built.
+    // Sets the display order if none is set. A built command stays built.
     fn fill_display_order(&mut self, order: usize)
         ensures { self.new ≡ record self.old { node = ordered_node order self.old.node } }
     {
@@ -230,11 +245,15 @@ impl Command {
     }
 }
 
-// What adds in place is a free function, so that `clap_complete` need not re-export it.
+// These are free functions, so that `clap_complete` does not re-export them.
 
-/// Adds an argument to a node, which is then not built. One that is no positional takes the node's
-/// next display order, unless it has its own; the order is used up all the same. Fails where the
-/// allocation fails, and then drops the argument.
+/// Adds an argument to a node, which then counts as not built. If the argument is an option or a
+/// flag, it uses up the next display order of the node, and gets it unless it has a display order
+/// of its own.
+///
+/// # Errors
+///
+/// `AllocError` if the allocation fails. The argument is then dropped.
 pub fn add_argument(node: &mut Node, mut argument: Arg) -> Result<(), AllocError>
     ensures ok { OnOk result (node.new ≡ with_argument node.old argument) }
     ensures built { node.new.built ≡ false }
@@ -248,9 +267,12 @@ pub fn add_argument(node: &mut Node, mut argument: Arg) -> Result<(), AllocError
     Ok(())
 }
 
-/// Adds a child to a command, which is then not built. The child takes the command's next display
-/// order, unless it has its own; the order is used up all the same. Fails where the allocation
-/// fails, and then drops the child.
+/// Adds a child to a command, which then counts as not built. The child uses up the next display
+/// order of the command, and gets it unless it has a display order of its own.
+///
+/// # Errors
+///
+/// `AllocError` if the allocation fails. The child is then dropped.
 pub fn add_child(command: &mut Command, mut child: Command) -> Result<(), AllocError>
     ensures ok { OnOk result (command.new ≡ with_child command.old child) }
 {
@@ -261,8 +283,8 @@ pub fn add_child(command: &mut Command, mut child: Command) -> Result<(), AllocE
     Ok(())
 }
 
-// The first child gets room for itself alone, since a `Vec` would begin with room for four, and in
-// a deep tree most commands have one child.
+// Adds a child at the end. The first child gets room for one only: a `Vec` would begin with room
+// for four, but in a deep tree most commands have one child.
 fn push_child(children: &mut Vec<Command>, child: Command) -> Result<(), AllocError>
     ensures ok { OnOk result (children.new.items ≡ children.old.items ++ child ∷ []) }
 {

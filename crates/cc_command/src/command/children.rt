@@ -9,14 +9,14 @@ use crate::command::Command;
 use crate::command::getters::has_name;
 
 impl Command {
-    /// The children in the order in which they were added.
+    /// Returns the children, in the order in which they were added.
     pub fn get_subcommands(&self) -> &[Command]
         ensures { forest_of result.now ≡ self.now.children }
     {
         &self.children
     }
 
-    /// Whether there are children.
+    /// Returns whether the command has children.
     #[tactic(auto, using(crate::proofs::Forests::has_nodes_forest_of))]
     pub fn has_subcommands(&self) -> bool
         ensures { result ≡ has_nodes self.now.children }
@@ -24,7 +24,7 @@ impl Command {
         !self.children.is_empty()
     }
 
-    /// The first child whose name or alias, visible or hidden, is the word.
+    /// Returns the first child that has the word as its name or as an alias, visible or hidden.
     pub fn find_subcommand(&self, word: &str) -> Option<&Command>
         ensures { option_copied result ≡ find_child self.now.children word.now }
     {

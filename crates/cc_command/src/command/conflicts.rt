@@ -1,4 +1,4 @@
-//! The arguments of a command that may not be given together with one.
+//! The arguments of a command that cannot be given together with one of them.
 
 ghost use Rattle.std.specs.Prelude.{◌≡◌, map, IfOk, IfErr};
 ghost use Rattle.std.specs.Option.{option_copied};
@@ -10,10 +10,13 @@ use cc_base::Error;
 use std::alloc::Global;
 
 impl Command {
-    /// The arguments that may not be given together with this one: for each id that it names, in
-    /// order, the command's first argument with that id. An id that none has is passed over.
+    /// Returns the arguments that cannot be given together with `argument`: for each id that it
+    /// names, in order, the first argument of the command with that id. Skips an id that no
+    /// argument of the command has.
     ///
-    /// Fails with `Memory` alone.
+    /// # Errors
+    ///
+    /// `Memory` if an allocation fails.
     pub fn get_arg_conflicts_with<'a>(
         &'a self,
         alloc: Global,
@@ -34,7 +37,7 @@ impl Command {
     }
 }
 
-/// The first of the arguments that has the id.
+/// Returns the first of the arguments that has the id.
 pub fn first_with_id<'a>(arguments: &'a [Arg], id: &str) -> Option<&'a Arg>
     ensures { option_copied result ≡ first_with_id arguments.now id.now }
 {

@@ -1,4 +1,4 @@
-//! Whether the descriptions of a tree hold no quote that a PowerShell script leaves as it is.
+//! The check for quotes in descriptions that a PowerShell script does not escape.
 
 ghost use Rattle.std.specs.Prelude.{◌≡◌};
 ghost use Rattle.std.specs.List.{list_all};
@@ -13,9 +13,10 @@ use crate::command::Command;
 use cc_arg::Arg;
 
 impl Command {
-    /// Whether a PowerShell script escapes each quote in the abouts of the commands and the helps
-    /// of their arguments: none of them holds U+2018, U+201A or U+201B, which PowerShell takes for
-    /// quotes and its script leaves as they are.
+    /// Returns whether a PowerShell script escapes each quote in the descriptions of the commands
+    /// and in the help texts of their arguments. This holds if none of these texts contains U+2018,
+    /// U+201A or U+201B: PowerShell treats these characters as quotes, but the script does not
+    /// escape them. Other texts of the tree do not count.
     ///
     /// Allocates nothing.
     #[cycle(escaped)]
@@ -65,8 +66,8 @@ fn is_escaped_if_some(text: Option<&str>) -> bool
     }
 }
 
-/// The first quote of a text that PowerShell takes for one and its script leaves as it is: U+2018,
-/// U+201A or U+201B. `None` where there is none.
+/// Returns the first character of a text that PowerShell treats as a quote and its script does not
+/// escape: U+2018, U+201A or U+201B.
 pub fn unescaped_quote(text: &str) -> Option<char>
     ensures { result ≡ unescaped_quote text.now }
 {
@@ -80,7 +81,7 @@ pub fn unescaped_quote(text: &str) -> Option<char>
     None
 }
 
-// The quote that a byte begins, where the rest follows it.
+// Returns the quote that begins with `byte` and continues in `rest`.
 fn quote_at(byte: u8, rest: &[u8]) -> Option<char>
     ensures { result ≡ quote_at byte rest.now }
 {

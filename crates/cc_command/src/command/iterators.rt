@@ -1,4 +1,4 @@
-//! The iterators over a command's arguments of one kind, and over its visible names.
+//! Iterators over the arguments of a command of one kind, and over its visible names.
 
 ghost use Rattle.std.specs.Prelude.{◌≡◌};
 ghost use Rattle.cc_command.specs.Iterators.{is_of_kind};
@@ -6,7 +6,7 @@ ghost use Rattle.cc_command.specs.Iterators.{is_of_kind};
 use cc_arg::Arg;
 use cc_base::Text;
 
-// A kind of arguments.
+// A kind of argument.
 #[derive(Clone, Copy)]
 enum Kind {
     Option,
@@ -14,7 +14,8 @@ enum Kind {
     Positional,
 }
 
-/// The arguments of a command that are of one kind, in the order in which they were added.
+/// An iterator over the arguments of a command that are of one kind, in the order in which they
+/// were added.
 #[derive(Drop)]
 pub struct Arguments<'a> {
     arguments: &'a [Arg],
@@ -27,7 +28,7 @@ impl<'a> Arguments<'a> {
     ghost use Rattle.cc_command.specs.ArgumentLists.{is_flag, is_option};
     ghost use Rattle.cc_command.specs.Iterators.{arguments_left};
 
-    // The options among these.
+    // Returns an iterator over the options among these arguments.
     pub(super) fn options(arguments: &'a [Arg]) -> Arguments<'a>
         ensures { arguments_left result ≡ filter is_option arguments.now }
     {
@@ -35,7 +36,7 @@ impl<'a> Arguments<'a> {
         Arguments { arguments, kind }
     }
 
-    // The flags among these.
+    // Returns an iterator over the flags among these arguments.
     pub(super) fn flags(arguments: &'a [Arg]) -> Arguments<'a>
         ensures { arguments_left result ≡ filter is_flag arguments.now }
     {
@@ -43,7 +44,7 @@ impl<'a> Arguments<'a> {
         Arguments { arguments, kind }
     }
 
-    // The positionals among these.
+    // Returns an iterator over the positionals among these arguments.
     pub(super) fn positionals(arguments: &'a [Arg]) -> Arguments<'a>
         ensures { arguments_left result ≡ filter is_positional arguments.now }
     {
@@ -73,7 +74,8 @@ impl<'a> Iterator for Arguments<'a> {
     }
 }
 
-/// The name of a command, then its visible aliases in the order in which they were added.
+/// An iterator over the name of a command, then its visible aliases in the order in which they were
+/// added.
 #[derive(Drop)]
 pub struct NameAndVisibleAliases<'a> {
     name: Option<&'a str>,

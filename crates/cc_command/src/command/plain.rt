@@ -1,4 +1,4 @@
-//! Whether a tree is plain: a script can then hold its names as they are.
+//! The check that a tree is plain: a script can then contain its names unchanged.
 
 ghost use Rattle.std.specs.Prelude.{◌≡◌, ◌&&◌, ◌||◌, ◌++◌, not};
 ghost use Rattle.std.specs.List.{list_all};
@@ -19,15 +19,15 @@ use cc_arg::Arg;
 use cc_base::{Text, is_plain_name};
 
 impl Command {
-    /// Whether the tree is plain, so that a script can hold its names as they are.
+    /// Returns whether the tree is plain, so that a script can contain its names unchanged.
     ///
-    /// Names and aliases of commands, the bin name, longs and their aliases are then plain: made of
-    /// ASCII letters and digits with single `-` or `_` between them. Shorts and their aliases are
-    /// ASCII letters or digits, ids and value names hold no `'`, and no two names or aliases of
-    /// sibling commands are the same.
+    /// In a plain tree, the names and aliases of commands, the bin name, and the longs and their
+    /// aliases are plain: they consist of ASCII letters and digits, with single `-` or `_` between
+    /// them. Shorts and their aliases are ASCII letters or digits. Ids and value names contain no
+    /// `'`. No two names or aliases of sibling commands are the same.
     ///
-    /// Allocates nothing, so that the names of siblings are compared each with each: the time grows
-    /// with the square of their number.
+    /// Allocates nothing, and so compares the names of each pair of siblings: the time grows with
+    /// the square of their number.
     pub fn is_plain(&self) -> bool
         ensures { result ≡ is_plain_tree self.now }
     {
@@ -77,7 +77,7 @@ fn is_plain_forest(siblings: &[Command]) -> bool
     true
 }
 
-// The names of one command differ among themselves too.
+// Returns whether all names of all siblings differ, also those of the same sibling.
 fn siblings_differ(siblings: &[Command]) -> bool
     ensures { result ≡ siblings_differ (forest_of siblings.now) }
 {

@@ -1,4 +1,4 @@
-//! Whether the possible values of a tree are quiet: a bash script can then hold them as they are.
+//! The check that possible values are quiet: a bash script can then contain them unchanged.
 
 ghost use Rattle.std.specs.Prelude.{◌≡◌};
 ghost use Rattle.std.specs.List.{list_all};
@@ -12,11 +12,12 @@ use crate::node::Node;
 use cc_arg::{Arg, PossibleValue, possible_values};
 
 impl Command {
-    /// Whether each possible value in the tree is quiet, also a hidden one: not empty, and made of
-    /// ASCII letters, digits and `+-./:@_,=`. A bash script holds possible values as they are; that
-    /// of a plain tree reads back whole where they are quiet.
+    /// Returns whether each possible value in the tree is quiet, including hidden ones. A quiet
+    /// value is not empty and consists of ASCII letters, digits and `+-./:@_,=`. A bash script
+    /// contains possible values unchanged. The script of a plain tree reads back completely if they
+    /// are quiet.
     ///
-    /// A possible value counts where its argument takes values. Allocates nothing.
+    /// The possible values of an argument count only if it takes values. Allocates nothing.
     #[cycle(quiet)]
     pub fn has_quiet_values(&self) -> bool
         ensures { result ≡ is_quiet_tree self.now }
@@ -58,8 +59,9 @@ fn are_quiet_values(values: &[PossibleValue]) -> bool
     values.iter().all(|value| is_quiet_value(value.get_name()))
 }
 
-/// Whether a possible value of this name is quiet: not empty, and made of ASCII letters, digits and
-/// `+-./:@_,=`. A free function, so that `clap_complete` need not re-export it.
+/// Returns whether a possible value of this name is quiet: it is not empty, and consists of ASCII
+/// letters, digits and `+-./:@_,=`. This is a free function, so that `clap_complete` does not
+/// re-export it.
 pub fn is_quiet_value(name: &str) -> bool
     ensures { result ≡ is_quiet_value name.now }
 {

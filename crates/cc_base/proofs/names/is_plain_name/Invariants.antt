@@ -3,6 +3,6 @@ use Rattle.cc_base.specs.PlainName.{is_plain_name}
 use Rattle.cc_base.proofs.PlainNames.{plain_after}
 use Rattle.cc_base.proofs.names.is_plain_name.Given as goal
 
--- the bytes that were passed over may be there
+-- whether the name is plain now depends on the bytes that remain
 abbrev pub invariant-loop-byte : goal.invariant-loop-byte
 invariant-loop-byte l = plain_after l.after_letter (drop l.byte-index l.byte-items) ≡ is_plain_name l.name

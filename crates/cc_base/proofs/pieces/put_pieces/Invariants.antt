@@ -1,7 +1,7 @@
 use Rattle.std.proofs.Common.{◌≡◌, ◌++◌, flat_map, drop}
 use Rattle.cc_base.proofs.pieces.put_pieces.Given as goal
 
--- what was taken and the pieces that are left make the whole; no put failed
+-- the bytes taken and the pieces that remain make up the whole text; no put failed
 abbrev pub invariant-loop-piece : goal.invariant-loop-piece
 invariant-loop-piece g l = record {
   whole : g.S.Sink.taken l.sink ++ flat_map (λ piece. piece.now) (drop l.piece-index l.pieces)

@@ -1,7 +1,7 @@
 use Rattle.std.proofs.Common.{◌≡◌, ◌++◌, length}
 use Rattle.cc_base.proofs.pieces.put_rest.Given as goal
 
--- `all`: what is taken and what is still to be put are together what was taken before and the slice.
+-- `all`: the bytes taken and those that remain are together the bytes taken before and the slice.
 abbrev pub invariant-loop-rest : goal.invariant-loop-rest
 invariant-loop-rest g l = record {
   all : g.S.Sink.taken l.sink ++ l.rest ≡ g.S.Sink.taken l.fn.sink ++ l.bytes;

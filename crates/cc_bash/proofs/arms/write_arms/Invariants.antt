@@ -4,7 +4,7 @@ use Rattle.cc_bash.specs.Nodes.{labelled_of}
 use Rattle.cc_bash.specs.Script.{arm_text}
 use Rattle.cc_bash.proofs.arms.write_arms.Given as goal
 
--- what was taken and the arms that are left make the whole; no put failed
+-- the bytes taken and the remaining arms make up the whole; no put failed
 abbrev pub invariant-loop-node : goal.invariant-loop-node
 invariant-loop-node g l = record {
   written : g.W.Sink.taken l.sink ++ flat_map arm_text

@@ -5,7 +5,7 @@ use Rattle.cc_bash.specs.CaseTable.{Case}
 use Rattle.cc_bash.specs.Nodes.{case_of}
 use Rattle.cc_bash.proofs.cases.push_cases.Given as goal
 
--- the cases so far and those of the names that are left make the whole
+-- the cases so far and those of the remaining names make up the whole
 abbrev pub invariant-loop-word : goal.invariant-loop-word
 invariant-loop-word l =
     map case_of l.cases.items ++ map (λ name. let c : Case =

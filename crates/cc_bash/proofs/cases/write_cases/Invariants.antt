@@ -3,7 +3,7 @@ use Rattle.cc_bash.specs.Nodes.{case_of}
 use Rattle.cc_bash.specs.Script.{case_text}
 use Rattle.cc_bash.proofs.cases.write_cases.Given as goal
 
--- what was taken and the cases that are left make the whole; no put failed
+-- the bytes taken and the remaining cases make up the whole; no put failed
 abbrev pub invariant-loop-case : goal.invariant-loop-case
 invariant-loop-case g l = record {
   whole : g.W.Sink.taken l.sink ++ flat_map case_text (map case_of (drop l.case-index l.cases))

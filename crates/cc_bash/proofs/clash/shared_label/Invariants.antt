@@ -4,7 +4,7 @@ use Rattle.cc_bash.specs.Labels.{first_again}
 use Rattle.cc_bash.specs.Seen.{is_seen}
 use Rattle.cc_bash.proofs.clash.shared_label.Given as goal
 
--- the labels of the nodes that were passed over are seen, and none of them occurred twice
+-- the labels of the nodes before the index have been seen, and none of them occurred twice
 abbrev pub invariant-loop-node : goal.invariant-loop-node
 invariant-loop-node l = record {
   seen : (word : List ℕ) → is_seen l.seen word

@@ -4,7 +4,7 @@ use Rattle.cc_bash.specs.Arms.{option_details}
 use Rattle.cc_bash.specs.Script.{detail_text}
 use Rattle.cc_bash.proofs.details.write_details.Given as goal
 
--- what was taken and the details that are left make the whole; no put failed
+-- the bytes taken and the remaining details make up the whole; no put failed
 abbrev pub invariant-loop-option : goal.invariant-loop-option
 invariant-loop-option g l = record {
   written : g.W.Sink.taken l.sink

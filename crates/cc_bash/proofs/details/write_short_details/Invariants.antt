@@ -6,7 +6,7 @@ use Rattle.cc_bash.specs.Arms.{detail_of}
 use Rattle.cc_bash.specs.Script.{detail_text}
 use Rattle.cc_bash.proofs.details.write_short_details.Given as goal
 
--- what was taken and the details that are left make the whole; no put failed
+-- the bytes taken and the remaining details make up the whole; no put failed
 abbrev pub invariant-loop-short : goal.invariant-loop-short
 invariant-loop-short g l = record {
   written : g.W.Sink.taken l.sink ++ flat_map detail_text

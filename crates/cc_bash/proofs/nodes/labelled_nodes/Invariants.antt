@@ -6,7 +6,7 @@ use Rattle.cc_bash.specs.Nodes.{labelled_of}
 use Rattle.cc_bash.proofs.LabelledPath.{labelled_along}
 use Rattle.cc_bash.proofs.nodes.labelled_nodes.Given as goal
 
--- the nodes so far and those that are left make the whole
+-- the nodes so far and the remaining nodes make up the whole
 abbrev pub invariant-loop-node : goal.invariant-loop-node
 invariant-loop-node l =
     map labelled_of l.nodes.items ++ labelled_along l.root l.path.items (nodes_left l.node-iterator)

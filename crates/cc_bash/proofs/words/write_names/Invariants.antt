@@ -5,7 +5,7 @@ use Rattle.cc_command.specs.Names.{visible_names}
 use Rattle.cc_bash.specs.Words.{words_after}
 use Rattle.cc_bash.proofs.words.write_names.Given as goal
 
--- what was taken and the names that are left make the whole; no put failed
+-- the bytes taken and the remaining names make up the whole; no put failed
 abbrev pub invariant-loop-name : goal.invariant-loop-name
 invariant-loop-name g l = record {
   written : g.W.Sink.taken l.sink ++ words_after l.begun (names_left l.name-iterator)

@@ -4,7 +4,7 @@ use Rattle.cc_bash.specs.Nodes.{part_words}
 use Rattle.cc_bash.specs.Words.{words_after}
 use Rattle.cc_bash.proofs.words.write_part.Given as goal
 
--- what was taken and the words that are left make the whole; no put failed
+-- the bytes taken and the remaining words make up the whole; no put failed
 abbrev pub invariant-loop-argument : goal.invariant-loop-argument
 invariant-loop-argument g l = record {
   written : g.W.Sink.taken l.sink ++ words_after l.begun

@@ -4,7 +4,7 @@ use Rattle.cc_generator.specs.ArgumentNames.{short_word}
 use Rattle.cc_bash.specs.Words.{words_after}
 use Rattle.cc_bash.proofs.words.write_short_words.Given as goal
 
--- what was taken, the aliases that are left and the short make the whole; no put failed
+-- the bytes taken, the remaining aliases and the short make up the whole; no put failed
 abbrev pub invariant-loop-alias : goal.invariant-loop-alias
 invariant-loop-alias g l = record {
   written : g.W.Sink.taken l.sink ++ words_after l.begun

@@ -3,7 +3,7 @@ use Rattle.cc_bash.specs.Arms.{names_of_shown}
 use Rattle.cc_bash.specs.Words.{words_after, words_text}
 use Rattle.cc_bash.proofs.words.write_shown_values.Given as goal
 
--- what was taken and the values that are left make the whole; no put failed
+-- the bytes taken and the remaining values make up the whole; no put failed
 abbrev pub invariant-loop-value : goal.invariant-loop-value
 invariant-loop-value g l = record {
   written : g.W.Sink.taken l.sink ++ words_after l.begun

@@ -21,7 +21,7 @@ Command::put_in-put_before-requires t c =
           (sym (ap (λ (tree : Tree). sibling_count tree.children) c.self.view_is) ∙ sibling_count-forest_of old ∙ sym c.self.inside.children.ok.0 ∙ sym same ∙ sym (ap length full));
     }
 
--- the fields that are put in make a tree that is built by its additions
+-- the fields that were set make a tree that is built by its additions
 is_built : (t : ℕ) (c : goal.Command::put_in-After-finish t) →
     IsBuiltBy c.args.self.now (into_iter_items c.args.additions.now) (record { node = c.finish.new.node; children = forest_of c.put_before.new.items.items }) (into_iter_items c.put_in_all.new.additions)
 is_built t c =

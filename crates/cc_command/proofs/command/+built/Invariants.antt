@@ -4,7 +4,7 @@ use Rattle.cc_command.specs.Tree.{forest_of}
 use Rattle.cc_command.proofs.PutIn.{IsPutUpTo}
 use Rattle.cc_command.proofs.command.+built.Given as goal
 
--- the siblings that were passed over are built, and the list has the additions to the others
+-- the visited siblings are built, and the list has the additions to the others
 abbrev pub invariant-build::put_in_all-loop-sibling : goal.invariant-build::put_in_all-loop-sibling
 invariant-build::put_in_all-loop-sibling l = record {
   unvisited : goal.unvisited-build::put_in_all-loop-sibling l;

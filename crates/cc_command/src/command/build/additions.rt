@@ -1,4 +1,4 @@
-//! What building adds to a tree: it is allocated before the tree is changed.
+//! The additions that building makes to a tree. They are allocated before the tree changes.
 
 ghost use Rattle.std.specs.Prelude.{◌≡◌, IfOk};
 ghost use Rattle.cc_command.specs.Tree.{forest_of};
@@ -13,20 +13,20 @@ use cc_arg::Arg;
 use cc_base::Text;
 use std::alloc::{AllocError, Global};
 
-/// What building adds to one command. Each list has room for what the command has of its own, which
-/// then comes before; one that adds nothing needs none.
+/// The additions to one command. Each list has room for those that the command has already, which
+/// then come before. A list that adds nothing needs no room.
 #[derive(Drop)]
 pub(super) struct Addition {
-    /// The bin name that the command gets.
+    /// The new bin name of the command.
     pub bin_name: Option<Text>,
-    /// The arguments that the command lacks.
+    /// The arguments that are missing.
     pub arguments: Vec<Arg>,
-    /// The generated child `help`, where it is missing.
+    /// The generated child `help`, if it is missing.
     pub children: Vec<Command>,
 }
 
-// `inherited` is what the parent propagates. Never inlined, so that each level of a tree takes less
-// of the stack.
+// Makes the additions to a command whose parent propagates `inherited`. This is never inlined, so
+// that each level of a tree needs less of the stack.
 #[inline(never)]
 pub(super) fn addition_to(
     command: &Command,
@@ -51,7 +51,7 @@ pub(super) fn addition_to(
     })
 }
 
-// `name` is the command's full name.
+// Makes the child `help` if it is missing. `name` is the full name of the command.
 fn missing_children(
     node: &Node,
     children: &[Command],

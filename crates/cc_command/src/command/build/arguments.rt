@@ -1,4 +1,4 @@
-//! The arguments that building adds, and what it fills in.
+//! The arguments that building adds, and the values that it fills in.
 
 ghost use Rattle.std.specs.Prelude.{◌≡◌, ◌∷◌, ◌++◌, [], map, length, IfOk, OnOk};
 ghost use Rattle.cc_arg.specs.Arguments.{filled};
@@ -14,8 +14,8 @@ use crate::node::Node;
 use cc_arg::{Arg, ArgAction, copy_of, fill_display_order, fill_index, fill_range_and_action};
 use std::alloc::{AllocError, Global};
 
-// Copies of the arguments that a node lacks: those of `inherited`, then `help` and `version`. The
-// list has room for the node's own.
+// Makes the arguments that a node lacks: copies of those of `inherited`, then `help` and `version`.
+// The list has room for the node's own arguments too.
 pub(super) fn missing_arguments(
     node: &Node,
     alloc: Global,
@@ -36,7 +36,7 @@ pub(super) fn missing_arguments(
     Ok(missing)
 }
 
-// Copies of those that a node inherits and lacks.
+// Copies the inherited arguments that a node lacks.
 fn missing_inherited(node: &Node, alloc: Global, inherited: &[Arg]) -> Result<Vec<Arg>, AllocError>
     ensures ok { IfOk result (λ missing.
         node.now.arguments ++ missing.items ≡ given_arguments inherited.now node.now) }
@@ -47,7 +47,7 @@ fn missing_inherited(node: &Node, alloc: Global, inherited: &[Arg]) -> Result<Ve
     missing_copies(node.arguments.as_slice(), alloc, inherited)
 }
 
-// Copies of the others whose ids are missing.
+// Copies the arguments of `others` whose ids are missing from `own`.
 fn missing_copies(own: &[Arg], alloc: Global, others: &[Arg]) -> Result<Vec<Arg>, AllocError>
     ensures ok { IfOk result (λ missing.
         own.now ++ missing.items ≡ with_missing own.now others.now) }
@@ -59,7 +59,7 @@ fn missing_copies(own: &[Arg], alloc: Global, others: &[Arg]) -> Result<Vec<Arg>
     Ok(missing)
 }
 
-// Copies of those of the arguments that are global.
+// Appends copies of the global arguments among these.
 pub(super) fn push_globals(
     kept: &mut Vec<Arg>,
     alloc: Global,
@@ -76,7 +76,7 @@ pub(super) fn push_globals(
     Ok(())
 }
 
-// Adds the flag that shows the help, unless it is disabled or there.
+// Adds the flag that shows the help, unless it is disabled or exists already.
 fn push_help(
     missing: &mut Vec<Arg>,
     own: &[Arg],
@@ -92,7 +92,8 @@ fn push_help(
     push_if_missing(missing, own, help_argument(alloc)?)
 }
 
-// Adds the flag that shows the version, where there is one, unless it is disabled or there.
+// Adds the flag that shows the version, if there is a version, unless the flag is disabled or
+// exists already.
 fn push_version(
     missing: &mut Vec<Arg>,
     own: &[Arg],
@@ -117,7 +118,7 @@ fn push_if_missing(missing: &mut Vec<Arg>, own: &[Arg], argument: Arg) -> Result
         drop(argument);
         return Ok(());
     }
-    // Exactly one, since the list becomes the node's.
+    // Reserves exactly one, because the list becomes the node's.
     missing.reserve_exact(1)?;
     Ok(missing.push(argument)?)
 }
@@ -145,7 +146,7 @@ fn has_id(arguments: &[Arg], id: &str) -> bool
     arguments.iter().any(|argument| argument.get_id() == id)
 }
 
-// Gives each argument its range and its action, and an index where it is a positional without one.
+// Sets the range and the action of each argument, and the index of each positional that has none.
 pub(super) fn fill_in(arguments: &mut [Arg])
     ensures ok { arguments.new ≡ indexed 1 (map filled arguments.old) }
 {
@@ -180,7 +181,7 @@ fn version_argument(alloc: Global) -> Result<Arg, AllocError>
     generated_flag(alloc, VERSION_NAME, 'V', VERSION_HELP, ArgAction::Version)
 }
 
-// The id is the long too.
+// Makes a flag whose long is its id.
 fn generated_flag(
     alloc: Global,
     id: &str,

@@ -24,7 +24,7 @@ pub(super) fn needs_help_child(node: &Node, children: &[Command]) -> bool
     !children.is_empty() && !node.disable_help_subcommand && !has_child(children, HELP_NAME)
 }
 
-// The copies of the siblings are followed by a `help` of its own.
+// Makes the child `help`. Its children are copies of the siblings, then a child `help` of its own.
 #[tactic(auto, unfolding(crate::specs::Texts::fixed_texts))]
 pub(super) fn help_command(
     siblings: &[Command],

@@ -1,4 +1,4 @@
-//! Putting in what was allocated: steps that cannot fail.
+//! The steps that put the allocated additions into a tree. They cannot fail.
 
 ghost use Rattle.std.specs.Prelude.{◌≡◌, ◌++◌, length, map, true};
 ghost use Rattle.cc_arg.specs.Arguments.{filled};
@@ -12,8 +12,8 @@ use cc_base::{Items, Text};
 use std::alloc::Global;
 use std::mem;
 
-// Adds the missing arguments, fills in all, names the node and marks it as built. The empty list
-// that takes `alloc` allocates nothing.
+// Adds the missing arguments, fills in all arguments, sets the bin name and marks the node as
+// built. The empty list that takes `alloc` allocates nothing.
 pub(super) fn finish(node: &mut Node, alloc: Global, missing: Vec<Arg>, bin_name: Option<Text>)
     requires room { HasRoom (length node.old.arguments) missing }
     ensures { node.new ≡ record node.old {
@@ -31,7 +31,7 @@ pub(super) fn finish(node: &mut Node, alloc: Global, missing: Vec<Arg>, bin_name
     node.built = true;
 }
 
-// Moves the items before those that are added, into the list of the latter.
+// Moves the items to the beginning of the list that is added.
 pub(super) fn put_before<T: Drop>(items: &mut Vec<T>, added: Vec<T>)
     requires room { HasRoom (length items.old.items) added }
     ensures { items.new.items ≡ items.old.items ++ added.items }

@@ -1,4 +1,4 @@
-//! The texts of what building adds.
+//! The texts of the flags and the child that building adds.
 
 pub(super) const HELP_NAME: &str = "help";
 

@@ -3,7 +3,7 @@ use Rattle.cc_visits.specs.Visits.{where_entered}
 use Rattle.cc_fish.specs.Script.{visit_text}
 use Rattle.cc_fish.proofs.fish.write_steps.Given as goal
 
--- what was taken and what is left make the whole; no put failed
+-- the bytes taken and what remains make up the whole; no put failed
 abbrev pub invariant-loop-front : goal.invariant-loop-front
 invariant-loop-front g l = record {
   whole : g.W.Sink.taken l.sink ++ flat_map (where_entered (visit_text l.bin_name l.function)) l.steps
@@ -11,6 +11,6 @@ invariant-loop-front g l = record {
   failures : g.W.Sink.failed l.sink ≡ g.W.Sink.failed l.initial.sink;
 }
 
--- how many are left
+-- how many remain
 abbrev pub decreases-loop-front : goal.decreases-loop-front
 decreases-loop-front g l = length l.steps

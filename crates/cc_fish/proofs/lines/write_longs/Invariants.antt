@@ -4,7 +4,7 @@ use Rattle.cc_arg.specs.ShownNames.{shown_longs}
 use Rattle.cc_fish.specs.Script.{long_text}
 use Rattle.cc_fish.proofs.lines.write_longs.Given as goal
 
--- what was taken and what is left make the whole; no put failed
+-- the bytes taken and what remains make up the whole; no put failed
 abbrev pub invariant-loop-long : goal.invariant-loop-long
 invariant-loop-long g l = record {
   whole : g.W.Sink.taken l.sink ++ flat_map long_text (longs_left l.long-iterator)

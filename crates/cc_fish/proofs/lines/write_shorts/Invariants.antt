@@ -4,7 +4,7 @@ use Rattle.cc_arg.specs.ShownNames.{shown_shorts}
 use Rattle.cc_fish.specs.Script.{short_text}
 use Rattle.cc_fish.proofs.lines.write_shorts.Given as goal
 
--- what was taken and what is left make the whole; no put failed
+-- the bytes taken and what remains make up the whole; no put failed
 abbrev pub invariant-loop-short : goal.invariant-loop-short
 invariant-loop-short g l = record {
   whole : g.W.Sink.taken l.sink ++ flat_map short_text (shorts_left l.short-iterator)

@@ -4,7 +4,7 @@ use Rattle.cc_base.specs.Bytes.{line_feed}
 use Rattle.cc_fish.specs.Script.{value_text}
 use Rattle.cc_fish.proofs.values.write_lines.Given as goal
 
--- what was taken and what is left make the whole; no put failed
+-- the bytes taken and what remains make up the whole; no put failed
 abbrev pub invariant-loop-value : goal.invariant-loop-value
 invariant-loop-value g l = record {
   whole : g.W.Sink.taken l.sink ++ joined_after (line_feed ∷ []) l.begun (map value_text (filter (λ value. not value.hide) (drop l.value-index l.values)))

@@ -3,7 +3,7 @@ use denote.Text.{Utf8}
 use denote.Shadow.{shadow}
 use Rattle.cc_quote.proofs.escape.push_escaped.Given as goal
 
--- what is there already and the escape of what is left make the whole
+-- the text so far and the escape of the remaining text make up the whole
 abbrev pub invariant-loop-run : goal.invariant-loop-run
 invariant-loop-run g l = record {
   is_text : shadow (Utf8 l.rest);

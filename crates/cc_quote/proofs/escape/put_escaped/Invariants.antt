@@ -3,7 +3,7 @@ use denote.Text.{Utf8}
 use denote.Shadow.{shadow}
 use Rattle.cc_quote.proofs.escape.put_escaped.Given as goal
 
--- what was taken and the escape of what is left make the whole; no put failed
+-- the bytes taken and the escape of the remaining text make up the whole; no put failed
 abbrev pub invariant-loop-run : goal.invariant-loop-run
 invariant-loop-run g l = record {
   is_text : shadow (Utf8 l.rest);

@@ -3,7 +3,7 @@ use Rattle.cc_quote.specs.PosixQuote.{is_posix_safe_word, posix_escaped, posix_q
 use Rattle.cc_quote.proofs.PosixWords.{posix_reads_back}
 use Rattle.cc_quote.proofs.posix.posix_quote.Goals as goal
 
--- the quoted text, where the test is known
+-- the quoted text, if the result of the test is known
 by_test : (text : List ℕ) (safe : Bool) → is_posix_safe_word text ≡ safe → posix_quoted text ≡ cond safe text (codes "'" ++ posix_escaped text ++ codes "'")
 unfolding posix_quoted
 by_test text safe is = ap (λ b. cond b text (codes "'" ++ posix_escaped text ++ codes "'")) is

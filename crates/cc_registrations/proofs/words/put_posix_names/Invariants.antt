@@ -3,7 +3,7 @@ use Rattle.cc_base.specs.Joined.{joined_after}
 use Rattle.cc_quote.specs.PosixQuote.{posix_quoted}
 use Rattle.cc_registrations.proofs.words.put_posix_names.Given as goal
 
--- what was taken and the names that are left make the whole; no put failed
+-- the bytes taken and the remaining names make up the whole; no put failed
 abbrev pub invariant-loop-name : goal.invariant-loop-name
 invariant-loop-name g l = record {
   written : g.W.Sink.taken l.sink

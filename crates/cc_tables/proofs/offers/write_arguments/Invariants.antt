@@ -3,7 +3,7 @@ use Rattle.cc_command.specs.Iterators.{arguments_left}
 use Rattle.cc_tables.specs.Offers.{argument_offers}
 use Rattle.cc_tables.proofs.offers.write_arguments.Given as goal
 
--- what was taken and the rows that are left make the whole; no put failed
+-- the bytes taken and the remaining rows make up the whole; no put failed
 abbrev pub invariant-loop-argument : goal.invariant-loop-argument
 invariant-loop-argument g l = record {
   whole : g.W.Sink.taken l.sink ++ flat_map (g.R.Rows.row_text l.rows)

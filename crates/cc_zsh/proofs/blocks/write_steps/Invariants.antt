@@ -2,7 +2,7 @@ use Rattle.std.proofs.Common.{◌≡◌, ◌++◌, flat_map, length}
 use Rattle.cc_zsh.specs.Steps.{step_text}
 use Rattle.cc_zsh.proofs.blocks.write_steps.Given as goal
 
--- what was taken and what is left make the whole; no put failed
+-- the bytes taken and what remains make up the whole; no put failed
 abbrev pub invariant-loop-steps : goal.invariant-loop-steps
 invariant-loop-steps g l = record {
   whole : g.W.Sink.taken l.sink ++ flat_map step_text l.steps
@@ -10,6 +10,6 @@ invariant-loop-steps g l = record {
   failures : g.W.Sink.failed l.sink ≡ g.W.Sink.failed l.initial.sink;
 }
 
--- how many are left
+-- how many remain
 abbrev pub decreases-loop-steps : goal.decreases-loop-steps
 decreases-loop-steps g l = length l.steps

@@ -3,7 +3,7 @@ use Rattle.cc_base.specs.Joined.{joined, joined_after}
 use Rattle.cc_zsh.specs.Conflicts.{conflict_words, with_ids}
 use Rattle.cc_zsh.proofs.conflicts.write_words.Given as goal
 
--- what was taken and what is left make the whole; no put failed
+-- the bytes taken and what remains make up the whole; no put failed
 abbrev pub invariant-loop-id : goal.invariant-loop-id
 invariant-loop-id g l = record {
   whole : g.W.Sink.taken l.sink ++ joined_after (codes " ") l.begun

@@ -6,7 +6,7 @@ use Rattle.cc_zsh.specs.Named.{function_named}
 use Rattle.cc_zsh.proofs.PreorderFunctions.{function_at}
 use Rattle.cc_zsh.proofs.functions.commands_below.Given as goal
 
--- the commands so far and those of the nodes that are left make the whole
+-- the commands so far and those of the remaining nodes make up the whole
 abbrev pub invariant-loop-node : goal.invariant-loop-node
 invariant-loop-node l =
     map function_named l.found.items ++ map function_at (nodes_left l.node-iterator)

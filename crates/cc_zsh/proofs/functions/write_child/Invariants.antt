@@ -4,7 +4,7 @@ use Rattle.cc_command.specs.Names.{visible_names}
 use Rattle.cc_zsh.specs.Functions.{entry, entry_text}
 use Rattle.cc_zsh.proofs.functions.write_child.Given as goal
 
--- what was taken and what is left make the whole; no put failed
+-- the bytes taken and what remains make up the whole; no put failed
 abbrev pub invariant-loop-name : goal.invariant-loop-name
 invariant-loop-name g l = record {
   whole : g.W.Sink.taken l.sink ++ flat_map entry_text

@@ -3,7 +3,7 @@ use Rattle.cc_command.specs.Tree.{forest_of}
 use Rattle.cc_zsh.specs.Functions.{entries_of, entry_text}
 use Rattle.cc_zsh.proofs.functions.write_children.Given as goal
 
--- what was taken and what is left make the whole; no put failed
+-- the bytes taken and what remains make up the whole; no put failed
 abbrev pub invariant-loop-child : goal.invariant-loop-child
 invariant-loop-child g l = record {
   whole : g.W.Sink.taken l.sink ++ flat_map entry_text

@@ -4,7 +4,7 @@ use Rattle.cc_zsh.specs.Functions.{function_text, once_after}
 use Rattle.cc_zsh.specs.Named.{function_named}
 use Rattle.cc_zsh.proofs.functions.write_once.Given as goal
 
--- what was taken and what is left make the whole; no put failed
+-- the bytes taken and what remains make up the whole; no put failed
 abbrev pub invariant-loop-command : goal.invariant-loop-command
 invariant-loop-command g l = record {
   whole : g.W.Sink.taken l.sink ++ flat_map function_text

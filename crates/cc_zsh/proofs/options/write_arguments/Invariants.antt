@@ -3,7 +3,7 @@ use Rattle.cc_command.specs.Iterators.{arguments_left}
 use Rattle.cc_zsh.specs.Options.{argument_text}
 use Rattle.cc_zsh.proofs.options.write_arguments.Given as goal
 
--- what was taken and what is left make the whole; no put failed
+-- the bytes taken and what remains make up the whole; no put failed
 abbrev pub invariant-loop-argument : goal.invariant-loop-argument
 invariant-loop-argument g l = record {
   whole : g.W.Sink.taken l.sink

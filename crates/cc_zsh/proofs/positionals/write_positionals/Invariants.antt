@@ -4,7 +4,7 @@ use Rattle.cc_command.specs.Iterators.{arguments_left}
 use Rattle.cc_zsh.specs.Positionals.{positional_text, shown_positionals}
 use Rattle.cc_zsh.proofs.positionals.write_positionals.Given as goal
 
--- what was taken and what is left make the whole; no put failed
+-- the bytes taken and what remains make up the whole; no put failed
 abbrev pub invariant-loop-positional : goal.invariant-loop-positional
 invariant-loop-positional g l = record {
   whole : g.W.Sink.taken l.sink ++ flat_map (positional_text l.has_children)

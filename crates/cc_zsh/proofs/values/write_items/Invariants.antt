@@ -3,7 +3,7 @@ use Rattle.cc_base.specs.Joined.{joined_after}
 use Rattle.cc_zsh.specs.Values.{item_separator, item_text, items_text, shown_values}
 use Rattle.cc_zsh.proofs.values.write_items.Given as goal
 
--- what was taken and what is left make the whole; no put failed
+-- the bytes taken and what remains make up the whole; no put failed
 abbrev pub invariant-loop-value : goal.invariant-loop-value
 invariant-loop-value g l = record {
   whole : g.W.Sink.taken l.sink ++ joined_after (item_separator l.form) l.begun

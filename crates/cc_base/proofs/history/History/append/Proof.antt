@@ -1,4 +1,4 @@
--- `append` does nothing when it runs. The borrow is opened, and closed at the longer list.
+-- `append` does nothing at run time. The proof opens the borrow and closes it at the longer list.
 use Rattle.std.proofs.Common.{[], ◌∷◌, ◌++◌, refl}
 use Rattle.std.proofs.raw_atomic.Walks.{proved}
 use contract.Running.{tables}

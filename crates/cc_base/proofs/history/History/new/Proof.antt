@@ -1,4 +1,4 @@
--- `new` makes a value of no size, at the empty list.
+-- `new` returns a value of no size, whose list is empty.
 use Rattle.std.proofs.Common.{[], ◌∷◌, refl}
 use Rattle.std.proofs.raw_atomic.Walks.{proved}
 use base.Fml.{ftrue}

@@ -4,7 +4,7 @@ use Rattle.std.specs.Option.{option_to_list}
 use Rattle.cc_command.specs.ArgumentLists.{conflicting, first_with_id}
 use Rattle.cc_command.proofs.command.Command.get_arg_conflicts_with.Given as goal
 
--- what was found and what the ids to come find make the whole
+-- the arguments that were found, then those that the remaining ids find, are all of them
 abbrev pub invariant-loop-id : goal.invariant-loop-id
 invariant-loop-id l = map (λ other. other.now) l.found.items
     ++ flat_map (λ id. option_to_list (first_with_id l.self.node.arguments id)) (drop l.id-index l.id-items)
