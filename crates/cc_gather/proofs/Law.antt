@@ -20,7 +20,7 @@ use Rattle.cc_gather.proofs.FirstOfIds.{first_of_ids-append, first_of_ids-differ
 abbrev Candidates : Type 0
 Candidates = List CompletionCandidate
 
--- EACH MEMBER'S TAG IS THERE
+-- ---- each member's tag occurs
 
 all_have : (v xs : Candidates) → ((t : Tag) → Has xs t → Has v t) → AllByRecursion (λ c. Has v c.tag) xs
 all_have v [] sub = tt
@@ -58,7 +58,7 @@ any-in_order p by xs h = elim (cases_Bool (list_any p (in_order by xs))) [
       cc
 ]
 
--- GROUPED AFTER A LIST
+-- ---- a grouped list after another one
 
 module _ (a v : Candidates) where
   abbrev sorted : Candidates
@@ -152,7 +152,7 @@ module _ (a v : Candidates) where
       ∙ sorted_after (comes_before whole) (below whole) a sorted v
       (λ z. filter-in_order (λ c. Has v c.tag) (comes_before v) (ties (comes_before whole) z) (alone z) v (all_have v v (λ t h. h)))
 
--- VISIBLE ONES
+-- ---- visible candidates
 
 shown_true : (cs : Candidates) → list_any is_shown cs ≡ true → shown_or_all cs ≡ filter is_shown cs
 unfolding shown_or_all
@@ -221,7 +221,7 @@ pub differ : (cs : Candidates) → Differ (finish cs)
 unfolding finish group
 differ cs = differ-in_order (comes_before (first_of_ids (shown_or_all cs))) (first_of_ids (shown_or_all cs)) (first_of_ids-differ (shown_or_all cs))
 
--- THE LAW
+-- ---- the law
 
 none_left : (a ys : Candidates) → ShareNone a ys → (p : CompletionCandidate → Bool) → ShareNone (filter p a) ys
 none_left a ys h p = AllByRecursion-filter (λ c. SharesNone c ys) p a h
@@ -279,7 +279,7 @@ module _ (a b : Candidates) (apart : ShareNone a b) where
       ∙ filter-append is_shown a (finish b) ∙ ap (λ s. filter is_shown a ++ s) (dropped is_shown (finish b) (hidden e) ∙ sym (dropped is_shown b (any_none is_shown b e)))
       ∙ sym (filter-append is_shown a b) ∙ sym (shown_true (a ++ b) (any_both a b true false t e)))
 
-  -- FINISHING A LIST AFTER ANOTHER ONE FIRST CHANGES NOTHING, WHERE THE TWO SHARE NO ID
+  -- the law: if the two lists share no id, it makes no difference to finish the second one first
   pub finish_after : finish (a ++ finish b) ≡ finish (a ++ b)
   finish_after = elim (cases_Bool (list_any is_shown b)) [
     | inl e ↦ after_visible e

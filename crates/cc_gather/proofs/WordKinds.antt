@@ -16,7 +16,7 @@ use Rattle.cc_gather.specs.declared.options.OptionMatch.TheVariants.{Listed}
 use Rattle.cc_walk.specs.Words.{EndsWith, before_equals}
 use Rattle.cc_walk.proofs.Forms.{empty, flag_some, no_equals_tail}
 
--- THE KINDS OF WORDS
+-- ---- the kinds of words
 
 pub match_plain : (arguments : List Arg) (w : List ℕ) → ((rest : List ℕ) → w ≡ dash ∷ rest → ⊥) →
     match_of arguments w ≡ Listed (if length w == 0 then longs arguments ++ shorts (codes "-") arguments else [])
@@ -56,7 +56,7 @@ pub match_long : (arguments : List Arg) (w s t : List ℕ) → w ≡ dash ∷ s 
 unfolding match_of
 match_long arguments w s t e f h = ap (match_of arguments) (e ∙ ap (λ x. dash ∷ x) f) ∙ two_long arguments t h
 
--- THE FIRST `=`
+-- ---- the first `=`
 
 pub after_none : (s : List ℕ) → ((i : ℕ) → i < length s → get_or s i 0 ≡ equals → ⊥) → after_equals s ≡ None
 after_none [] h = refl
@@ -80,14 +80,14 @@ long_some arguments long flag text is h =
     ap (long_match arguments long) (ap after_equals is ∙ after_some flag text h)
     ∙ ap (λ f. flag_match (find (has_own_long f) arguments) f text) (ap before_equals is ∙ (flag_some flag text h).0)
 
--- A `=` IN FRONT OF A VALUE
+-- ---- a `=` in front of a value
 
 pub wanted_plain : (argument : Arg) (before rest : List ℕ) → ((s : List ℕ) → rest ≡ equals ∷ s → ⊥) →
     value_query_after argument before rest ≡ record { argument = argument; before = before; text = rest }
 wanted_plain argument before [] h = refl
 wanted_plain argument before (c ∷ s) h = rw (ne_eqb c equals (λ e. h s (ap (λ x. x ∷ s) e))) refl
 
--- THE END OF A WORD
+-- ---- the end of a word
 
 seam : (text leading end : List ℕ) → text ≡ leading ++ end → length text - length end ≡ length leading
 seam text leading end is = let total = ap length is in omega (arith, total, length-append leading end)

@@ -14,7 +14,7 @@ use Rattle.cc_walk.specs.WordClasses.{value_character}
 use Rattle.cc_walk.specs.Words.{before_equals}
 use Rattle.cc_walk.specs.declared.word_class.ValueCharacter.{ValueCharacter}
 
--- THE LONG OF A WORD
+-- ---- the long of a word
 
 -- the text after the first `=`, if there is one
 abbrev pub after_equals : List ℕ → Option (List ℕ)
@@ -34,7 +34,7 @@ long_match arguments long None = Listed (filter (begins (codes "--" ++ long)) (l
 long_match arguments long (Some text) =
     flag_match (find (has_own_long (before_equals long)) arguments) (before_equals long) text
 
--- THE SHORTS OF A WORD
+-- ---- the shorts of a word
 
 -- a `=` in front of a value belongs to the text before it
 abbrev pub value_query_after : Arg → List ℕ → List ℕ → ValueQuery
@@ -60,7 +60,7 @@ short_match arguments after =
     if is_number after then Listed []
     else cluster_match arguments (codes "-" ++ after) (value_character arguments (chars after))
 
--- THE WORD
+-- ---- the word
 
 abbrev pub after_two_dashes : List Arg → List ℕ → OptionMatch
 after_two_dashes arguments [] = Listed (longs arguments)

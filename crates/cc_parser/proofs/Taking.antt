@@ -139,7 +139,7 @@ module _ (tree : Tree) (app : App) (is : IsAppOf tree app) (tidy : AllByRecursio
   rules_of_parser = built_rules app (ap (λ (s : Shape). s.is_built) is.0.0) (ap (λ (s : Shape). s.disable_help_flag) is.0.0)
       (ap (λ (s : Shape). s.disable_version_flag) is.0.0)
 
-  -- A LONG MEANS THE SAME TO THE PARSER AND THE TREE: both find the argument with the same id, or
+  -- a long means the same to the parser and the tree: both find the argument with the same id, or
   -- none
   pub same_long : (name : List ℕ) → parsed_long app name ≡ id_of_long name tree.node.arguments
   same_long name = ap (λ rules. option_map (λ r. r.id) (arg_by_long rules name)) rules_of_parser
@@ -200,7 +200,7 @@ answers_shorts None (Some short) visible hidden tidy c (inl e) = ap (λ b. b || 
 answers_shorts None (Some short) visible hidden tidy c (inr k) =
     or_here (short == c) _ (any_in (λ alias. alias == c) (visible ++ hidden) c (IsIn-append_left visible hidden c k) (same_number c))
 
--- THE PARSER ACCEPTS WHAT IS OFFERED: it knows each long, each short and each alias that completion
+-- the parser accepts what is offered: it knows each long, each short and each alias that completion
 -- offers for an argument of the tree
 pub takes_offered : (tree : Tree) (app : App) → IsAppOf tree app → AllByRecursion IsTidy tree.node.arguments
     → AllByRecursion (TakesNames app) tree.node.arguments
@@ -318,7 +318,7 @@ takes_siblings app (more node below rest) t names help =
         subst (λ b. TakesSiblings app (cond (b && true) (kept false rest) (more node below (kept false rest)))) is t in
         (both.0, later both.1 (λ e. help (or_here node.generated (has_generated rest) e)))
 
--- THE PARSER ACCEPTS THE CHILDREN THAT ARE OFFERED
+-- the parser accepts the children that are offered
 pub takes_children : (tree : Tree) (app : App) → IsAppOf tree app → fits_parser tree ≡ true → TakesSiblings app tree.children
 takes_children tree app is fits =
     let children = (both_true (list_all has_index_or_name tree.node.arguments) _ fits).1 in
@@ -345,7 +345,7 @@ passes (x ∷ possible) (y ∷ values) h value (inr k) = or_here (possible_match
 passes [] (y ∷ values) h value k = absurd h
 passes (x ∷ possible) [] h value k = absurd h
 
--- THE POSSIBLE VALUES THAT ARE OFFERED PASS, by the rule after the parser's build
+-- the possible values that are offered pass, by the rule after the parser's build
 takes_values : (n : ℕ) (arg : Arg) (rule : Rule) → IsRuleOf arg rule → TakesValues arg (with_index n (filled rule))
 takes_values n arg rule is = go (possible_values arg) rule.parser (ap (λ (r : Rule). r.ignore_case) is.0) is.1
   where
@@ -364,7 +364,7 @@ takes_all_values n (a ∷ args) (r ∷ rules) h = (takes_values n a r h.0, takes
 takes_all_values n [] (r ∷ rules) h = absurd h
 takes_all_values n (a ∷ args) [] h = absurd h
 
--- THE PARSER ACCEPTS WHAT IS OFFERED FOR THE ROOT
+-- the theorem: the parser accepts what is offered for the root
 pub takes_tree : (tree : Tree) (app : App) → IsAppOf tree app → fits_parser tree ≡ true → TakesOffered tree app
 takes_tree tree app is fits =
     let ok = all_tidy tree.node.arguments (both_true (list_all has_index_or_name tree.node.arguments) _ fits).0 in record {

@@ -132,6 +132,6 @@ cuts : (arguments : List Arg) (words : List (List ℕ)) → Cuts arguments words
 cuts arguments [] = cuts_none arguments
 cuts arguments (word ∷ words) = let rest = cuts arguments words in record { plain = plain arguments word words rest; option = option arguments word words rest; run = run arguments word words rest }
 
--- EVERY TAIL HAS BLOCKS
+-- the theorem: every tail can be divided into blocks
 pub blocks_exist : (arguments : List Arg) (position : ℕ) (escaped : Bool) (words : List (List ℕ)) → (bs : List Block) × AreBlocks arguments position escaped bs × (join bs ≡ words)
 blocks_exist arguments position escaped words = let c = (cuts arguments words).plain position escaped in (c.blocks, c.are, c.spell)

@@ -25,7 +25,7 @@ child_same (more node below rest) word e =
     by_names false true is e later = let differ : false ≡ true = sym is ∙ e in cc
     by_names false false is e later = later e
 
--- BOTH WALKS END AT ONE NODE
+-- the theorem: both walks end at the same node
 pub walk_visible : (words : List (List ℕ)) (node_state : NodeState) → HasNoHiddenAlias node_state.tree words → (walk node_state words).tree ≡ visible_end node_state.tree words
 walk_visible [] node_state e = refl
 walk_visible (word ∷ words) node_state e =

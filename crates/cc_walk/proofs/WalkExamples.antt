@@ -60,7 +60,8 @@ hyphens_taken :
 unfolding class_of chars capacity_at allows_hyphens_at positional_at
 hyphens_taken = (refl, refl, refl, refl)
 
--- `-c`, `--color` with one value, and `-v`, `--verbose` (visible alias `loud`, hidden alias `noisy`) without
+-- `-c`, `--color` with one value, and `-v`, `--verbose` (visible alias `loud`, hidden alias
+-- `noisy`) without values
 abbrev color : Arg
 color = record (option (codes "color")) { short = Some 99 }
 
