@@ -1,14 +1,13 @@
 #!/usr/bin/env python3
-"""Looks for each call that the library is to have, in the module under which a program finds it.
+"""Checks that the library has each of the public calls listed below, in the right module.
 
-    bench/surface
+    tools/surface.py
 
-The calls are listed below, module by module: a function, a type, or a type with its methods. A name
-has to be re-exported by the module of crates/clap_complete (or be public in the crate that is named),
-and each method has to be public in an `impl` or a trait of that type. It is a search in the sources
-and builds nothing.
+A call is a function, a type, or a type with its methods. The module of crates/clap_complete has to
+re-export the name, or the named crate has to declare it public. Each method has to be public in an `impl`
+or a trait of that type. The script searches the sources and builds nothing.
 
-Printed is what is missing, and the count of calls. The status is 0 where none is missing, else 1.
+It prints what is missing, and the number of calls. The status is 0 if nothing is missing.
 """
 
 import glob
@@ -16,7 +15,7 @@ import os
 import re
 import sys
 
-TOP = os.path.dirname(os.path.dirname(os.path.realpath(__file__)))
+import common
 
 GENERATOR = "generate try_generate file_name"
 ADAPTER = "name is write_registration write_complete"
@@ -136,7 +135,7 @@ def entries(text):
 
 
 def sources(crate):
-    for path in sorted(glob.glob(os.path.join(TOP, "crates", crate, "src", "**", "*.rt"), recursive=True)):
+    for path in sorted(glob.glob(os.path.join(common.TOP, "crates", crate, "src", "**", "*.rt"), recursive=True)):
         with open(path, encoding="utf-8") as file:
             yield file.read()
 
@@ -147,7 +146,7 @@ def crate_of(module, name):
         crate = module.split()[1]
         return crate if is_public(crate, name) else None
     crate, file = ("cc_generator", "utils") if module == "aot::utils" else ("clap_complete", module or "lib")
-    with open(os.path.join(TOP, "crates", crate, "src", f"{file}.rt"), encoding="utf-8") as source:
+    with open(os.path.join(common.TOP, "crates", crate, "src", f"{file}.rt"), encoding="utf-8") as source:
         text = source.read()
     for of, names in re.findall(r"pub use (\w+)::(?:\w+::)*(\w+|\{[^}]*\});", text):
         if re.search(rf"\b{name}\b", names):

@@ -1,23 +1,24 @@
 #!/usr/bin/env python3
-"""Tries the planted faults that the gate does not: crates/NAME/more-faults/*.edit.
+"""Tries the planted faults that the gate leaves out: crates/NAME/more-faults/*.edit.
 
-    bench/faults [--alone] [--at-once N] [CRATE..]      without a name: every crate that has some
+    tools/faults.py [--alone] [--at-once N] [CRATE..]      without a name: every crate that has some
 
-The prover has to reject each. A function is proved against its own contract and the contracts of what
-it calls, so faults in different functions do not touch each other: as many as stand in different
-functions are planted at once, in a copy of the repository, and one check of these functions says which
-have no proof, or one with an error. A fault counts as rejected where that holds of its function, and the
-crate is proved without any fault. The others are tried again without those, and where that holds of no
-function by halves, at last one by one. A fault in a constant has a check of its own, of all functions. One
-that no check rejects is tried by itself with `rt must-fail`, as each is with --alone.
+The prover has to reject each. It proves a function against its own contract and the contracts of what it
+calls, so faults in different functions are independent. The script therefore plants as many as possible
+at once, in a copy of the repository. One check of these functions then shows which have no proof, or a
+proof with an error. Such a fault counts as rejected, if the crate is proved without any fault. The others
+are tried again without those: if a check rejects none, by halves, and at last one by one. A fault in a
+constant has a check of its own, of all functions. `rt must-fail` tries each fault that no check rejects,
+and with --alone it tries all of them.
 
-The copy is removed at the end. `rt` takes over there what checks on this machine kept, so what was
-checked before is not proved once more. It costs least in the checkout in which the crates were checked:
-each further check of a crate begins there with what was kept before any fault. With --at-once N so many
-crates are tried side by side, each in a copy of its own (1). Printed is the commit, then a line for
-each crate, with the processor time that it took, and a line for each fault that no check rejects: as a
-rule it takes away what a proof file names, which tells little of a contract. Last comes the processor
-time that all took. The status is 0 where all were rejected.
+The copy is removed at the end. `rt` reuses there what checks on this machine kept, so what was checked
+before is not proved again. It costs least in the checkout in which the crates were checked: there each
+further check of a crate begins with what was kept before any fault. --at-once N tries N crates side by
+side (1), each in a copy of its own.
+
+The script prints the commit, a line for each crate with its processor time, and a line for each fault that
+no check rejects. As a rule such a fault removes a name that a proof file cites, which tells little of a
+contract. The last line has the total processor time. The status is 0 if all were rejected.
 """
 
 import argparse
@@ -34,7 +35,9 @@ import sys
 import tempfile
 import threading
 
-TOP = os.path.dirname(os.path.dirname(os.path.realpath(__file__)))
+import common
+
+TOP = common.TOP
 
 Fault = collections.namedtuple("Fault", "name path texts functions")
 
@@ -46,7 +49,7 @@ MISSING = r"has no field|is not in scope|has no `|was not admitted"
 
 
 def main():
-    parser = argparse.ArgumentParser(usage="bench/faults [--alone] [--at-once N] [CRATE..]")
+    parser = argparse.ArgumentParser(usage="tools/faults.py [--alone] [--at-once N] [CRATE..]")
     parser.add_argument("--alone", action="store_true")
     parser.add_argument("--at-once", type=int, default=1, metavar="N")
     parser.add_argument("crates", nargs="*", metavar="CRATE")
@@ -92,9 +95,8 @@ def tried_crates(left, alone):
 
 
 def with_faults():
-    """The crates that have faults, in the order of crates.txt: lower ones first."""
-    with open(os.path.join(TOP, "crates.txt"), encoding="utf-8") as file:
-        crates = [line.split(":")[0].split()[0] for line in file if ":" in line and not line.startswith("#")]
+    """Returns the crates that have faults, in the order of crates.txt: lower ones first."""
+    crates = common.crate_lines()
     return [it for it in crates if os.path.isdir(os.path.join(TOP, "crates", it, "more-faults"))]
 
 

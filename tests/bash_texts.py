@@ -1,47 +1,40 @@
 #!/usr/bin/env python3
-"""Compares bash scripts of the example trees, whole, with a filling of docs/TEXTS.md.
+"""Compares whole bash scripts of the example trees with docs/TEXTS.md.
 
-    bench/bash-texts [--program FILE]
+    tests/bash_texts.py
 
-For each tree file in examples/ the script that `complgen` writes is compared with one that is made
-here in another way: the frame and the arm are read from the section on bash scripts in
-docs/TEXTS.md, and filled in as its tables say, for the tree with what building adds. The program is
-the one that `./complgen` at the top of the repository builds; it is built first where that is due.
-Another one is named by --program.
+For each tree file in examples/, it compares the script that `complgen` writes with one that it makes in
+another way. It reads the frame and the arm from the section on bash scripts in docs/TEXTS.md. Then it
+fills them in as the tables of that section say, for the tree with what building adds.
 
-Printed is a line for each tree. The status is 0 where all scripts are equal, else 1.
+It prints a line for each tree. The status is 0 if all scripts are equal.
 """
 
-import argparse
 import json
 import os
 import subprocess
 import sys
 
-TOP = os.path.dirname(os.path.dirname(os.path.realpath(__file__)))
-EXAMPLES = os.path.join(TOP, "examples")
-# `./complgen` then runs nothing unproved.
-PROVED = {**os.environ, "COMPLGEN_PROVED": "1"}
+sys.path.append(os.path.join(os.path.dirname(os.path.realpath(__file__)), "..", "tools"))
+import common
+
 BIN = "app"
 LINE = "\n" + 20 * " "
 
 
 def main():
-    parser = argparse.ArgumentParser(description="Compares bash scripts with docs/TEXTS.md.")
-    parser.add_argument("--program", default=os.path.join(TOP, "complgen"))
-    program = parser.parse_args().program
-    with open(os.path.join(TOP, "docs", "TEXTS.md"), encoding="utf-8") as file:
+    program = common.program("complgen")
+    with open(os.path.join(common.TOP, "docs", "TEXTS.md"), encoding="utf-8") as file:
         section = file.read().split("\n## Bash script\n")[1].split("\n## ")[0]
     frame, arm = (block.split("\n```\n")[0] for block in section.split("\n\n```\n")[1:])
-    trees = sorted(name for name in os.listdir(EXAMPLES) if name.endswith(".json"))
-    equal = [is_equal(program, os.path.join(EXAMPLES, tree), frame + "\n", arm) for tree in trees]
+    equal = [is_equal(program, tree, frame + "\n", arm) for tree in common.example_trees()]
     return 0 if equal and all(equal) else 1
 
 
 def is_equal(program, path, frame, arm):
-    """Whether the program writes the script that is made here."""
+    """Tells whether the program writes the script that is made here."""
     words = [program, "script", "--shell", "bash", "--bin", BIN, path]
-    written = subprocess.run(words, stdout=subprocess.PIPE, check=True, env=PROVED).stdout
+    written = subprocess.run(words, stdout=subprocess.PIPE, check=True).stdout
     with open(path, encoding="utf-8") as file:
         made = script(built(json.load(file)), frame, arm)
     equal = written == made.encode()

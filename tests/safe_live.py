@@ -1,34 +1,31 @@
 #!/usr/bin/env python3
-"""Types into real shells that have loaded the safe registrations, and sees what a program receives.
+"""Types into real shells that have loaded the safe registrations, and checks what a program receives.
 
-    bench/safe_live.py [--complgen FILE] [--shells bash,zsh,fish,elvish] [--only PART]..
+    tests/safe_live.py [--shells bash,zsh,fish,elvish] [--only PART]..
                        [--before] [--seed N] [--names N] [--verbose]
 
-The shells run in a pseudo terminal and have loaded what `COMPLETE=SHELL complgen` writes for a folder
+The shells run in a pseudo terminal, and have loaded what `COMPLETE=SHELL complgen` writes for a directory
 of tree files. Their programs write the words that they receive into a file. Nothing that is typed or
-offered may run: `touch` is a program that leaves a mark, and no file may appear in the current folder.
+offered may run: `touch` is a program that leaves a mark, and no file may appear in the current directory.
 
-The parts:
+| Part | What is tried |
+|---|---|
+| values | Each of some ninety odd texts is the only possible value of an argument. It is typed not at all, by its first letter, after `'` and after `"`, and by its first letter after each; then Tab and Enter. The program has to receive exactly the value. |
+| files, folders | the same for a file and a directory of that name, by the hint `FilePath`. In a directory a second Tab has to complete the file in it. |
+| words | words with `:`, `=` and `@`, earlier words in quotes, a cursor within a word, paths after `~/` |
+| typed | A command substitution is typed and completed. Nothing may run at the Tab. |
+| random | directories with random names made of signs and commands, a file in each, and one to three Tabs. --seed makes other names, and --names another number of them. |
+| ten-thousand | milliseconds of a Tab with 10,000 candidates, beside the original's registration |
+| start | milliseconds that 500 tree files add to the start of a shell, and the bytes of the registration |
 
-- values: each of some ninety odd texts is the one possible value of an argument. It is typed not at all, by
-  its first letter, after `'` and after `"`, and by its first letter after each; then Tab and Enter. The
-  program has to receive exactly the value.
-- files, folders: the same for a file and a folder of that name, by the hint `FilePath`. In a folder a
-  second Tab has to complete the file in it.
-- words: words with `:`, `=` and `@`, earlier words in quotes, a cursor within a word, paths after `~/`.
-- typed: a command substitution is typed and completed. Nothing may run at the Tab.
-- random: folders with names made at random of signs and commands, a file in each, and one to three Tabs.
-  --seed makes other names, --names another number of them.
-- ten-thousand: milliseconds of a Tab with 10,000 candidates, beside the original's registration.
-- start: milliseconds that 500 tree files add to the start of a shell, and the bytes of the registration.
+A value that is not inserted has to be one that the rules leave out: `left_out` has them. With --before,
+the original's registration, as `complgen register` writes it, is tried too: with the parts `values`,
+`files`, `folders` and `words`, and with the file `x$(touch${IFS}hit)`. The script counts and prints what
+happens then, with --verbose case by case. It does not count for the status.
 
-A value that is not inserted has to be one that the rules leave out: `left_out` has them. With --before the
-parts `values`, `files`, `folders` and `words` are tried by the original's registration too, as `complgen
-register` writes it, and so is the file of the issue, `x$(touch${IFS}hit)`. What happens then is counted and
-printed, with --verbose case by case, and does not count for the status.
-
-Printed is a line for each exception, and for each shell and part. The status is 0 where nothing was changed
-or ran, all that was not inserted was to be left out, and the start of each shell is within its bounds.
+The script prints a line for each exception, and for each shell and part. The status is 0 if no value was
+changed, nothing ran, every value that was not inserted was to be left out, and the start of each shell
+keeps its limits.
 """
 
 import argparse
@@ -50,7 +47,9 @@ import tempfile
 import termios
 import time
 
-TOP = os.path.dirname(os.path.dirname(os.path.realpath(__file__)))
+sys.path.append(os.path.join(os.path.dirname(os.path.realpath(__file__)), "..", "tools"))
+import common
+
 SHELLS = ("bash", "zsh", "fish", "elvish")
 PARTS = ("values", "files", "folders", "words", "typed", "random", "ten-thousand", "start")
 ISSUE = "x$(touch${IFS}hit)"
@@ -743,8 +742,7 @@ def show_issue(scratch):
 
 
 def arguments():
-    parser = argparse.ArgumentParser(description=__doc__, formatter_class=argparse.RawDescriptionHelpFormatter)
-    parser.add_argument("--complgen", default=os.path.join(TOP, "crates", "complgen", "out", "complgen"))
+    parser = argparse.ArgumentParser(usage=common.usage(__doc__))
     parser.add_argument("--shells", default=",".join(SHELLS))
     parser.add_argument("--only", action="append", choices=PARTS)
     parser.add_argument("--before", action="store_true")
@@ -756,9 +754,7 @@ def arguments():
 
 def main():
     options = arguments()
-    if not os.access(options.complgen, os.X_OK):
-        raise SystemExit(f"no program {options.complgen}: run `rt run` in its crate, or name one by --complgen")
-    scratch = Scratch(options.complgen, options)
+    scratch = Scratch(common.program("complgen"), options)
     good = True
     try:
         scratch.program(value_tree())
@@ -769,7 +765,7 @@ def main():
             show_issue(scratch)
         for shell in options.shells.split(","):
             if shutil.which(shell) is None:
-                print(f"{shell}: not installed, passed over")
+                print(f"{shell}: not installed, skipped")
                 continue
             good &= try_shell(scratch, shell, options)
     finally:

@@ -1,29 +1,27 @@
 #!/usr/bin/env python3
-"""Builds the archive for Rust programs and the package over it, tests both, and compares them with
-the original.
+"""Builds the archive for Rust programs and its package, tests both, and compares them with the original.
 
-    bench/rust [--archive FOLDER] [--original FOLDER]
+    tests/rust.py [--archive FOLDER] [--original FOLDER]
 
-`rt lib` proves and builds crates/complgen_c; --archive names a folder with the archive in its place.
-The tests of rust/lagvtsune run by cargo, and again under valgrind where it is installed, which has to
-report no error and no leak. examples/from-rust is built as it stands.
+`rt lib` proves and builds crates/complgen_c. --archive names a directory that has the archive already.
+cargo runs the tests of rust/lagvtsune, and again under valgrind if it is installed. valgrind must report
+no error and no leak. examples/from-rust has to build.
 
-Then the example `herd` of the package is built with it and with the crate `clap_complete`, which
-differ in the name of the crate alone. The scripts of both are laid side by side, and what they reply
-to 1,000 live requests made at random, but for those at which the original panics. Crates are Debian's
-where these are installed, and else those that cargo fetches; with one that has no `CompleteEnv` only
-scripts are compared. Of the folders clap and clap_complete in the folder that --original names both
-programs are built instead.
+Then the example `herd` of the package is built with the package, and with the crate `clap_complete`. The
+two programs differ only in the name of the crate. The script compares their scripts, and their replies to
+1,000 random live requests, except those at which the original panics. If Debian's crates are installed,
+cargo uses these. Otherwise it fetches crates. If the original has no `CompleteEnv`, only scripts are
+compared. --original names a directory with the crates clap and clap_complete, which both programs then
+use.
 
-Printed is a line for each step, with valgrind also the instructions of both programs. Where
-clap_complete is 4.6.11, and a text differs by more than the differences that docs/DIFFERENCES.md
-names, it is printed too. The status is 0 where all holds, else 1. Needs `cargo`, clap 4 with its
-derive, and `rt` where no archive is named.
+The script prints a line for each step, and with valgrind also the instructions of both programs. If
+clap_complete is 4.6.11, it also prints each text that differs by more than the differences in
+docs/DIFFERENCES.md. The status is 0 if all of it holds. It needs `cargo` and clap 4 with its derive, and
+`rt` without --archive.
 """
 
 import argparse
 import difflib
-import glob
 import os
 import random
 import re
@@ -32,10 +30,11 @@ import subprocess
 import sys
 import tempfile
 
-TOP = os.path.dirname(os.path.dirname(os.path.realpath(__file__)))
-DEBIAN = "/usr/share/cargo/registry"
+sys.path.append(os.path.join(os.path.dirname(os.path.realpath(__file__)), "..", "tools"))
+import common
+
 ARCHIVE = "libcomplgen_c.a"
-SHELLS = ["bash", "elvish", "fish", "powershell", "zsh"]
+SHELLS = list(common.LIVE_SHELLS)
 # The original whose scripts are the same, but for what is known to differ.
 VERSION = "4.6.11"
 MANIFEST = """[package]
@@ -71,7 +70,7 @@ def main():
     with tempfile.TemporaryDirectory() as work:
         cargo = Cargo(work, options.archive or build_archive(), options.original)
         for folder in ("rust", "examples"):
-            shutil.copytree(os.path.join(TOP, folder), os.path.join(work, folder))
+            shutil.copytree(os.path.join(common.TOP, folder), os.path.join(work, folder))
         package = os.path.join(work, "rust", "lagvtsune")
         cargo.run(package, "test", "--quiet")
         print("tests: passed")
@@ -90,7 +89,7 @@ def arguments():
 
 def build_archive():
     """Builds the archive, and returns the folder that it is in."""
-    crate = os.path.join(TOP, "crates", "complgen_c")
+    crate = os.path.join(common.TOP, "crates", "complgen_c")
     subprocess.run(["rt", "lib"], cwd=crate, check=True, stdout=subprocess.DEVNULL)
     size = os.path.getsize(os.path.join(crate, "out", ARCHIVE))
     print(f"archive: proved and built, {size:,} bytes")
@@ -111,12 +110,9 @@ class Cargo:
             "LAGVTSUNE_DIR": archive,
         }
         self.built = os.path.join(work, "target")
-        self.flags = []
-        if glob.glob(os.path.join(DEBIAN, "clap-4.*")):
-            self.flags = ["--offline", *config("source.crates-io.replace-with", "debian")]
-            self.flags += config("source.debian.directory", DEBIAN)
+        self.flags = common.cargo_flags()
         for crate in ("clap", "clap_complete") if original else ():
-            self.flags += config(f"patch.crates-io.{crate}.path", os.path.join(original, crate))
+            self.flags += common.cargo_config(f"patch.crates-io.{crate}.path", os.path.join(original, crate))
 
     def run(self, package, *words):
         """What cargo says."""
@@ -131,10 +127,6 @@ class Cargo:
         said = self.run(package, "test", "--no-run")
         names = re.findall(r"\(\S*?target/(debug/deps/\S+)\)", said)
         return [os.path.join(self.built, name) for name in names]
-
-
-def config(key, value):
-    return ["--config", f'{key}="{value}"']
 
 
 def under_valgrind(programs):
@@ -246,9 +238,7 @@ def print_instructions(ours, theirs, work, replies):
 
 
 def instructions(program, asked, words, work):
-    command = ["valgrind", "--tool=callgrind", "--callgrind-out-file=/dev/null", program, *words]
-    ran = subprocess.run(command, check=True, capture_output=True, text=True, **requesting(asked, work))
-    return int(re.search(r"Collected : (\d+)", ran.stderr)[1])
+    return common.callgrind([program, *words], **requesting(asked, work)).total
 
 
 def script(program, shell):

@@ -1,54 +1,50 @@
 #!/usr/bin/env python3
-"""Times `complgen script` over large trees, and judges whether time and memory stay in bounds.
+"""Measures `complgen` over large trees, and checks limits of time, memory and instructions.
 
-    bench/run [--program FILE] [--shells NAME,NAME..] [--runs N]
-    bench/run --instructions [--program FILE] [--shells NAME,NAME..]
-    bench/run --candidates [--program FILE] [--larder FILE]
+    bench/run.py [--shells NAME,NAME..] [--runs N]
+    bench/run.py --instructions [--shells NAME,NAME..]
+    bench/run.py --candidates
 
-The program is the one that `./complgen` at the top of the repository builds; it is built first where
-that is due. Another one is named by --program.
-
-The trees, as files in a temporary folder:
+The first form times `complgen script` over these trees, which it writes as files:
 
 - wide: a root with all other commands as its children;
-- deep: a root with chains below it, each 39 commands long (the last one shorter where they don't
-  come out even), so that the tree is 40 deep;
-- options: one command with 10,000 options, each with a long, a help and one value.
+- deep: a root with chains below it. A chain is 39 commands long, so the tree is 40 deep;
+- options: one command with 10,000 options, each with a long name, a help text and one value.
 
-Wide and deep stand for 100, 1,000 and 10,000 commands. A command has a name of six letters and
-digits, so that no tree has longer names than another, an about of some forty characters, and no
-arguments or aliases. Each disables the help flag and the help child: the child `help` copies the
-whole tree below it, and there would be twice as many commands and more. So a script has one table
-(in bash one arm, in zsh one block) for each command of the count, or one row (arm, line) for each
-option; a fish script has one record for each option, or for each command below the program. That is
-checked. The files have no blanks between their tokens.
+Wide and deep trees have 100, 1,000 and 10,000 commands. A command has a name of six letters and
+digits, a description of some forty characters, and no arguments or aliases. Its help flag and help
+subcommand are disabled, because the subcommand `help` copies the whole tree below it. So a script has
+one table for each command, or one row for each option, and the script checks their number. In a fish
+script each command and each option is one record. The files have no spaces between their tokens.
 
-Printed is, for each shell and tree: the best time of several runs (five times as many of the small
-trees), less the best of as many over a tree of one command, which take turns with them, as
-microseconds a command (an option), and as megabytes of the script a second; and the peak of the
-program's memory beside its limit. The time is the processor's, user and system, which depends less on
-what else the machine does: the program has one thread and waits for nothing. Timed runs write to
-/dev/null.
+It prints a line for each shell and tree:
 
-The limits, both of which have to be kept for the status 0:
+- the best time of several runs, minus the best of as many runs over a tree of one command. Both take
+  turns. The time is given as microseconds for each command or option, and as megabytes of the script
+  for each second;
+- the peak of the program's memory, and its limit.
 
-- time: from 1,000 to 10,000 commands of one shape, the time a command grows by no more than a third;
+The time is the processor's, user and system. It depends less on what else the machine does, and the
+program has one thread and waits for nothing. Timed runs write to /dev/null.
+
+The status is 0 if these limits hold:
+
+- time: from 1,000 to 10,000 commands of one shape, the time for each command grows by at most a third;
 - memory: the peak stays below ten times the size of the tree file plus 8 MB (8,000,000 bytes).
 
-With --instructions nothing is timed: for each shell, valgrind counts the instructions of one run over
-the wide trees of 1,000 and 10,000 commands, over the one of one command, over one command with 1,000
-options and over a chain of 39 commands (see `instructions_of`); bench/README.md says how to read them.
-Then it counts those of `complgen check` of the 10,000 options, which may take three times as many as
-reading them does in a run of `script`; else the status is 1.
+With --instructions, valgrind counts the instructions of one run for each shell: over the wide trees of
+1,000 and 10,000 commands, over one command, over one command with 1,000 options, and over a chain of
+39 commands. bench/README.md explains the columns. Then it counts `complgen check` of the 10,000
+options, which may take three times the instructions of reading them in a run of `script`.
 
-With --candidates valgrind counts the instructions of `complete`, without the build, in runs of
-`complgen candidates`: over 100, 1,000 and 10,000 children and options for a word with which none, one
-and all of their names begin; and after 10, 100 and 1,000 words. A child or an option that is not taken
-may cost 250 instructions, and among ten times as many no child, option or word more than a third
-above that; else the status is 1. Then it counts those of a run of `larder` that replies to a shell,
-beside those of `complgen candidates` over examples/larder.json, the tree of a larger tool.
+With --candidates, valgrind counts the instructions of `complete`, without the build, in runs of
+`complgen candidates`. The runs are over 100, 1,000 and 10,000 children and options, for a word that
+begins none, one and all of their names, and after 10, 100 and 1,000 words. A child or an option that
+is not offered may cost 250 instructions. Among ten times as many, a child, an option or a word may cost
+at most a third more. Then it counts a run of `larder` that replies to a shell, and a run of `complgen
+candidates` for the same words over examples/larder.json.
 
-Linux only: the peak is asked of the system (see `peak_memory`).
+It runs on Linux only, because it gets the memory peak from the system (see `peak_memory`).
 """
 
 import argparse
@@ -59,8 +55,9 @@ import subprocess
 import sys
 import tempfile
 
-TOP = os.path.dirname(os.path.dirname(os.path.realpath(__file__)))
-SHELLS = "bash,elvish,fish,nushell,powershell,zsh"
+sys.path.append(os.path.join(os.path.dirname(os.path.realpath(__file__)), "..", "tools"))
+import common
+
 COUNTS = (100, 1000, 10000)
 OPTIONS = 10000
 DEPTH = 40
@@ -72,13 +69,14 @@ PR_SET_CHILD_SUBREAPER = 36
 
 def main():
     options = arguments()
-    program = options.program or built_program()
+    program = common.program("complgen")
     shells = options.shells.split(",")
     if options.instructions:
         return counted(program, shells)
     if options.candidates:
+        larder = common.program("larder")
         status = counted_candidates(program)
-        counted_reply(program, options.larder)
+        counted_reply(program, larder)
         return status
     adopt_orphans()
     kept = True
@@ -95,23 +93,14 @@ def main():
 
 
 def arguments():
-    parser = argparse.ArgumentParser(description="Times complgen over large trees.")
-    parser.add_argument("--program", help="the executable, in place of the one that ./complgen builds")
-    parser.add_argument("--shells", default=SHELLS, help="names joined by commas")
+    parser = argparse.ArgumentParser(usage=common.usage(__doc__))
+    parser.add_argument("--shells", default=",".join(common.SHELLS), help="names joined by commas")
     parser.add_argument("--instructions", action="store_true", help="count instructions, time nothing")
     parser.add_argument(
         "--candidates", action="store_true", help="count instructions of live completion"
     )
-    larder = os.path.join(TOP, "crates", "larder", "out", "larder")
-    parser.add_argument("--larder", default=larder, help="the program that replies")
     parser.add_argument("--runs", type=int, default=20, help="runs of which the best counts")
     return parser.parse_args()
-
-
-def built_program():
-    """The executable, which ./complgen builds where it is missing or older than its sources."""
-    subprocess.run([os.path.join(TOP, "complgen"), "--prove"], check=True)
-    return os.path.join(TOP, "crates", "complgen", "out", "complgen")
 
 
 # Trees.
@@ -184,7 +173,7 @@ def write_tree(folder, name, tree):
 def adopt_orphans():
     """Has a process whose parent ended become a child of this one."""
     if ctypes.CDLL(None).prctl(PR_SET_CHILD_SUBREAPER, 1, 0, 0, 0) != 0:
-        sys.exit("bench: the system doesn't hand over processes whose parent ended")
+        sys.exit("bench: the system does not adopt processes whose parent ended")
 
 
 def words(program, shell, tree):
@@ -334,49 +323,6 @@ BUILD = "command::Command::build"
 BUILD_WITHIN = "command::build::build_under"
 
 
-def costs_of(call, folder, *functions):
-    """The instructions of a run, and of all calls of each function, with all that it calls.
-
-    The names come from the program's symbols; a function that is inlined counts for the one that it
-    is in.
-    """
-    profile = os.path.join(folder, "profile")
-    subprocess.run(
-        [
-            "valgrind", "--quiet", "--tool=callgrind", "--compress-strings=no", "--compress-pos=no",
-            f"--callgrind-out-file={profile}", *call,
-        ],
-        check=True, stdout=subprocess.DEVNULL,
-    )
-    with open(profile, encoding="utf-8", errors="replace") as file:
-        return read_profile(file, functions)
-
-
-def read_profile(lines, functions):
-    """The total of a profile, and what the calls of each function cost."""
-    total, costs, called = 0, dict.fromkeys(functions, 0), ""
-    for line in lines:
-        if line.startswith(("summary:", "totals:")):
-            total = int(line.split()[1])
-        elif line.startswith("cfn="):
-            called = line[4:].strip()
-        elif line.startswith("calls="):
-            inclusive = int(next(lines).split()[1])
-            for function in functions:
-                # A call of itself, which has a number after a `'`, is in the cost of the outer one.
-                if function in called and "'" not in called:
-                    costs[function] += inclusive
-    for function in functions:
-        if costs[function] == 0:
-            sys.exit(f"bench: the profile has no call of {function}")
-    return total, *costs.values()
-
-
-def instructions_of(call, folder):
-    """The instructions of a run, and of the generator in it."""
-    return costs_of(call, folder, GENERATE)
-
-
 # How many instructions a whole run may take over 1,000 wide commands and over 1,000 options, and how
 # many times those of 1,000 commands the run over 10,000 may take.
 MOST_WIDE = 60_000_000
@@ -387,6 +333,12 @@ MOST_TIMES = 10.5
 MOST_CHECK = 3
 
 
+def script_costs(program, shell, tree):
+    """Returns the instructions of writing a script, all and those of the generator."""
+    counted = common.callgrind(words(program, shell, tree), GENERATE)
+    return counted.total, counted.costs[0]
+
+
 def counted(program, shells):
     """Prints for each shell the instructions of 1,000 commands, of 1,000 options and of a chain."""
     kept = True
@@ -395,11 +347,11 @@ def counted(program, shells):
         rows = write_tree(folder, "rows", with_options(1000))
         line = write_tree(folder, "line", chain(0, DEPTH - 1))
         for shell in shells:
-            whole, writing = instructions_of(words(program, shell, trees["wide", 1000]), folder)
-            many, _ = instructions_of(words(program, shell, trees["wide", 10000]), folder)
-            one, writing_one = instructions_of(words(program, shell, trees["one", 1]), folder)
-            options, writing_rows = instructions_of(words(program, shell, rows), folder)
-            deep_line, _ = instructions_of(words(program, shell, line), folder)
+            whole, writing = script_costs(program, shell, trees["wide", 1000])
+            many, _ = script_costs(program, shell, trees["wide", 10000])
+            one, writing_one = script_costs(program, shell, trees["one", 1])
+            options, writing_rows = script_costs(program, shell, rows)
+            deep_line, _ = script_costs(program, shell, line)
             kept &= whole <= MOST_WIDE and options <= MOST_OPTIONS and many <= MOST_TIMES * whole
             print(
                 f"{shell:<11}wide {whole:>11,}  times {many / whole:>5.2f}  options {options:>11,}  "
@@ -408,16 +360,16 @@ def counted(program, shells):
                 f"a row {(writing_rows - writing_one) // 1000:>6,}",
                 flush=True,
             )
-        kept &= counted_check(program, trees["options", OPTIONS], folder)
+        kept &= counted_check(program, trees["options", OPTIONS])
     print("all limits are kept" if kept else "a limit is not kept")
     return 0 if kept else 1
 
 
-def counted_check(program, tree, folder):
-    """Prints the instructions of a check beside those of reading the tree, and whether they keep the
+def counted_check(program, tree):
+    """Prints the instructions of a check and those of reading the tree. Returns whether they keep the
     limit."""
-    _, reading = costs_of(words(program, "elvish", tree), folder, READ_TREE)
-    (checking,) = costs_of([program, "check", tree], folder)
+    (reading,) = common.callgrind(words(program, "elvish", tree), READ_TREE).costs
+    checking = common.callgrind([program, "check", tree]).total
     print(
         f"check of {OPTIONS:,} options {checking:>11,}  reading {reading:>11,}  "
         f"times {checking / reading:>5.2f}, limit {MOST_CHECK}"
@@ -443,7 +395,7 @@ def counted_candidates(program):
 
         def cost(tree, *words):
             call = completing(program, tree, ["app", *words])
-            _, completed, built = costs_of(call, folder, COMPLETE, BUILD_WITHIN)
+            completed, built = common.callgrind(call, COMPLETE, BUILD_WITHIN).costs
             return completed - built
 
         print("                     word                        in all      each   looking      each")
@@ -518,20 +470,16 @@ def counted_reply(program, larder):
     rest of the call, which makes the command and writes the reply; and what the candidates for the
     same words cost `complgen`, which reads the tree of a larger tool from a file."""
     words = ["larder", "in"]
-    with tempfile.TemporaryDirectory() as folder:
-        os.environ["COMPLETE"] = "fish"
-        replying = [larder, "--", *words]
-        whole, call = costs_of(replying, folder, COMPLETES)
-        build = costs_of(replying, folder, BUILD)[1]
-        completed = costs_of(replying, folder, COMPLETE)[1]
-        print(
-            f"larder replies:      {whole:>10,} in all, {call:,} completes: {build:,} build, "
-            f"{completed:,} complete, {call - build - completed:,} command and reply"
-        )
-        del os.environ["COMPLETE"]
-        tree = os.path.join(TOP, "examples", "larder.json")
-        whole, cost = costs_of(completing(program, tree, words), folder, COMPLETE)
-        print(f"complgen candidates: {whole:>10,} in all, {cost:,} complete")
+    replying, asked = [larder, "--", *words], {**os.environ, "COMPLETE": "fish"}
+    replied = common.callgrind(replying, COMPLETES, BUILD, COMPLETE, env=asked)
+    call, build, completed = replied.costs
+    print(
+        f"larder replies:      {replied.total:>10,} in all, {call:,} completes: {build:,} build, "
+        f"{completed:,} complete, {call - build - completed:,} command and reply"
+    )
+    tree = os.path.join(common.EXAMPLES, "larder.json")
+    counted = common.callgrind(completing(program, tree, words), COMPLETE)
+    print(f"complgen candidates: {counted.total:>10,} in all, {counted.costs[0]:,} complete")
 
 
 if __name__ == "__main__":

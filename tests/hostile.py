@@ -1,24 +1,23 @@
 #!/usr/bin/env python3
-"""Runs the programs on bad input by the thousand.
+"""Runs the programs thousands of times on bad input.
 
-    bench/hostile [--seed N] [--runs N] [--only N] [--program FILE] [--larder FILE]
+    tests/hostile.py [--seed N] [--runs N] [--only N]
 
-Of seven runs four are `complgen`, one of them `complgen check`, over a tree file of examples/ that was
-changed: bytes flipped, cut out or doubled, keys exchanged, numbers out of range, values of another
-kind, objects nested as deep as a file may nest and deeper. One is `complgen candidates` with words and
-an index made at random; one is `larder`, and one `complgen` as a shell runs it, with words and
-environment values made at random, the latter with folders of tree files that are changed, have odd
-names or are none. None need be UTF-8.
+Of seven runs, four are of `complgen` over a changed tree file of examples/, one of these with `check`.
+The changes are these: bytes flipped, cut out or doubled, keys exchanged, numbers out of range, values
+of another kind, and objects nested as deep as a file may nest and deeper. One run is `complgen
+candidates` with random words and a random index. One is `larder`, and one is `complgen` as a shell runs
+it, both with random words and environment values. For `complgen` the directories of tree files then
+have changed files and odd names, or do not exist. The input need not be UTF-8.
 
-Each run has to end within a second, by no signal, with status 0, 1 or 2. One that ends with status 0
-prints nothing to the standard error but how many tree files are passed over; another one prints
-nothing to the standard output, and to the standard error one of the texts that docs/TEXTS.md lists,
-or the command line's own where the words are bad, or nothing where a program has no tree file. But
-`check` prints lines of findings to the standard output, where the status is 1 at least one. The
-programs are the proved ones; others are named by --program and --larder.
+Each run has to end within a second, by no signal, with status 0, 1 or 2. With status 0, it prints
+nothing to the standard error, except how many tree files it passed over. With another status, it
+prints nothing to the standard output. To the standard error it prints one of the texts that
+docs/TEXTS.md lists, or the command line's own text, or nothing if a program has no tree file. Only
+`check` prints findings to the standard output, at least one if the status is 1.
 
-Printed is each run that fails, by its number, which --only repeats, and at the end how many runs
-ended with which text. The status is 0 where none failed, else 1.
+The script prints each run that fails with its number, which --only repeats. Then it prints how many
+runs ended with which text. The status is 0 if no run failed.
 """
 
 import argparse
@@ -33,8 +32,10 @@ import subprocess
 import sys
 import tempfile
 
-TOP = os.path.dirname(os.path.dirname(os.path.realpath(__file__)))
-SHELLS = ["bash", "elvish", "fish", "nushell", "powershell", "zsh"]
+sys.path.append(os.path.join(os.path.dirname(os.path.realpath(__file__)), "..", "tools"))
+import common
+
+SHELLS = list(common.SHELLS)
 # The deepest that the objects and lists of a tree file nest.
 DEEPEST = 127
 SECONDS = 1
@@ -72,7 +73,8 @@ Case = collections.namedtuple("Case", "kind words environment")
 
 def main():
     options = arguments()
-    programs = {"complgen": options.program, "check": options.program, "larder": options.larder}
+    complgen = common.program("complgen")
+    programs = {"complgen": complgen, "check": complgen, "larder": common.program("larder")}
     numbers = [options.only] if options.only is not None else range(options.runs)
     with tempfile.TemporaryDirectory() as folder:
         trees = read_trees()
@@ -98,12 +100,10 @@ def remove(path):
 
 
 def arguments():
-    parser = argparse.ArgumentParser(usage=__doc__.split("\n")[2].strip())
+    parser = argparse.ArgumentParser(usage=common.usage(__doc__))
     parser.add_argument("--seed", type=int, default=1)
     parser.add_argument("--runs", type=int, default=20000)
     parser.add_argument("--only", type=int, help="the number of the one run to repeat")
-    for option, name in (("--program", "complgen"), ("--larder", "larder")):
-        parser.add_argument(option, default=os.path.join(TOP, "crates", name, "out", name))
     return parser.parse_args()
 
 
@@ -171,7 +171,7 @@ def case_of(chance, number, trees, path):
             return Case("check", ["check", path], {})
         return Case("complgen", words_over(chance, path), {})
     if kind == 3:
-        tree = os.path.join(TOP, "examples", chance.choice(sorted(trees)))
+        tree = os.path.join(common.EXAMPLES, chance.choice(sorted(trees)))
         words = odd_words(chance, 12)
         words = ["candidates", "--index", index(chance), tree, "--", *words]
         return Case("complgen", words, {} if chance.randrange(4) else odd_value(chance, ["HOME"]))
@@ -279,7 +279,7 @@ def odd_word(chance):
 def read_trees():
     trees = {}
     for name in ("larder.json", "tree-with-children.json", "tree.json"):
-        with open(os.path.join(TOP, "examples", name), "rb") as file:
+        with open(os.path.join(common.EXAMPLES, name), "rb") as file:
             trees[name] = file.read()
     return trees
 

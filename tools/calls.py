@@ -1,16 +1,16 @@
 #!/usr/bin/env python3
 """Makes docs/CALLS.md, the page of all public calls, from the sources.
 
-    bench/calls           prints the page
-    bench/calls --write   writes it to docs/CALLS.md
-    bench/calls --check   compares docs/CALLS.md with it
+    tools/calls.py           prints the page
+    tools/calls.py --write   writes it to docs/CALLS.md
+    tools/calls.py --check   compares docs/CALLS.md with it
 
-For each module of crates/clap_complete, and for the crates beside it, the page has the functions,
-types and traits that are public there, with their signatures and the first sentence of their doc
-comments. Contracts, bodies and ghost lines are left out. It is a search in the sources, as `rt fmt`
-lays them out, and builds nothing.
+The page has a section for each module of crates/clap_complete, and for the crates beside it. A section has
+the public functions, types and traits, with their signatures and the first sentences of their doc comments.
+Contracts, bodies and ghost lines are left out. The script searches the sources, in the layout of `rt fmt`,
+and builds nothing.
 
-With --check the status is 0 where the page is up to date, else 1.
+With --check the status is 0 if the page is up to date.
 """
 
 import difflib
@@ -20,10 +20,11 @@ import re
 import sys
 import textwrap
 
-TOP = os.path.dirname(os.path.dirname(os.path.realpath(__file__)))
-PAGE = os.path.join(TOP, "docs", "CALLS.md")
+import common
+
+PAGE = os.path.join(common.TOP, "docs", "CALLS.md")
 MODULES = ["", "aot", "aot::utils", "command", "describe", "engine", "env", "parser", "program", "quote"]
-CRATES = ["complgen_tree_file", "complgen_command_line", "complgen_commands", "complgen_commands", "complgen_check", "complgen_c"]
+CRATES = ["complgen_tree_file", "complgen_command_line", "complgen_commands", "complgen_check", "complgen_c"]
 CLAUSE = re.compile(r"\s*(ensures|requires|decreases|measure|ghost|\{)")
 ITEM = re.compile(r"(pub )?(?:const |extern \"C\" )?(fn|struct|enum|trait|type|const|static) (\w+)")
 LAW = {"Model", "Drop"}
@@ -32,7 +33,7 @@ SHOWN = {"ThisError": "Error"}
 HEAD = """# Calls
 
 All public calls with their signatures, module by module, as a program finds them in `clap_complete`; after them those of
-six crates beside it. `bench/calls --write` makes this page from the sources, and `bench/calls --check` says whether it is
+six crates beside it. `tools/calls.py --write` makes this page from the sources, and `tools/calls.py --check` says whether it is
 up to date. Of each doc comment the first sentence stands here; the contract stands in the source: the head of a group
 names the folder, and `requires` says that a call has a premise there.
 
@@ -195,7 +196,7 @@ def wrapped(begin, text):
 def exported(module):
     """The names that a module re-exports or has, each with its crate."""
     crate, file = ("cc_generator", "utils") if module == "aot::utils" else ("clap_complete", module or "lib")
-    with open(os.path.join(TOP, "crates", crate, "src", f"{file}.rt"), encoding="utf-8") as source:
+    with open(os.path.join(common.TOP, "crates", crate, "src", f"{file}.rt"), encoding="utf-8") as source:
         text = source.read()
     found = []
     for of, names in re.findall(r"pub use (\w+)::(?:\w+::)*(\w+|\{[^}]*\});", text):
@@ -205,7 +206,7 @@ def exported(module):
 
 
 def public_names(crate):
-    with open(os.path.join(TOP, "crates", crate, "src", "lib.rt"), encoding="utf-8") as source:
+    with open(os.path.join(common.TOP, "crates", crate, "src", "lib.rt"), encoding="utf-8") as source:
         text = source.read()
     found = re.findall(r"^pub use (?:crate::)?(?:\w+::)*(\w+|\{[^}]*\});", text, re.MULTILINE)
     names = [name for part in found for name in re.findall(r"\w+", part)]
@@ -218,7 +219,7 @@ def find(crate, name):
         for item in items(lines, ""):
             if item.name == name and item.kind != "type" and item.lines[0].startswith("pub "):
                 return item
-    raise SystemExit(f"bench/calls: no public {name} in crates/{crate}")
+    raise SystemExit(f"tools/calls.py: no public {name} in crates/{crate}")
 
 
 def items(lines, indent):
@@ -312,7 +313,7 @@ def private_traits(crate):
 
 
 def sources(crate):
-    pattern = os.path.join(TOP, "crates", crate, "src", "**", "*.rt")
+    pattern = os.path.join(common.TOP, "crates", crate, "src", "**", "*.rt")
     for path in sorted(glob.glob(pattern, recursive=True)):
         with open(path, encoding="utf-8") as file:
             yield file.read().split("\n")

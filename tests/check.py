@@ -1,37 +1,37 @@
 #!/usr/bin/env python3
-"""Lays what `complgen check` says of changed tree files beside what `complgen script` does, and its
-places beside those of a locator of its own.
+"""Compares `complgen check` with `complgen script` over changed tree files.
 
-    bench/check [--seed N] [--runs N] [--program FILE]
+    tests/check.py [--seed N] [--runs N]
 
-The files are those of examples/, each changed at random: a key misspelt, doubled or taken out, a
-value of another kind, a number out of range, a name that is not plain, bytes cut out; and laid out
-at random. For each file:
+The files are those of examples/ with random changes: a key misspelt, doubled or taken out, a value of
+another kind, a number out of range, a name that is not plain, bytes cut out. Their layout is random
+too. For each file:
 
-- `check` prints an error exactly where `script` says `tree: not JSON` or `tree: bad form`;
-- its status is 1 where it prints an error or a warning, and else 0; it prints nothing else;
-- of each line with a path, line and column are where this script finds the value at that path, or
-  the key, where the text is about a key;
-- where it prints neither an error nor a warning, the scripts of all shells are written.
+- `check` prints an error exactly if `script` prints `tree: not JSON` or `tree: bad form`;
+- the status of `check` is 1 if it prints an error or a warning, and otherwise 0. It prints nothing else;
+- each line with a path has the line and column at which this script, with a locator of its own, finds
+  the value of that path, or the key if the text is about a key;
+- if `check` prints neither an error nor a warning, `script` writes the scripts of all shells.
 
-Printed is each file for which that does not hold, with the lines, and at the end how many files had
-errors, warnings and nothing. The status is 0 where all holds, else 1.
+The script prints each file for which this does not hold, with the lines. Then it prints how many files
+had errors, warnings and nothing. The status is 0 if all of it holds.
 """
 
 import argparse
 import collections
 import concurrent.futures
-import glob
 import json
 import os
+import pathlib
 import random
 import re
 import subprocess
 import sys
 import tempfile
 
-TOP = os.path.dirname(os.path.dirname(os.path.realpath(__file__)))
-SHELLS = ["bash", "elvish", "fish", "nushell", "powershell", "zsh"]
+sys.path.append(os.path.join(os.path.dirname(os.path.realpath(__file__)), "..", "tools"))
+import common
+
 LINE = re.compile(r"(\d+):(\d+): (error|warning|note): (the file|[^ ]+): (.*)")
 STEP = re.compile(r"([^.\[\]]+)|\[(\d+)\]")
 ABOUT_KEY = re.compile(r"an? [a-z ]+ has no key `|the key `.*` stands twice")
@@ -45,7 +45,8 @@ Member = collections.namedtuple("Member", "at key value")
 
 def main():
     options = arguments()
-    trees = [open(name, encoding="utf-8").read() for name in sorted(glob.glob(f"{TOP}/examples/*.json"))]
+    program = common.program("complgen")
+    trees = [pathlib.Path(path).read_text(encoding="utf-8") for path in common.example_trees()]
     totals, wrong = collections.Counter(), 0
     with tempfile.TemporaryDirectory() as folder:
 
@@ -54,7 +55,7 @@ def main():
             path = os.path.join(folder, f"{number}.json")
             with open(path, "wb") as file:
                 file.write(text)
-            return number, judged(options.program, path, text)
+            return number, judged(program, path, text)
 
         with concurrent.futures.ThreadPoolExecutor(os.cpu_count()) as pool:
             for number, (kind, faults) in pool.map(attempt, range(options.runs)):
@@ -67,11 +68,9 @@ def main():
 
 
 def arguments():
-    parser = argparse.ArgumentParser(usage=__doc__.split("\n")[3].strip())
+    parser = argparse.ArgumentParser(usage=common.usage(__doc__))
     parser.add_argument("--seed", type=int, default=1)
     parser.add_argument("--runs", type=int, default=400)
-    default = os.path.join(TOP, "crates", "complgen", "out", "complgen")
-    parser.add_argument("--program", default=default, type=os.path.realpath)
     return parser.parse_args()
 
 
@@ -91,7 +90,7 @@ def judged(program, path, text):
     faults = []
     if done.returncode != int(kind in ("error", "warning")):
         faults.append(f"status {done.returncode} at {kind}")
-    scripts = [run(program, "script", "--shell", shell, "--bin", "app", path) for shell in SHELLS]
+    scripts = [run(program, "script", "--shell", shell, "--bin", "app", path) for shell in common.SHELLS]
     is_taken = not any(script.stderr.startswith(b"tree: ") for script in scripts)
     if is_taken == (kind == "error"):
         faults.append(f"check finds {kind}, and script ends with {scripts[0].stderr!r}")
@@ -240,4 +239,5 @@ def odd_name(chance, tree):
     found[key] = [value] if key in ("value_names", "aliases") else value
 
 
-sys.exit(main())
+if __name__ == "__main__":
+    sys.exit(main())
