@@ -171,7 +171,7 @@ def write_tree(folder, name, tree):
 
 
 def adopt_orphans():
-    """Has a process whose parent ended become a child of this one."""
+    """Makes this process the parent of processes whose own parent ended."""
     if ctypes.CDLL(None).prctl(PR_SET_CHILD_SUBREAPER, 1, 0, 0, 0) != 0:
         sys.exit("bench: the system does not adopt processes whose parent ended")
 
@@ -181,7 +181,7 @@ def words(program, shell, tree):
 
 
 def ended_well(pid):
-    """Waits for a process, and returns what it used; ends the run where it failed."""
+    """Waits for a process, and returns what it used. Ends the script if the process failed."""
     _, status, usage = os.wait4(pid, 0)
     if os.waitstatus_to_exitcode(status) != 0:
         sys.exit("bench: the program refused a tree")
@@ -189,14 +189,14 @@ def ended_well(pid):
 
 
 def seconds_of(call):
-    """The processor time of a run, the system's work for it included."""
+    """Returns the processor time of a run, including the system's."""
     nothing = [(os.POSIX_SPAWN_OPEN, 1, os.devnull, os.O_WRONLY, 0)]
     usage = ended_well(os.posix_spawn(call[0], call, {}, file_actions=nothing))
     return usage.ru_utime + usage.ru_stime
 
 
 def best_seconds(call, call_of_one, runs):
-    """The shortest of several runs, less the shortest of as many over a tree of one command."""
+    """Returns the best of several runs, minus the best of as many runs over a tree of one command."""
     best = best_of_one = float("inf")
     for _ in range(runs):
         best_of_one = min(best_of_one, seconds_of(call_of_one))
@@ -205,11 +205,11 @@ def best_seconds(call, call_of_one, runs):
 
 
 def peak_memory(call, script):
-    """The peak of the program's memory in bytes, in a run that writes the script to this file.
+    """Returns the peak of the program's memory in bytes, in a run that writes the script to this file.
 
-    What the system tells of a process counts what its parent held when it made it, and an
-    interpreter of Python alone is above some limits. So a shell, which is small, makes the process
-    and ends; only then is the process let go, so that it is this one that learns how it ended.
+    The system's count for a process includes what its parent held at the start. Python alone is above some
+    limits. So a small shell starts the process and ends. The process waits for that at a gate, and then its
+    parent is this script, which learns how it ended.
     """
     start = 'script=$1; shift; exec 3<&0; { read go <&3; exec "$@" 3<&-; } >"$script" & echo $!'
     gate, key = os.pipe()
@@ -223,16 +223,16 @@ def peak_memory(call, script):
 
 
 def script_of(call, tree):
-    """The script of a tree, and the peak of memory that it took."""
+    """Returns the script of a tree, and its memory peak."""
     path = tree + ".script"
     peak = peak_memory(call, path)
     with open(path, "rb") as file:
         return file.read(), peak
 
 
-# What stands once for each command in a script, and once for each option: what begins an arm in
-# bash, a record in fish and a block or line in zsh, and what ends a block in Nushell, and a table and
-# a row in the others.
+# Texts that a script has once for each command, and once for each option: the beginning of an arm in
+# bash, of a record in fish and of a block or line in zsh, the end of a block in Nushell, and the ends
+# of a table and a row in the others.
 COMMAND_MARKS = {
     "bash": b'\n            opts="',
     "fish": b"\ncomplete -c app",
@@ -248,7 +248,7 @@ TABLE_END, ROW_END = b"\n        }", b"\n"
 
 
 def is_whole(shell, shape, count, script, script_of_one):
-    """Whether the script has all that stands for a command, or for an option."""
+    """Tells whether the script has all tables or rows, one for each command or option."""
     if shape == "options":
         mark, wanted = OPTION_MARKS.get(shell, ROW_END), count
     else:
@@ -257,7 +257,7 @@ def is_whole(shell, shape, count, script, script_of_one):
 
 
 def marks(mark, script):
-    """How often the mark stands in a script, at its very start too."""
+    """Counts the lines of a script that begin with the mark."""
     return (b"\n" + script).count(mark)
 
 
@@ -296,7 +296,7 @@ def print_line(shell, shape, count, seconds, length, size, peak):
 
 
 def judged_growth(shell, seconds_each):
-    """Prints how the time a command grows, and returns whether it stays in its limit."""
+    """Prints how the time for each command grows, and returns whether it keeps its limit."""
     kept = True
     for shape in ("wide", "deep"):
         growth = seconds_each[shape, 10000] / seconds_each[shape, 1000]
@@ -312,8 +312,8 @@ def judged_growth(shell, seconds_each):
 # Instructions.
 
 
-# What the symbols of the programs call the generator, the reading of a tree, `complete`,
-# `completes`, into which `try_complete` is inlined, and `build`.
+# Parts of the symbols of the generator, the reader of trees, `complete`, `completes`, into which
+# `try_complete` is inlined, and `build`.
 GENERATE = "ShellGenerator::generate"
 READ_TREE = "read_tree"
 COMPLETE = "completion::complete::<"
@@ -323,13 +323,13 @@ BUILD = "command::Command::build"
 BUILD_WITHIN = "command::build::build_under"
 
 
-# How many instructions a whole run may take over 1,000 wide commands and over 1,000 options, and how
-# many times those of 1,000 commands the run over 10,000 may take.
+# Limits of the instructions of a whole run over 1,000 wide commands and over 1,000 options, and of a
+# run over 10,000 commands in comparison with 1,000.
 MOST_WIDE = 60_000_000
 MOST_OPTIONS = 11_500_000
 MOST_TIMES = 10.5
 
-# How many times as many a check of 10,000 options may take as reading them.
+# The limit of a check of 10,000 options, in comparison with reading them.
 MOST_CHECK = 3
 
 
@@ -378,19 +378,22 @@ def counted_check(program, tree):
 
 
 def completing(program, tree, words):
-    """The command line that asks for candidates for the last of the words."""
+    """Returns the command line that requests candidates for the last of the words."""
     return [program, "candidates", "--index", str(len(words) - 1), tree, "--", *words]
 
 
-# How much a child or an option may cost that is looked at and not taken, and how much more one may
-# cost among ten times as many.
+# Limits of the cost of a child or an option that is examined and not offered, and of its growth among
+# ten times as many.
 MOST_EACH = 250
 MOST_GROWTH = 4 / 3
 
 
 def counted_candidates(program):
-    """Prints what `complete` costs beside the build: in all, and less what it costs for the value of
-    an option, for which neither children nor options are looked at; and what further words cost."""
+    """Prints the costs of `complete` without the build, and returns whether they keep the limits.
+
+    The baseline is the cost for the value of an option, because then neither children nor options are
+    examined.
+    """
     with tempfile.TemporaryDirectory() as folder:
 
         def cost(tree, *words):
@@ -407,8 +410,10 @@ def counted_candidates(program):
 
 
 def counted_line(cost, tree, last, of):
-    """Prints the costs of so many words, the last of the options and a value in turn, before a value
-    of it, and whether they grow in proportion."""
+    """Prints the costs of many words before a value of an option, and returns whether they are linear.
+
+    The words are the last of the options and a value in turn.
+    """
     none = cost(tree, last, "zzz")
     each = []
     for count in (10, 100, 1000):
@@ -418,13 +423,12 @@ def counted_line(cost, tree, last, of):
     return judged_each(f"a word before, {of},", each, None)
 
 
-# Words with which none, one and all of the names begin.
+# Words that begin none, one and all of the names.
 WORDS = {"children": ("zzz", "c00050", ""), "options": ("--zzz", "--o00050", "--", "")}
 
 
 def counted_word(cost, folder, kind):
-    """Prints the costs for so many children or options and each word, and whether those that are
-    not taken keep the limits."""
+    """Prints the costs for each count and each word, and returns whether they keep the limits."""
     kept = []
     for word in WORDS[kind]:
         wholes, each = [], []
@@ -445,7 +449,7 @@ def counted_word(cost, folder, kind):
 
 
 def counted_tree(kind, count):
-    """A command with so many options, or with so many children and one option."""
+    """Returns a command with that many options, or with that many children and one option."""
     if kind == "options":
         return with_options(count)
     tree = wide(count)
@@ -454,7 +458,7 @@ def counted_tree(kind, count):
 
 
 def judged_each(what, each, most):
-    """Prints where what each costs is too much, or grows with the count, and returns whether not."""
+    """Prints if the cost of one is too high or grows with the count, and returns whether it does not."""
     kept = True
     if most is not None and max(each) > most:
         print(f"too much: {what} costs {max(each):.0f} instructions, and {most} are allowed")
@@ -466,9 +470,11 @@ def judged_each(what, each, most):
 
 
 def counted_reply(program, larder):
-    """Prints what a reply costs `larder`, of that the build, `complete` of the built command and the
-    rest of the call, which makes the command and writes the reply; and what the candidates for the
-    same words cost `complgen`, which reads the tree of a larger tool from a file."""
+    """Prints what a reply costs `larder`, and what the candidates for the same words cost `complgen`.
+
+    The reply has three parts: the build, `complete` of the built command, and the rest of the call, which
+    makes the command and writes the reply. `complgen` reads the tree of a larger tool from a file.
+    """
     words = ["larder", "in"]
     replying, asked = [larder, "--", *words], {**os.environ, "COMPLETE": "fish"}
     replied = common.callgrind(replying, COMPLETES, BUILD, COMPLETE, env=asked)

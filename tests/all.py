@@ -22,7 +22,7 @@ sys.path.append(os.path.join(os.path.dirname(os.path.realpath(__file__)), "..", 
 import common
 import refusals
 
-# A script with its words, and why it is skipped, or an empty text.
+# A script with its words, and the reason to skip it, or an empty text.
 Test = collections.namedtuple("Test", "words reason")
 
 MOST_SECONDS = 3600

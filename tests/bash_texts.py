@@ -42,11 +42,11 @@ def is_equal(program, path, frame, arm):
     return equal
 
 
-# What building adds.
+# Additions of building.
 
 
 def built(command, inherited=()):
-    """A command of a tree file with the arguments and the child that building adds."""
+    """Returns a command of a tree file with the arguments and the child that building adds."""
     children = list(command.get("subcommands", []))
     taken = [name for child in children for name in all_names(child)]
     if children and not command.get("disable_help_subcommand") and "help" not in taken:
@@ -61,7 +61,7 @@ def built(command, inherited=()):
 
 
 def with_missing(args, further):
-    """The arguments, and those of the further ones whose id none before them has."""
+    """Returns the arguments, and those of the further ones that have a new id."""
     args = list(args)
     for arg in further:
         if arg["id"] not in [each["id"] for each in args]:
@@ -77,7 +77,7 @@ def built_child(child, inherited):
 
 
 def copies(children):
-    """The children of a generated `help`: copies of the command's, and a last `help`."""
+    """Returns the children of a generated `help`: copies of the command's children, and a last `help`."""
     return [*map(copy, children), {"name": "help", "generated": True}]
 
 
@@ -91,7 +91,7 @@ def all_names(command):
 
 
 def flags(command, args):
-    """The flags that show the help and the version, where they are not disabled or given."""
+    """Returns the flags for the help text and the version, unless they are disabled or exist."""
     ids = [arg["id"] for arg in args]
     added = []
     if not command.get("disable_help_flag") and "help" not in ids:
@@ -129,7 +129,7 @@ def bytes_of(case):
 
 
 def collect(command, label, full_name, level, cases, arms):
-    """Adds the cases that lead to what is below a command, and all arms from it on."""
+    """Adds the cases that lead to the commands below a command, and the arms of all of them."""
     arms.append((full_name.replace(" ", "__subcmd__"), label, level, command))
     for child in command["children"]:
         name = child["names"][0]
@@ -158,7 +158,7 @@ def words(command):
 
 
 def dashed(arg, kind, last=False):
-    """The shorts or longs of an argument as they are typed, the name first or last."""
+    """Returns the shorts or longs of an argument as a user types them, the name first or last."""
     if kind not in arg:
         return []
     aliases = arg.get("visible_short_aliases" if kind == "short" else "visible_aliases", [])
@@ -198,7 +198,7 @@ def offered(arg):
 
 
 def around(hint):
-    """The lines before and after what is offered."""
+    """Returns the lines before and after the candidates."""
     if hint == "FilePath":
         kept = ['if [ -n "${IFS+x}" ]; then', '    oldifs="$IFS"', "fi"]
         before = ["local oldifs", *kept, "IFS=$'\\n'"]

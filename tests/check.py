@@ -34,12 +34,12 @@ import common
 
 LINE = re.compile(r"(\d+):(\d+): (error|warning|note): (the file|[^ ]+): (.*)")
 STEP = re.compile(r"([^.\[\]]+)|\[(\d+)\]")
-ABOUT_KEY = re.compile(r"an? [a-z ]+ has no key `|the key `.*` stands twice")
+ABOUT_KEY = re.compile(r"an? [a-z ]+ has no key `|the key `.*` stands twice|duplicate key `")
 BLANK = " \t\r\n"
 
-# A value in a text: where it begins, and what it holds.
+# A value in a text: its beginning and its contents.
 Value = collections.namedtuple("Value", "at inside")
-# A member of an object: where the key begins, the key and the value.
+# A member of an object: the beginning of its key, the key and the value.
 Member = collections.namedtuple("Member", "at key value")
 
 
@@ -79,7 +79,7 @@ def run(program, *words):
 
 
 def judged(program, path, text):
-    """The highest level that is printed, and what does not hold."""
+    """Returns the highest level of the findings, and what does not hold."""
     done = run(program, "check", "--bin", "app", path)
     written = done.stdout.decode()
     lines = [LINE.fullmatch(line) for line in written.splitlines()]
@@ -101,7 +101,7 @@ def judged(program, path, text):
 
 
 def misplaced(text, lines):
-    """The lines whose place is another than that of their path, with that place."""
+    """Yields the lines with a wrong place, each with the right one."""
     try:
         text = text.decode()
         whole = located(text)
@@ -119,8 +119,11 @@ def misplaced(text, lines):
 
 
 def place_of(value, steps, at_key, text):
-    """Where the value of a path begins, or the key of its last step; of several members of a key the
-    last counts, and where keys stand twice or are unknown, which one is meant stays open: `None`."""
+    """Returns where the value of a path begins, or the key of its last step.
+
+    If an object has a key several times, the last value counts. If the line is about such a key, or about
+    an unknown one, it does not tell which is meant. Then the result is `None`.
+    """
     at = value.at
     for left, (key, index) in zip(range(len(steps) - 1, -1, -1), steps):
         if index:
@@ -139,7 +142,7 @@ def place_of(value, steps, at_key, text):
 
 
 def located(text):
-    """The values in a JSON text with their places."""
+    """Returns the values in a JSON text with their places."""
     value, at = value_at(text, skipped(text, 0))
     if skipped(text, at) != len(text):
         raise ValueError
@@ -153,7 +156,7 @@ def skipped(text, at):
 
 
 def value_at(text, at):
-    """The value that begins here, and where it ends."""
+    """Returns the value that begins here, and where it ends."""
     if text[at] == "{":
         return items_at(text, at, "}", member_at)
     if text[at] == "[":
@@ -186,7 +189,7 @@ def items_at(text, begin, close, item_at):
 
 
 def changed(chance, trees):
-    """A tree file with some changes, as bytes."""
+    """Returns a tree file with random changes, as bytes."""
     tree = json.loads(chance.choice(trees))
     for _ in range(chance.randrange(4)):
         chance.choice([misspelt, taken_out, exchanged, odd_name])(chance, tree)
@@ -203,7 +206,7 @@ def changed(chance, trees):
 
 
 def objects(value):
-    """All objects in a value."""
+    """Yields all objects in a value."""
     if isinstance(value, dict):
         yield value
     for item in value.values() if isinstance(value, dict) else value if isinstance(value, list) else ():

@@ -30,7 +30,7 @@ sys.path.append(os.path.join(os.path.dirname(os.path.realpath(__file__)), "..", 
 import common
 import hostile
 
-# How many random trees the lists of words are completed over.
+# The number of random trees for the lists of words.
 WORD_TREES = 200
 
 
@@ -65,7 +65,7 @@ def arguments():
 
 
 def reported(results):
-    """Prints what differs, and how the runs ended."""
+    """Prints what differs, and how the runs ended. Returns the status."""
     ended, differ = collections.Counter(), 0
     for (kind, number), outcomes in results:
         for words, old, new in outcomes:
@@ -80,7 +80,7 @@ def reported(results):
 
 
 def make_home(folder):
-    """A folder with some files, in which the programs run: candidates may be paths."""
+    """Makes a directory with some files, in which the programs run, because candidates may be paths."""
     os.makedirs(os.path.join(folder, "home", "src"))
     for name in ("a.txt", "notes", ".hidden", "src/main.rs"):
         with open(os.path.join(folder, "home", name), "w", encoding="utf-8"):
@@ -88,7 +88,7 @@ def make_home(folder):
 
 
 def compared(options, folder, examples, kind, number):
-    """The words of each call, with what the one and the other program did."""
+    """Returns the words of each call, with what each of the two programs did."""
     chance = random.Random(f"{options.seed} {kind} {number}")
     path = os.path.join(folder, f"{kind}-{number}.json")
     with open(path, "wb") as file:
@@ -133,7 +133,7 @@ def calls_of(chance, kind, path):
 
 
 def some_words(chance, path):
-    """Words of which most lead somewhere in the tree of a file."""
+    """Returns words of which most lead somewhere in the tree of a file."""
     with open(path, "rb") as file:
         node = json.load(file)
     words = [b"app"] if chance.randrange(8) else []
@@ -229,12 +229,12 @@ def possible(chance):
 
 
 def name(chance):
-    # Most are plain, since else no script would be.
+    # Most are plain, because otherwise no script would be.
     return chance.choice(NAMES[:9] if chance.randrange(8) else NAMES)
 
 
 def some(chance, found, one_in, key, value):
-    """Has the key in one of so many cases."""
+    """Sets the key in one of `one_in` cases."""
     if chance.randrange(one_in) == 0:
         found[key] = value()
 

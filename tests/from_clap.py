@@ -29,7 +29,7 @@ PACKAGES = ("parcel", "herd")
 READERS = os.path.join(common.TOP, "tests", "from_clap.d")
 # Shells that can read a script without running it.
 CHECKERS = ("bash", "fish", "zsh")
-# What a program without arguments returns, if clap prints its help text.
+# The status of a program without arguments, if clap prints its usage.
 USAGE = 2
 
 

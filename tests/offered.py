@@ -36,10 +36,10 @@ LACKING = {
     "lacks a value": ("a value is required",),
     "lacks an argument": ("the following required arguments",),
     "lacks a subcommand": ("requires a subcommand",),
-    "stands twice": ("cannot be used multiple times",),
-    "stands beside another": ("cannot be used with",),
+    "is there twice": ("cannot be used multiple times",),
+    "conflicts with another": ("cannot be used with",),
 }
-FOLLOWED = ("taken", "lacks a value", "lacks an argument", "lacks a subcommand")
+FOLLOWED = ("accepted", "lacks a value", "lacks an argument", "lacks a subcommand")
 INSTALLED = "ripgrep\nfd\n"
 
 
@@ -82,7 +82,7 @@ class Program:
     def outcome(self, words):
         ended = self.run(words)
         if ended.returncode != 2:
-            return "taken", ""
+            return "accepted", ""
         for outcome, texts in LACKING.items():
             if any(text in ended.stderr for text in texts):
                 return outcome, ""

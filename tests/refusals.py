@@ -48,11 +48,11 @@ SOURCES = os.path.join(common.TOP, "tests", "refusals.d")
 TREE = os.path.join(common.EXAMPLES, "tree-with-children.json")
 ENOUGH = str(2**64 - 1)
 SECONDS = 20
-# Calls that build the command which they are handed.
+# Calls that build the command that they get.
 BUILDING = ("build", "complete", "generate ", "generate_to ", "write_complete ")
-# Calls that write nothing to the sink before they have ended.
+# Calls that write nothing to the sink before they end.
 SINKLESS = ("build", "complete", "generate_to ")
-# Calls that put nothing where an allocation is refused.
+# Calls that write nothing if an allocation fails.
 REPLIES = (*SINKLESS, "write_complete ", "try_complete ")
 
 Ended = collections.namedtuple("Ended", "status outcome taken state text refused")
@@ -143,7 +143,7 @@ def needed_lines(line):
 
 
 def calls_of(program):
-    """The names of the calls, a line each."""
+    """Returns the names of the calls."""
     return subprocess.run([program], capture_output=True, check=True, text=True).stdout.splitlines()
 
 
@@ -178,7 +178,7 @@ def contents(path):
 
 
 def tried_call(call, before, pool):
-    """Prints the line of a call, and counts its runs that were wrong."""
+    """Tries a call, prints its line, and counts the wrong runs."""
     whole = call.run()
     wrong = []
 
@@ -216,8 +216,8 @@ def tried_call(call, before, pool):
 
 
 def refused_runs(call, pool):
-    """The runs in which the first allocation is refused, the second and so on, while one is; and
-    the run after them."""
+    """Returns the runs in which the first allocation fails, the second and so on, and the run after the
+    last."""
     refused, step = [], 64
     while True:
         first = len(refused) + 1
@@ -228,7 +228,7 @@ def refused_runs(call, pool):
 
 
 def report(name, whole, refused, spared, failed, wrong):
-    """Prints the line of a call; `whole` is the number of its runs in which nothing failed."""
+    """Prints the line of a call. In `whole` of its runs nothing failed."""
     runs = whole + refused + failed
     totals.update(runs=runs, refused=refused, spared=spared, bytes=failed, wrong=len(wrong))
     print(
@@ -244,7 +244,7 @@ def report(name, whole, refused, spared, failed, wrong):
 
 
 def whole_runs(folder):
-    """The words of the runs; the last one lists the files of the folder, which it makes."""
+    """Yields the words of the runs. The last one lists the files of the directory, which this makes."""
     for shell in common.SHELLS:
         yield ["script", "--shell", shell, "--bin", "app", TREE]
     for shell in common.LIVE_SHELLS:
@@ -257,7 +257,7 @@ def whole_runs(folder):
 
 
 def tried_run(program, words, folder, refuse, pool):
-    """Prints the line of a run of `complgen` in the folder, and counts the runs that were wrong."""
+    """Tries a run of `complgen` in the directory, prints its line, and counts the wrong runs."""
     refused, spared, wrong = 0, 0, []
 
     def run(number):

@@ -25,8 +25,9 @@ READERS = {"bash": ["bash", "-n"], "fish": ["fish", "--no-execute"], "zsh": ["zs
 def main():
     parser = argparse.ArgumentParser(usage=common.usage(__doc__))
     parser.add_argument("--shells", default=",".join(READERS), help="names joined by commas")
+    options = parser.parse_args()
     program, read = common.program("complgen"), []
-    for shell in parser.parse_args().shells.split(","):
+    for shell in options.shells.split(","):
         if not common.is_installed(shell):
             print(f"{shell} is not installed")
             continue

@@ -18,7 +18,7 @@ EXAMPLES = os.path.join(TOP, "examples")
 # The shells of `complgen script`, and those of `complgen register`.
 SHELLS = ("bash", "elvish", "fish", "nushell", "powershell", "zsh")
 LIVE_SHELLS = ("bash", "elvish", "fish", "powershell", "zsh")
-# How to build a program.
+# Commands that build the programs.
 BUILDERS = {"complgen": "./complgen --prove", "larder": "rt run in crates/larder"}
 DEBIAN = "/usr/share/cargo/registry"
 

@@ -1,7 +1,7 @@
 #!/usr/bin/env python3
 """Checks what the documents name, and how long sentences and pages are.
 
-    tools/documents.py
+    tools/documents.py [--sentences]
 
 The documents are the pages at the top, those of docs/, and the README.md of bench/, tests/ and tools/.
 
@@ -12,8 +12,8 @@ The documents are the pages at the top, those of docs/, and the README.md of ben
   and so does each named script of bench/, tests/ and tools/.
 - A page has at most 4,000 words, except docs/TEXTS.md and docs/CALLS.md.
 
-The script prints what does not hold, and then how many sentences of which pages have more than 30 words.
---sentences also prints these sentences. The status is 0 if all of it holds, whatever the sentences are.
+The script prints how many sentences of each page have more than 30 words, and with --sentences these
+sentences. Then it prints what does not hold. The status is 0 if all of it holds, whatever the sentences are.
 """
 
 import glob
@@ -46,8 +46,8 @@ def main():
         words = len(" ".join(lines).split())
         if words > MOST_WORDS and page not in ANY_LENGTH:
             found.append(f"{page}: {words} words of {MOST_WORDS}")
-    print("\n".join(found + [f"{len(found)} faults in the documents"]))
     print_long(long)
+    print("\n".join(found + [f"{len(found)} faults in the documents"]))
     return 1 if found else 0
 
 

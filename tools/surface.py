@@ -120,7 +120,7 @@ def main():
 
 
 def entries(text):
-    """The names of a module, each with its methods: entries end at `;`, or before a name with `:`."""
+    """Yields the names of a module with their methods. An entry ends at `;`, or before a name with `:`."""
     for part in text.split(";"):
         name, methods = None, []
         for word in part.split():
@@ -141,7 +141,7 @@ def sources(crate):
 
 
 def crate_of(module, name):
-    """The crate whose item the module re-exports under this name."""
+    """Returns the crate whose item the module re-exports under this name."""
     if module.startswith("crate "):
         crate = module.split()[1]
         return crate if is_public(crate, name) else None
@@ -160,7 +160,7 @@ def is_public(crate, name):
 
 
 def methods_of(crate, name):
-    """The public methods of a type, and those of a trait."""
+    """Returns the public methods of a type, and those of a trait."""
     found = set()
     for text in sources(crate):
         for block in re.split(r"\n(?=(?:pub trait|impl)\b)", "\n" + text):
@@ -171,7 +171,7 @@ def methods_of(crate, name):
                 body = body.split("\n}\n")[0]
                 found |= set(re.findall(rf"^    {visible}(?:const )?fn (\w+)", body, re.MULTILINE))
                 if re.search(r"\bGenerator for ", head):
-                    # By default the trait's own.
+                    # The trait has a default for it.
                     found.add("try_generate")
     return found
 
