@@ -1,16 +1,16 @@
 #!/usr/bin/env python3
 """Makes docs/CALLS.md, the page of all public calls, from the sources.
 
-    bench/calls           prints the page
-    bench/calls --write   writes it to docs/CALLS.md
-    bench/calls --check   compares docs/CALLS.md with it
+    tools/calls.py           prints the page
+    tools/calls.py --write   writes it to docs/CALLS.md
+    tools/calls.py --check   compares docs/CALLS.md with it
 
-For each module of crates/clap_complete, and for the crates beside it, the page has the functions,
-types and traits that are public there, with their signatures and the first sentence of their doc
-comments. Contracts, bodies and ghost lines are left out. It is a search in the sources, as `rt fmt`
-lays them out, and builds nothing.
+The page has a section for each module of crates/clap_complete, and for the crates beside it. A section has
+the public functions, types and traits, with their signatures and the first sentences of their doc comments.
+Contracts, bodies and ghost lines are left out. The script searches the sources, in the layout of `rt fmt`,
+and builds nothing.
 
-With --check the status is 0 where the page is up to date, else 1.
+With --check the status is 0 if the page is up to date.
 """
 
 import difflib
@@ -20,10 +20,11 @@ import re
 import sys
 import textwrap
 
-TOP = os.path.dirname(os.path.dirname(os.path.realpath(__file__)))
-PAGE = os.path.join(TOP, "docs", "CALLS.md")
+import common
+
+PAGE = os.path.join(common.TOP, "docs", "CALLS.md")
 MODULES = ["", "aot", "aot::utils", "command", "describe", "engine", "env", "parser", "program", "quote"]
-CRATES = ["complgen_tree_file", "complgen_command_line", "complgen_commands", "complgen_commands", "complgen_check", "complgen_c"]
+CRATES = ["complgen_tree_file", "complgen_command_line", "complgen_commands", "complgen_check", "complgen_c"]
 CLAUSE = re.compile(r"\s*(ensures|requires|decreases|measure|ghost|\{)")
 ITEM = re.compile(r"(pub )?(?:const |extern \"C\" )?(fn|struct|enum|trait|type|const|static) (\w+)")
 LAW = {"Model", "Drop"}
@@ -31,16 +32,16 @@ SHOWN = {"ThisError": "Error"}
 
 HEAD = """# Calls
 
-All public calls with their signatures, module by module, as a program finds them in `clap_complete`; after them those of
-six crates beside it. `bench/calls --write` makes this page from the sources, and `bench/calls --check` says whether it is
-up to date. Of each doc comment the first sentence stands here; the contract stands in the source: the head of a group
-names the folder, and `requires` says that a call has a premise there.
+All public calls with their signatures, by module, as a program finds them in `clap_complete`. The last sections are
+those of the crates beside it. `tools/calls.py --write` makes this page from the sources, and `tools/calls.py --check`
+tells whether it is up to date. Each call has the first sentence of its doc comment. Its contract is in the source: the
+head of a group names the directory. `requires` means that the call has a precondition.
 
-The two functions of `complgen_c` are for programs in other languages. `rust/lagvtsune/src/native.rs` declares them, each
-slice as its start and its length, without `alloc`; and it defines the three functions by which the archive gets its memory,
-which each such program has to define: `rattle_alloc`, `rattle_realloc` and `rattle_dealloc`.
+The two functions of `complgen_c` are for programs in other languages. `rust/lagvtsune/src/native.rs` declares them. There
+a slice is its start and its length, and `alloc` is left out. Each such program has to define the three functions that give
+the archive its memory: `rattle_alloc`, `rattle_realloc` and `rattle_dealloc`.
 
-What several modules re-export stands once, under the module that says most of it, and the others name it.
+If several modules re-export an item, it is listed in one of them, and the others name that one.
 """
 
 
@@ -87,8 +88,10 @@ def make_page():
 
 
 def homes():
-    """The module under which an item stands: the last that re-exports it, so not the crate's root
-    where a module has it, and a type of commands under `command`."""
+    """Returns the module of each item: the last that re-exports it.
+
+    So that is the root of the crate only if no module has the item. A type of commands is under `command`.
+    """
     found = {}
     for module in ["", "describe", "engine", "env", "parser", "program", "quote", "aot", "aot::utils", "command"]:
         for name, crate in exported(module):
@@ -97,7 +100,7 @@ def homes():
 
 
 def group(names):
-    """The functions of a module first, then its types and traits."""
+    """Returns the parts for the functions of a module, and then those for its types and traits."""
     functions, types = [], []
     for name, crate in names:
         item = find(crate, name)
@@ -110,7 +113,7 @@ def group(names):
 
 
 def of_type(item, crate):
-    """The part of the page for a type or a trait."""
+    """Returns the part of the page for a type or a trait."""
     impls = list(implementations(crate, item.name))
     lines = [f"### `{item.name}`\n", f"{item.comment or 'See its module.'} (`crates/{crate}`)"]
     traits = item.attributes + sorted({it.split("::")[-1] for it, _, _ in impls if it})
@@ -145,7 +148,7 @@ def block(lines):
 
 
 def fields(item):
-    """The variants of an enum, or the public fields of a struct."""
+    """Returns the variants of an enum, or the public fields of a struct."""
     if item.kind == "enum":
         names = re.findall(r"^    (\w+(?:\([^)]*\))?),$", "\n".join(item.lines), re.MULTILINE)
         text = f"enum {item.name} {{ {', '.join(names)} }}"
@@ -157,7 +160,7 @@ def fields(item):
 
 
 def members(lines, indent, aliases_there, of_trait):
-    """The signatures of the methods in the body of an impl or a trait."""
+    """Returns the signatures of the methods in the body of an impl or a trait."""
     out = []
     for it in items(lines, indent):
         if it.kind == "fn" and (of_trait or it.lines[0].startswith(indent + "pub ")):
@@ -166,7 +169,7 @@ def members(lines, indent, aliases_there, of_trait):
 
 
 def call(item, aliases_there, indent):
-    """The lines of the page for a function."""
+    """Returns the lines of the page for a function."""
     signature, requires = [], False
     for line in item.lines:
         if CLAUSE.match(line):
@@ -193,9 +196,9 @@ def wrapped(begin, text):
 
 
 def exported(module):
-    """The names that a module re-exports or has, each with its crate."""
+    """Returns the names that a module re-exports or declares, each with its crate."""
     crate, file = ("cc_generator", "utils") if module == "aot::utils" else ("clap_complete", module or "lib")
-    with open(os.path.join(TOP, "crates", crate, "src", f"{file}.rt"), encoding="utf-8") as source:
+    with open(os.path.join(common.TOP, "crates", crate, "src", f"{file}.rt"), encoding="utf-8") as source:
         text = source.read()
     found = []
     for of, names in re.findall(r"pub use (\w+)::(?:\w+::)*(\w+|\{[^}]*\});", text):
@@ -205,7 +208,7 @@ def exported(module):
 
 
 def public_names(crate):
-    with open(os.path.join(TOP, "crates", crate, "src", "lib.rt"), encoding="utf-8") as source:
+    with open(os.path.join(common.TOP, "crates", crate, "src", "lib.rt"), encoding="utf-8") as source:
         text = source.read()
     found = re.findall(r"^pub use (?:crate::)?(?:\w+::)*(\w+|\{[^}]*\});", text, re.MULTILINE)
     names = [name for part in found for name in re.findall(r"\w+", part)]
@@ -213,16 +216,16 @@ def public_names(crate):
 
 
 def find(crate, name):
-    """The public item of this name in a crate, or in one whose item it re-exports."""
+    """Returns the public item of this name in a crate."""
     for lines in sources(crate):
         for item in items(lines, ""):
             if item.name == name and item.kind != "type" and item.lines[0].startswith("pub "):
                 return item
-    raise SystemExit(f"bench/calls: no public {name} in crates/{crate}")
+    raise SystemExit(f"tools/calls.py: no public {name} in crates/{crate}")
 
 
 def items(lines, indent):
-    """The items that begin at this indent."""
+    """Yields the items that begin at this indent."""
     comment, attributes = [], []
     for at, line in enumerate(lines):
         text = line[len(indent):] if line.startswith(indent) else ""
@@ -244,7 +247,7 @@ def items(lines, indent):
 
 
 def closes(line, indent, is_first, kind):
-    """Whether an item ends with this line, or, for a function, its clauses do."""
+    """Tells whether an item ends with this line, or the clauses of a function."""
     if line.startswith(indent + "}") or is_first and line.endswith((";", "}")):
         return True
     return kind in ("fn", "const", "type") and line.endswith(";") and not line.endswith(" });")
@@ -260,7 +263,7 @@ def first_sentence(comment):
 
 
 def implementations(crate, name):
-    """The impls of a type: the trait or none, the head, and the lines of the body."""
+    """Yields the impls of a type: the trait or an empty text, the head, and the lines of the body."""
     for lines in sources(crate):
         for at, line in enumerate(lines):
             if not line.startswith("impl"):
@@ -279,7 +282,7 @@ def implementations(crate, name):
 
 
 def without_parameters(head):
-    """The head of an impl without `impl` and its type parameters."""
+    """Returns the head of an impl without `impl` and its type parameters."""
     text, depth, at = head[len("impl"):].replace("->", "  "), 0, 0
     while text[0] == "<" and (at == 0 or depth):
         depth += {"<": 1, ">": -1}.get(text[at], 0)
@@ -288,7 +291,7 @@ def without_parameters(head):
 
 
 def aliases(crate):
-    """The private names of types, which signatures show in full."""
+    """Returns the private names of types, which signatures show in full."""
     found = {}
     for lines in sources(crate):
         for at, line in enumerate(lines):
@@ -312,7 +315,7 @@ def private_traits(crate):
 
 
 def sources(crate):
-    pattern = os.path.join(TOP, "crates", crate, "src", "**", "*.rt")
+    pattern = os.path.join(common.TOP, "crates", crate, "src", "**", "*.rt")
     for path in sorted(glob.glob(pattern, recursive=True)):
         with open(path, encoding="utf-8") as file:
             yield file.read().split("\n")

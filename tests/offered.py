@@ -1,19 +1,22 @@
 #!/usr/bin/env python3
-"""Feeds what a program offers back to its own parser.
+"""Feeds the candidates of a program back to its own parser.
 
-    bench/offered [--program FILE] [--complgen FILE] [--depth N]
+    tests/offered.py [--depth N]
 
 The programs are `larder`, which parses by the tree that completes it, and `complgen`, whose command
-line is described twice. From the empty command line on, each is asked as fish asks for the candidates
-of the words `''`, `-`, `--` and, where its parser takes it, `-v`. Each candidate is then put in the
-place of that word, and the program runs on the line, in a folder of its own. Where the line is taken, or only lacks something,
-the same is done behind it, up to --depth words (3).
+line is described twice. From the empty command line on, each program is asked, as fish asks, for the
+candidates of the words `''`, `-` and `--`, and of `-v` if its parser accepts it. Each candidate then
+replaces that word, and the program runs on the line, in a directory of its own. If the line is accepted,
+or only lacks something, the script goes on behind it, up to --depth words (3).
 
-A line is taken where the program ends otherwise than with a text of its parser. Else it lacks
-something (a value, an argument, a subcommand); or a word stands twice that may stand once, or two
-that may not stand together, which completion does not look at; or it is refused. Printed is how many
-lines of each program end in which way, and each that is refused. The status is 0 where none is, else
-1.
+A line is accepted if the program does not end with a text of its parser. Otherwise:
+
+- it lacks something: a value, an argument or a subcommand;
+- a word is there twice that may be there once, or two words conflict. Completion does not look at that;
+- it is refused.
+
+The script prints how many lines of each program end in which way, and each refused line. The status is
+0 if none is refused.
 """
 
 import argparse
@@ -23,25 +26,30 @@ import subprocess
 import sys
 import tempfile
 
-TOP = os.path.dirname(os.path.dirname(os.path.realpath(__file__)))
+sys.path.append(os.path.join(os.path.dirname(os.path.realpath(__file__)), "..", "tools"))
+import common
+
 TYPED = ("", "-", "--")
-# A word that shorts may follow in the same word, where it is one of shorts.
+# A word of shorts, which further shorts may follow.
 SHORTS = "-v"
 LACKING = {
     "lacks a value": ("a value is required",),
     "lacks an argument": ("the following required arguments",),
     "lacks a subcommand": ("requires a subcommand",),
-    "stands twice": ("cannot be used multiple times",),
-    "stands beside another": ("cannot be used with",),
+    "is there twice": ("cannot be used multiple times",),
+    "conflicts with another": ("cannot be used with",),
 }
-FOLLOWED = ("taken", "lacks a value", "lacks an argument", "lacks a subcommand")
+FOLLOWED = ("accepted", "lacks a value", "lacks an argument", "lacks a subcommand")
 INSTALLED = "ripgrep\nfd\n"
 
 
 def main():
-    options = arguments()
+    parser = argparse.ArgumentParser(usage=common.usage(__doc__))
+    parser.add_argument("--depth", type=int, default=3)
+    options = parser.parse_args()
     refused = 0
-    for name, path in (("larder", options.program), ("complgen", options.complgen)):
+    for name in ("larder", "complgen"):
+        path = common.program(name)
         with tempfile.TemporaryDirectory() as folder:
             outcomes = feed_back(Program(name, path, folder), options.depth)
         counts = collections.Counter(outcome for _, outcome, _ in outcomes)
@@ -53,20 +61,8 @@ def main():
     return 1 if refused else 0
 
 
-def arguments():
-    parser = argparse.ArgumentParser(description=__doc__, formatter_class=argparse.RawDescriptionHelpFormatter)
-    for option, name in (("--program", "larder"), ("--complgen", "complgen")):
-        parser.add_argument(option, default=os.path.join(TOP, "crates", name, "out", name))
-    parser.add_argument("--depth", type=int, default=3)
-    options = parser.parse_args()
-    for path in (options.program, options.complgen):
-        if not os.access(path, os.X_OK):
-            sys.exit(f"no program {path}: run `rt run` in its crate, or name one")
-    return options
-
-
 class Program:
-    """A program in a folder whose files are the same before each run."""
+    """A program in a directory whose files are the same before each run."""
 
     def __init__(self, name, path, folder):
         self.name, self.path, self.folder = name, os.path.realpath(path), folder
@@ -86,7 +82,7 @@ class Program:
     def outcome(self, words):
         ended = self.run(words)
         if ended.returncode != 2:
-            return "taken", ""
+            return "accepted", ""
         for outcome, texts in LACKING.items():
             if any(text in ended.stderr for text in texts):
                 return outcome, ""

@@ -1,28 +1,38 @@
 #!/usr/bin/env python3
-"""Checks that docs/tree.schema.json has the keys, the actions and the value hints that the code of
-complgen_tree_file reads, and no others; and that examples/complgen.json is the tree that is built in."""
+"""Checks that docs/tree.schema.json agrees with the code.
+
+    tools/schema.py
+
+The schema has to have the keys, actions and value hints that complgen_tree_file reads, and no others. The
+tree in examples/complgen.json has to be the one that complgen_live has built in.
+
+The script prints a line for each comparison. The status is 0 if all agree.
+"""
+
 import json
 import pathlib
 import re
 import sys
 
-TOP = pathlib.Path(__file__).resolve().parent.parent
+import common
+
+TOP = pathlib.Path(common.TOP)
 SOURCES = TOP / "crates/complgen_tree_file/src"
 
 
 def keys(file):
-    """The keys in the table of an object, each on a line of its own."""
+    """Returns the keys in the table of an object, each on a line of its own."""
     return re.findall(r'^            "(\w+)" \w+ \w+,$', (SOURCES / file).read_text(), re.M)
 
 
 def names(kind):
-    """The names of the variants that a text may be."""
+    """Returns the names of the variants of a type that a tree file spells."""
     form = rf'^            "(\w+)" => Ok\({kind}::\1\),$'
     return re.findall(form, (SOURCES / "values.rt").read_text(), re.M)
 
 
 def value_keys():
-    """The keys of a possible value, which stand in one list."""
+    """Returns the keys of a possible value, which are in one list."""
     text = (SOURCES / "possible_values.rt").read_text()
     return re.findall(r'"(\w+)"', re.search(r"KEYS: &\[&str\] = &\[(.*?)\]", text, re.S).group(1))
 
@@ -53,4 +63,5 @@ def main():
     return status
 
 
-sys.exit(main())
+if __name__ == "__main__":
+    sys.exit(main())

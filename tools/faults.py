@@ -1,23 +1,24 @@
 #!/usr/bin/env python3
-"""Tries the planted faults that the gate does not: crates/NAME/more-faults/*.edit.
+"""Tries the planted faults that the gate leaves out: crates/NAME/more-faults/*.edit.
 
-    bench/faults [--alone] [--at-once N] [CRATE..]      without a name: every crate that has some
+    tools/faults.py [--alone] [--at-once N] [CRATE..]      without a name: every crate that has some
 
-The prover has to reject each. A function is proved against its own contract and the contracts of what
-it calls, so faults in different functions do not touch each other: as many as stand in different
-functions are planted at once, in a copy of the repository, and one check of these functions says which
-have no proof, or one with an error. A fault counts as rejected where that holds of its function, and the
-crate is proved without any fault. The others are tried again without those, and where that holds of no
-function by halves, at last one by one. A fault in a constant has a check of its own, of all functions. One
-that no check rejects is tried by itself with `rt must-fail`, as each is with --alone.
+The prover has to reject each. It proves a function against its own contract and the contracts of what it
+calls, so faults in different functions are independent. The script therefore plants as many as possible
+at once, in a copy of the repository. One check of these functions then shows which have no proof, or a
+proof with an error. Such a fault counts as rejected, if the crate is proved without any fault. The others
+are tried again without those: if a check rejects none, by halves, and at last one by one. A fault in a
+constant has a check of its own, of all functions. `rt must-fail` tries each fault that no check rejects,
+and with --alone it tries all of them.
 
-The copy is removed at the end. `rt` takes over there what checks on this machine kept, so what was
-checked before is not proved once more. It costs least in the checkout in which the crates were checked:
-each further check of a crate begins there with what was kept before any fault. With --at-once N so many
-crates are tried side by side, each in a copy of its own (1). Printed is the commit, then a line for
-each crate, with the processor time that it took, and a line for each fault that no check rejects: as a
-rule it takes away what a proof file names, which tells little of a contract. Last comes the processor
-time that all took. The status is 0 where all were rejected.
+The copy is removed at the end. `rt` reuses there what checks on this machine kept, so what was checked
+before is not proved again. It costs least in the checkout in which the crates were checked: there each
+further check of a crate begins with what was kept before any fault. --at-once N tries N crates side by
+side (1), each in a copy of its own.
+
+The script prints the commit, a line for each crate with its processor time, and a line for each fault that
+no check rejects. As a rule such a fault removes a name that a proof file cites, which tells little of a
+contract. The last line has the total processor time. The status is 0 if all were rejected.
 """
 
 import argparse
@@ -34,19 +35,21 @@ import sys
 import tempfile
 import threading
 
-TOP = os.path.dirname(os.path.dirname(os.path.realpath(__file__)))
+import common
+
+TOP = common.TOP
 
 Fault = collections.namedtuple("Fault", "name path texts functions")
 
 # The processor time of the commands that a thread ran for its crate, in seconds.
 SPENT = threading.local()
 
-# What a check says where a proof file names what is gone.
+# Messages of a check about a name in a proof file that no longer exists.
 MISSING = r"has no field|is not in scope|has no `|was not admitted"
 
 
 def main():
-    parser = argparse.ArgumentParser(usage="bench/faults [--alone] [--at-once N] [CRATE..]")
+    parser = argparse.ArgumentParser(usage="tools/faults.py [--alone] [--at-once N] [CRATE..]")
     parser.add_argument("--alone", action="store_true")
     parser.add_argument("--at-once", type=int, default=1, metavar="N")
     parser.add_argument("crates", nargs="*", metavar="CRATE")
@@ -66,7 +69,7 @@ def main():
 
 
 def commit():
-    """The commit of this checkout, and whether files differ from it."""
+    """Returns the commit of this checkout, and whether files differ from it."""
     said = subprocess.run(
         ["git", "describe", "--always", "--dirty", "--exclude=*"], cwd=TOP, stdout=subprocess.PIPE, text=True
     )
@@ -74,7 +77,7 @@ def commit():
 
 
 def tried_crates(left, alone):
-    """Tries the faults of crates that are left, in a copy of the repository, until none is left."""
+    """Tries the faults of the crates in the queue, in a copy of the repository."""
     totals = collections.Counter()
     with tempfile.TemporaryDirectory() as copy:
         copied = subprocess.run(
@@ -92,9 +95,8 @@ def tried_crates(left, alone):
 
 
 def with_faults():
-    """The crates that have faults, in the order of crates.txt: lower ones first."""
-    with open(os.path.join(TOP, "crates.txt"), encoding="utf-8") as file:
-        crates = [line.split(":")[0].split()[0] for line in file if ":" in line and not line.startswith("#")]
+    """Returns the crates that have faults, in the order of crates.txt: lower ones first."""
+    crates = common.crate_lines()
     return [it for it in crates if os.path.isdir(os.path.join(TOP, "crates", it, "more-faults"))]
 
 
@@ -117,7 +119,7 @@ def tried_crate(copy, crate, alone):
 
 
 def read_fault(folder, path):
-    """A fault, with the texts of the files that it changes and the functions that it changes there."""
+    """Returns a fault: the texts that it changes in files, and the functions that it changes there."""
     file, pairs = None, []
     with open(path, encoding="utf-8") as edit:
         for line in edit.read().split("\n"):
@@ -142,8 +144,10 @@ def read_fault(folder, path):
 
 
 def function_at(text, place):
-    """The name of the function whose text holds the place, or comes before it where no constant does, and the head of
-    the `impl` or trait that it stands in."""
+    """Returns the function at a place of a text, and the head of its `impl` or trait.
+
+    After a function and before the next one, the place belongs to the function, except in a constant.
+    """
     heads = list(re.finditer(r"^( *)(?:pub(?:\([a-z]+\))? )?(?:const )?fn (\w+)[<(]", text, re.MULTILINE))
     before = [head for head in heads if head.start() <= place]
     if not before:
@@ -160,8 +164,11 @@ def stands_in_functions(fault):
 
 
 def compatible(folder, faults):
-    """As many of the faults as stand in different functions and change different texts, or the first alone where it
-    stands in a constant, and the files with these faults."""
+    """Returns faults that can be planted together, and the files with them.
+
+    These are as many as possible in different functions that change different texts. A first fault in a
+    constant stays alone.
+    """
     taken, functions, texts = [], set(), {}
     for fault in faults:
         changed = with_fault(folder, fault, texts)
@@ -175,7 +182,8 @@ def compatible(folder, faults):
 
 
 def with_fault(folder, fault, texts):
-    """The files that a fault changes, over those that others changed, or nothing where what it changes is gone."""
+    """Returns the files that a fault changes, on top of earlier changes. If its old text is gone, returns
+    nothing."""
     changed = {}
     for file, old, new in fault.texts:
         text = changed.get(file) or texts.get(file) or read(os.path.join(folder, file))
@@ -191,12 +199,12 @@ def read(path):
 
 
 def check_with(folder, texts, only=()):
-    """What a check of the crate, or of these functions, says with these texts in place of its files."""
+    """Checks the crate, or these functions, with these texts instead of its files. Returns the output."""
     whole = {file: read(os.path.join(folder, file)) for file in texts}
     write_all(folder, texts)
     begin_anew(folder)
     words = [word for function in only for word in ("--only", function)]
-    # Over kept work several jobs each read all of it again, for a few functions.
+    # Over kept work, each of several jobs would read all of it again, for a few functions.
     printed = printed_by(["rt", "check", "--jobs", "1", *words], folder)
     write_all(folder, whole)
     return printed
@@ -209,7 +217,7 @@ def write_all(folder, texts):
 
 
 def printed_by(words, folder):
-    """What a command prints in this folder."""
+    """Runs a command in this directory, and returns its output."""
     with subprocess.Popen(
         words, cwd=folder, stdout=subprocess.PIPE, stderr=subprocess.STDOUT, text=True, errors="replace"
     ) as command:
@@ -221,16 +229,22 @@ def printed_by(words, folder):
 
 
 def begin_anew(folder):
-    """Has the next check of this crate begin with what checks of this checkout kept, where there is any: over what the
-    check of other faults left, each of their functions would be proved once more."""
+    """Makes the next check of this crate begin with what checks of this checkout kept, if they kept anything.
+
+    Otherwise it would begin with what the check of other faults left, and prove each of their functions
+    again.
+    """
     if os.path.isdir(os.path.join(TOP, "crates", os.path.basename(folder), "out", "incremental")):
         shutil.rmtree(os.path.join(folder, "out", "incremental"), ignore_errors=True)
 
 
 def rejected_by_checks(crate, folder, faults):
-    """Those of these faults that a check rejects, and how many checks were made. Where the crate is not proved without
-    any, none counts. A check may fail at some before it comes to the others: these are tried again without those that
-    it rejects, and where it rejects none, fewer at once."""
+    """Returns the faults that a check rejects, and the number of checks.
+
+    If the crate is not proved without any fault, none counts. A check may fail at some faults before it
+    comes to the others. These are tried again without those that it rejects, or fewer at once if it rejects
+    none.
+    """
     told = check_with(folder, {})
     if not re.search(r"^logic=proved ", told, re.MULTILINE):
         return [], 1
@@ -246,7 +260,7 @@ def rejected_by_checks(crate, folder, faults):
         gone = found
         if len(together) == 1 and not found:
             if only:
-                # A caller may be refused where the function is not.
+                # The check may reject a caller instead of the function.
                 told = check_with(folder, texts)
                 checks += 1
             found, gone = (together if is_rejected(told) else []), together
@@ -257,7 +271,7 @@ def rejected_by_checks(crate, folder, faults):
 
 
 def names_among(functions, folder, faults):
-    """Which of these names are those of the functions of the faults: none where one of them is not found."""
+    """Returns those of these names that belong to functions of the faults, or none if one is not found."""
     found = []
     for fault in faults:
         for name in names_of(folder, fault):
@@ -269,14 +283,14 @@ def names_among(functions, folder, faults):
 
 
 def names_of(folder, fault):
-    """Patterns for the names of a fault's functions, as the folders of their proofs have them."""
+    """Yields patterns for the names of a fault's functions, as the folders of their proofs have them."""
     for file, function, block in fault.functions:
         place = place_of(folder, file, block)
         yield f"{place}/{function}" if place else function
 
 
 def verdict_of(crate, folder, fault, told):
-    """Whether the check finds no proof of a function of the fault, or an error in one, and not for a missing name."""
+    """Tells whether the check rejects a function of the fault, for another reason than a missing name."""
     return any(
         is_rejected(told, rf"{crate}::{name.replace('/', '::')}", rf"\./proofs/{name}/\w+")
         for name in names_of(folder, fault)
@@ -284,8 +298,10 @@ def verdict_of(crate, folder, fault, told):
 
 
 def is_rejected(told, function=r"\S+", file=r"\S+"):
-    """Whether the check finds no proof of such a function, or an error in such a file, and not for a missing name, nor
-    only since what the function calls has no proof."""
+    """Tells whether the check finds no proof of such a function, or an error in such a file.
+
+    A missing name does not count, nor a function that lacks a proof only because one that it calls does.
+    """
     reasons = re.findall(rf"^{file}\.antt:\S* error: .*$", told, re.MULTILINE)
     for line in re.findall(rf"^fn {function}: (no proof.*)$", told, re.MULTILINE):
         reasons += [reason for reason in line.split("; ") if not re.search(r"which (?:is|are) not proved$", reason)]
@@ -293,8 +309,11 @@ def is_rejected(told, function=r"\S+", file=r"\S+"):
 
 
 def place_of(folder, file, block):
-    """A pattern for the module and the type by which `rt` names the functions of a file, or of an `impl` or a trait
-    there: a method stands under the module of its type, wherever its `impl` is."""
+    """Returns a pattern for the module and the type by which `rt` names functions.
+
+    They are the functions of a file, or of an `impl` or a trait there. A method is under the module of its
+    type, wherever its `impl` is.
+    """
     module = re.sub(r"^src/|\.rt$", "", file)
     module = "" if module in ("lib", "main") else module
     if not block:
@@ -313,7 +332,7 @@ def place_of(folder, file, block):
 
 
 def without_generics(block):
-    """The head of an `impl` or a trait without what stands in angle brackets, bounds and lifetimes."""
+    """Returns the head of an `impl` or a trait without angle brackets, bounds and lifetimes."""
     depth, kept = 0, ""
     for letter in block.replace("->", ""):
         depth += (letter == "<") - (letter == ">")
@@ -322,7 +341,7 @@ def without_generics(block):
 
 
 def module_of(folder, kind):
-    """The module in which a type or trait is declared, if the crate does."""
+    """Returns the module that declares a type or trait, if the crate does."""
     for path in glob.glob(os.path.join(folder, "src", "**", "*.rt"), recursive=True):
         with open(path, encoding="utf-8") as source:
             if re.search(rf"^(?:pub(?:\([a-z]+\))? )?(?:struct|enum|trait) {kind}\b", source.read(), re.MULTILINE):
@@ -331,7 +350,7 @@ def module_of(folder, kind):
 
 
 def tried_alone(copy, crate, faults):
-    """The lines of `rt must-fail` for these faults, by name."""
+    """Returns the lines of `rt must-fail` for these faults, by name."""
     place = os.path.join(copy, "crates", crate, "must-fail")
     os.mkdir(place)
     for fault in faults:

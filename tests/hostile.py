@@ -1,24 +1,23 @@
 #!/usr/bin/env python3
-"""Runs the programs on bad input by the thousand.
+"""Runs the programs thousands of times on bad input.
 
-    bench/hostile [--seed N] [--runs N] [--only N] [--program FILE] [--larder FILE]
+    tests/hostile.py [--seed N] [--runs N] [--only N]
 
-Of seven runs four are `complgen`, one of them `complgen check`, over a tree file of examples/ that was
-changed: bytes flipped, cut out or doubled, keys exchanged, numbers out of range, values of another
-kind, objects nested as deep as a file may nest and deeper. One is `complgen candidates` with words and
-an index made at random; one is `larder`, and one `complgen` as a shell runs it, with words and
-environment values made at random, the latter with folders of tree files that are changed, have odd
-names or are none. None need be UTF-8.
+Of seven runs, four are of `complgen` over a changed tree file of examples/, one of these with `check`.
+The changes are these: bytes flipped, cut out or doubled, keys exchanged, numbers out of range, values
+of another kind, and objects nested as deep as a file may nest and deeper. One run is `complgen
+candidates` with random words and a random index. One is `larder`, and one is `complgen` as a shell runs
+it, both with random words and environment values. For `complgen` the directories of tree files then
+have changed files and odd names, or do not exist. The input need not be UTF-8.
 
-Each run has to end within a second, by no signal, with status 0, 1 or 2. One that ends with status 0
-prints nothing to the standard error but how many tree files are passed over; another one prints
-nothing to the standard output, and to the standard error one of the texts that docs/TEXTS.md lists,
-or the command line's own where the words are bad, or nothing where a program has no tree file. But
-`check` prints lines of findings to the standard output, where the status is 1 at least one. The
-programs are the proved ones; others are named by --program and --larder.
+Each run has to end within a second, by no signal, with status 0, 1 or 2. With status 0, it prints
+nothing to the standard error, except how many tree files it passed over. With another status, it
+prints nothing to the standard output. To the standard error it prints one of the texts that
+docs/TEXTS.md lists, or the command line's own text, or nothing if a program has no tree file. Only
+`check` prints findings to the standard output, at least one if the status is 1.
 
-Printed is each run that fails, by its number, which --only repeats, and at the end how many runs
-ended with which text. The status is 0 where none failed, else 1.
+The script prints each run that fails with its number, which --only repeats. Then it prints how many
+runs ended with which text. The status is 0 if no run failed.
 """
 
 import argparse
@@ -33,14 +32,16 @@ import subprocess
 import sys
 import tempfile
 
-TOP = os.path.dirname(os.path.dirname(os.path.realpath(__file__)))
-SHELLS = ["bash", "elvish", "fish", "nushell", "powershell", "zsh"]
-# The deepest that the objects and lists of a tree file nest.
+sys.path.append(os.path.join(os.path.dirname(os.path.realpath(__file__)), "..", "tools"))
+import common
+
+SHELLS = list(common.SHELLS)
+# The greatest depth to which objects and lists of a tree file may nest.
 DEEPEST = 127
 SECONDS = 1
 
 UNKNOWN_SHELL = "unknown shell `.*`, expected one of `bash`, `elvish`, `fish`, `powershell`, `zsh`"
-# What is printed where a run is refused, for each status.
+# The texts of refused runs, by status.
 REFUSALS = {
     "complgen": {
         1: [
@@ -53,15 +54,15 @@ REFUSALS = {
     "larder": {
         1: [
             f"larder: {text}"
-            # The last is the system's, for words that are not UTF-8.
+            # The last one is the system's text for words that are not UTF-8.
             for text in (UNKNOWN_SHELL, "no completion generated", "no arguments", "invalid data")
         ],
-        # Where no shell asks, the words are a command line.
+        # Without a request of a shell, the words are a command line.
         2: ["error: .*"],
     },
 }
 
-# What is printed where names of tree files are not plain.
+# The text for tree files whose names are not plain.
 PASSED_OVER = r"complgen: tree files passed over, whose names are not plain: [0-9]+\n"
 
 # A line of `complgen check`.
@@ -72,7 +73,8 @@ Case = collections.namedtuple("Case", "kind words environment")
 
 def main():
     options = arguments()
-    programs = {"complgen": options.program, "check": options.program, "larder": options.larder}
+    complgen = common.program("complgen")
+    programs = {"complgen": complgen, "check": complgen, "larder": common.program("larder")}
     numbers = [options.only] if options.only is not None else range(options.runs)
     with tempfile.TemporaryDirectory() as folder:
         trees = read_trees()
@@ -91,24 +93,22 @@ def main():
 
 
 def remove(path):
-    """Removes the tree file of a run, and its folder of tree files."""
+    """Removes the tree file of a run, and its directory of tree files."""
     if os.path.exists(path):
         os.remove(path)
     shutil.rmtree(path + ".d", ignore_errors=True)
 
 
 def arguments():
-    parser = argparse.ArgumentParser(usage=__doc__.split("\n")[2].strip())
+    parser = argparse.ArgumentParser(usage=common.usage(__doc__))
     parser.add_argument("--seed", type=int, default=1)
     parser.add_argument("--runs", type=int, default=20000)
     parser.add_argument("--only", type=int, help="the number of the one run to repeat")
-    for option, name in (("--program", "complgen"), ("--larder", "larder")):
-        parser.add_argument(option, default=os.path.join(TOP, "crates", name, "out", name))
     return parser.parse_args()
 
 
 def reported(results):
-    """Prints what failed, and how the runs ended."""
+    """Prints which runs failed, and how many ended in which way. Returns the status."""
     ended, failed = collections.Counter(), 0
     for number, case, (ending, fault) in results:
         ended[f"{case.kind}: {ending}"] += 1
@@ -123,7 +123,7 @@ def reported(results):
 
 
 def run(case, program, folder):
-    """How a run ended, and what is wrong with that, or None."""
+    """Returns how a run ended, and what is wrong with that, or `None`."""
     environment = {"PATH": os.environ["PATH"], "HOME": folder, **case.environment}
     try:
         done = subprocess.run(
@@ -171,7 +171,7 @@ def case_of(chance, number, trees, path):
             return Case("check", ["check", path], {})
         return Case("complgen", words_over(chance, path), {})
     if kind == 3:
-        tree = os.path.join(TOP, "examples", chance.choice(sorted(trees)))
+        tree = os.path.join(common.EXAMPLES, chance.choice(sorted(trees)))
         words = odd_words(chance, 12)
         words = ["candidates", "--index", index(chance), tree, "--", *words]
         return Case("complgen", words, {} if chance.randrange(4) else odd_value(chance, ["HOME"]))
@@ -185,7 +185,7 @@ ODD_NAMES = [
 
 
 def requested(chance, trees, path):
-    """`complgen` as a shell runs it, over folders of tree files."""
+    """Returns a run of `complgen` as a shell runs it, over directories of tree files."""
     folder = os.fsencode(path + ".d")
     os.makedirs(folder, exist_ok=True)
     names = [chance.choice(ODD_NAMES) for _ in range(chance.randrange(6))]
@@ -210,7 +210,7 @@ def requested(chance, trees, path):
 
 
 def words_over(chance, path):
-    """The words of a run that reads this tree file."""
+    """Returns the words of a run that reads this tree file."""
     shell = chance.choice(SHELLS + ["csh", "", "Bash"])
     kind = chance.choice(["script", "script", "register", "candidates"])
     if kind == "candidates":
@@ -225,8 +225,8 @@ def index(chance):
     return chance.choice(["", "+1", "-1", "x", "1.5", "99", str(2**64 - 1), str(2**64), "0x1"])
 
 
-# Environment values that are not UTF-8: a byte of no text, characters cut short, one written in too
-# many bytes, half of a pair of UTF-16, and one past the last.
+# Environment values that are not UTF-8: invalid bytes, truncated characters, an overlong encoding, half
+# of a surrogate pair, and a code point past the last.
 NOT_UTF_8 = [
     b"\xff", b"bash\xff", b"\xfffish", b"/bin/zsh\xc3", b"1\xc3", b"\xe2\x82", b"\n\xf0\x9f",
     b"\xc0\xaf", b"\xed\xa0\x80", b"\xf4\x90\x80\x80", b"/home/\xe9",
@@ -234,7 +234,7 @@ NOT_UTF_8 = [
 
 
 def asking(chance):
-    """Environment values by which a shell asks, or nearly."""
+    """Returns environment values by which a shell requests something, or nearly."""
     shells = SHELLS + ["", "0", "1", "/bin/zsh", "/usr/bin/bash.exe", "csh", "-", "é", "bash\n"]
     values = {
         "COMPLETE": chance.choice(shells),
@@ -251,7 +251,7 @@ def asking(chance):
 
 
 def odd_value(chance, names):
-    """One of these variables with a value that is not UTF-8."""
+    """Returns one of these variables with a value that is not UTF-8."""
     return {chance.choice(names): chance.choice(NOT_UTF_8)}
 
 
@@ -279,7 +279,7 @@ def odd_word(chance):
 def read_trees():
     trees = {}
     for name in ("larder.json", "tree-with-children.json", "tree.json"):
-        with open(os.path.join(TOP, "examples", name), "rb") as file:
+        with open(os.path.join(common.EXAMPLES, name), "rb") as file:
             trees[name] = file.read()
     return trees
 
@@ -293,27 +293,27 @@ def changed_tree(chance, trees):
 
 
 def flipped(chance, text):
-    """One bit of a byte changed."""
+    """Changes one bit of a byte."""
     place = chance.randrange(len(text))
     return text[:place] + bytes([text[place] ^ 1 << chance.randrange(8)]) + text[place + 1:]
 
 
 def cut(chance, text):
-    """A stretch left out, or all after a place."""
+    """Leaves out some bytes, or all after a place."""
     begin = chance.randrange(len(text))
     end = len(text) if chance.randrange(2) else begin + chance.randrange(1, 40)
     return text[:begin] + text[end:] or b" "
 
 
 def doubled(chance, text):
-    """A stretch written twice."""
+    """Writes some bytes twice."""
     begin = chance.randrange(len(text))
     end = min(len(text), begin + chance.randrange(1, 200))
     return text[:end] + text[begin:]
 
 
 def exchanged(chance, text):
-    """Two texts of the file exchanged, keys or values."""
+    """Exchanges two strings of the file, keys or values."""
     spots = [found.span() for found in re.finditer(rb'"[^"\\]*"', text)]
     if len(spots) < 2:
         return text
@@ -329,7 +329,7 @@ ODD_VALUES = [
 
 
 def replaced(chance, text):
-    """The value of a key replaced by one of another kind or range."""
+    """Replaces the value of a key by one of another kind or range."""
     keys = list(re.finditer(rb'"[a-z_]+": *("[^"\\]*"|\[[^\[\]{}]*\]|[a-z0-9]+)', text))
     if not keys:
         return text
@@ -338,7 +338,7 @@ def replaced(chance, text):
 
 
 def nested(chance, _):
-    """A tree file whose lists or commands nest nearly as deep as a file may, or deeper."""
+    """Returns a tree file whose lists or commands nest nearly as deep as a file may, or deeper."""
     depth = DEEPEST + chance.choice([-2, -1, 0, 1, 2, 1000])
     if chance.randrange(2):
         return b'{"name": "app", "aliases": ' + b"[" * (depth - 1) + b"]" * (depth - 1) + b"}"
@@ -349,7 +349,7 @@ def nested(chance, _):
 
 
 def written(command):
-    """JSON of a tree that may nest too deep for the module `json`."""
+    """Returns JSON of a tree that may nest too deep for the module `json`."""
     front, back = [], []
     while "subcommands" in command:
         front.append(f'{{"name": {json.dumps(command["name"])}, "subcommands": [')

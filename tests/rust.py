@@ -1,29 +1,27 @@
 #!/usr/bin/env python3
-"""Builds the archive for Rust programs and the package over it, tests both, and compares them with
-the original.
+"""Builds the archive for Rust programs and its package, tests both, and compares them with the original.
 
-    bench/rust [--archive FOLDER] [--original FOLDER]
+    tests/rust.py [--archive FOLDER] [--original FOLDER]
 
-`rt lib` proves and builds crates/complgen_c; --archive names a folder with the archive in its place.
-The tests of rust/lagvtsune run by cargo, and again under valgrind where it is installed, which has to
-report no error and no leak. examples/from-rust is built as it stands.
+`rt lib` proves and builds crates/complgen_c. --archive names a directory that has the archive already.
+cargo runs the tests of rust/lagvtsune, and again under valgrind if it is installed. valgrind must report
+no error and no leak. examples/from-rust has to build.
 
-Then the example `herd` of the package is built with it and with the crate `clap_complete`, which
-differ in the name of the crate alone. The scripts of both are laid side by side, and what they reply
-to 1,000 live requests made at random, but for those at which the original panics. Crates are Debian's
-where these are installed, and else those that cargo fetches; with one that has no `CompleteEnv` only
-scripts are compared. Of the folders clap and clap_complete in the folder that --original names both
-programs are built instead.
+Then the example `herd` of the package is built with the package, and with the crate `clap_complete`. The
+two programs differ only in the name of the crate. The script compares their scripts, and their replies to
+1,000 random live requests, except those at which the original panics. If Debian's crates are installed,
+cargo uses these. Otherwise it fetches crates. If the original has no `CompleteEnv`, only scripts are
+compared. --original names a directory with the crates clap and clap_complete, which both programs then
+use.
 
-Printed is a line for each step, with valgrind also the instructions of both programs. Where
-clap_complete is 4.6.11, and a text differs by more than the differences that docs/DIFFERENCES.md
-names, it is printed too. The status is 0 where all holds, else 1. Needs `cargo`, clap 4 with its
-derive, and `rt` where no archive is named.
+The script prints a line for each step, and with valgrind also the instructions of both programs. If
+clap_complete is 4.6.11, it also prints each text that differs by more than the differences in
+docs/DIFFERENCES.md. The status is 0 if all of it holds. It needs `cargo` and clap 4 with its derive, and
+`rt` without --archive.
 """
 
 import argparse
 import difflib
-import glob
 import os
 import random
 import re
@@ -32,11 +30,12 @@ import subprocess
 import sys
 import tempfile
 
-TOP = os.path.dirname(os.path.dirname(os.path.realpath(__file__)))
-DEBIAN = "/usr/share/cargo/registry"
+sys.path.append(os.path.join(os.path.dirname(os.path.realpath(__file__)), "..", "tools"))
+import common
+
 ARCHIVE = "libcomplgen_c.a"
-SHELLS = ["bash", "elvish", "fish", "powershell", "zsh"]
-# The original whose scripts are the same, but for what is known to differ.
+SHELLS = list(common.LIVE_SHELLS)
+# The version of the original whose scripts have only the known differences.
 VERSION = "4.6.11"
 MANIFEST = """[package]
 name = "other"
@@ -47,7 +46,7 @@ edition = "2021"
 clap = { version = "4", features = ["derive"] }
 clap_complete = { version = "4", features = ["unstable-dynamic"] }
 """
-# How many live requests are made, and the words of which they are.
+# The number of live requests, and the words that they consist of.
 REQUESTS = 1000
 WORDS = [
     "get", "ls", "describe", "apply", "delete", "rm", "logs", "exec", "node", "rollout", "config", "list",
@@ -58,9 +57,9 @@ WORDS = [
 ]
 # The words of a request at the root, and of one with a path.
 ROOT, PATH = ["--", "herd", ""], ["--", "herd", "apply", "-f", "src/"]
-# A status at which the original panicked.
+# The status of the original if it panics.
 PANICKED = 101
-# Where tests run, Rust's own library ends with a block that may be lost.
+# In a test program, Rust's own library ends with a block that may be lost.
 DEFINITE = ["--show-leak-kinds=definite", "--errors-for-leak-kinds=definite"]
 # In 20,000 random inputs valgrind would take half an hour.
 UNDER_VALGRIND = ["--skip", "any_"]
@@ -71,7 +70,7 @@ def main():
     with tempfile.TemporaryDirectory() as work:
         cargo = Cargo(work, options.archive or build_archive(), options.original)
         for folder in ("rust", "examples"):
-            shutil.copytree(os.path.join(TOP, folder), os.path.join(work, folder))
+            shutil.copytree(os.path.join(common.TOP, folder), os.path.join(work, folder))
         package = os.path.join(work, "rust", "lagvtsune")
         cargo.run(package, "test", "--quiet")
         print("tests: passed")
@@ -89,8 +88,8 @@ def arguments():
 
 
 def build_archive():
-    """Builds the archive, and returns the folder that it is in."""
-    crate = os.path.join(TOP, "crates", "complgen_c")
+    """Builds the archive, and returns its directory."""
+    crate = os.path.join(common.TOP, "crates", "complgen_c")
     subprocess.run(["rt", "lib"], cwd=crate, check=True, stdout=subprocess.DEVNULL)
     size = os.path.getsize(os.path.join(crate, "out", ARCHIVE))
     print(f"archive: proved and built, {size:,} bytes")
@@ -98,11 +97,11 @@ def build_archive():
 
 
 class CargoFailed(Exception):
-    """Says what cargo said."""
+    """An error of cargo, with its output."""
 
 
 class Cargo:
-    """Runs of cargo on copies of packages, since it writes its lock file beside the sources."""
+    """Runs cargo on copies of packages, because it writes its lock file next to the sources."""
 
     def __init__(self, work, archive, original):
         self.environment = {
@@ -111,15 +110,12 @@ class Cargo:
             "LAGVTSUNE_DIR": archive,
         }
         self.built = os.path.join(work, "target")
-        self.flags = []
-        if glob.glob(os.path.join(DEBIAN, "clap-4.*")):
-            self.flags = ["--offline", *config("source.crates-io.replace-with", "debian")]
-            self.flags += config("source.debian.directory", DEBIAN)
+        self.flags = common.cargo_flags()
         for crate in ("clap", "clap_complete") if original else ():
-            self.flags += config(f"patch.crates-io.{crate}.path", os.path.join(original, crate))
+            self.flags += common.cargo_config(f"patch.crates-io.{crate}.path", os.path.join(original, crate))
 
     def run(self, package, *words):
-        """What cargo says."""
+        """Runs cargo, and returns its messages."""
         command = ["cargo", words[0], *self.flags, *words[1:]]
         ran = subprocess.run(command, cwd=package, env=self.environment, capture_output=True, text=True)
         if ran.returncode:
@@ -127,14 +123,10 @@ class Cargo:
         return ran.stderr
 
     def tests(self, package):
-        """The programs of the package's tests."""
+        """Returns the paths of the package's test programs."""
         said = self.run(package, "test", "--no-run")
         names = re.findall(r"\(\S*?target/(debug/deps/\S+)\)", said)
         return [os.path.join(self.built, name) for name in names]
-
-
-def config(key, value):
-    return ["--config", f'{key}="{value}"']
 
 
 def under_valgrind(programs):
@@ -149,10 +141,10 @@ def under_valgrind(programs):
 
 
 def compare(cargo, work, package):
-    """Whether both programs write the same, as far as the original is this one."""
+    """Tells whether both programs write the same, as far as the original is the one to compare with."""
     version, replies = build_other(cargo, work, package)
     if version is None:
-        print("clap_complete: not to be had")
+        print("clap_complete: not available")
         return True
     cargo.run(package, "build", "--quiet", "--release", "--example", "herd")
     ours = os.path.join(cargo.built, "release", "examples", "herd")
@@ -166,8 +158,11 @@ def compare(cargo, work, package):
 
 
 def build_other(cargo, work, package):
-    """Builds the program with the original, and returns its version, or None where it is not there,
-    and whether it replies to live requests."""
+    """Builds the program with the original.
+
+    Returns the version of the original, or `None` if it is not available, and whether the program replies
+    to live requests.
+    """
     other = os.path.join(work, "other")
     os.makedirs(os.path.join(other, "src"))
     write(os.path.join(other, "Cargo.toml"), MANIFEST)
@@ -194,7 +189,7 @@ def write(path, text):
 
 
 def make_files(work):
-    """The folder where both programs run, and the home folder."""
+    """Makes the directory where both programs run, and the home directory."""
     for name in ("here/src", "here/.git", "home/own"):
         os.makedirs(os.path.join(work, name))
     for name in ("here/a.txt", "here/src/main.rs", "here/src/s p", "home/own/b"):
@@ -202,7 +197,8 @@ def make_files(work):
 
 
 def requests_agree(ours, theirs, work):
-    """Whether both programs reply the same to random requests, but for those that are passed over."""
+    """Tells whether both programs reply the same to random requests, except those at which the original
+    panics."""
     chosen = random.Random(1)
     differ = passed_over = offered = 0
     for _ in range(REQUESTS):
@@ -221,20 +217,20 @@ def requests_agree(ours, theirs, work):
 
 
 def reply(program, asked, words, work):
-    """The status of a request, and its lines and message without what is known to differ."""
+    """Returns the status of a request, its lines and its message, without the known differences."""
     ran = subprocess.run([program, "--", *words], capture_output=True, **requesting(asked, work))
     lines = known(ran.stdout.decode().replace("\v", "\n"))
     return ran.returncode, [line for line in lines if line], ran.stderr.decode()
 
 
 def requesting(asked, work):
-    """The environment and the folder in which a request is made."""
+    """Returns the environment and the directory of a request."""
     environment = {**os.environ, **asked, "HOME": os.path.join(work, "home")}
     return {"env": environment, "cwd": os.path.join(work, "here")}
 
 
 def print_instructions(ours, theirs, work, replies):
-    """What runs of both programs cost: scripts, a registration, a reply at the root and one with a path."""
+    """Prints the costs of both programs: scripts, a registration, a reply at the root and one with a path."""
     calls = [(f"script of {shell}", {}, ["--completions", shell]) for shell in SHELLS]
     if replies:
         asked = {"COMPLETE": "fish"}
@@ -246,9 +242,7 @@ def print_instructions(ours, theirs, work, replies):
 
 
 def instructions(program, asked, words, work):
-    command = ["valgrind", "--tool=callgrind", "--callgrind-out-file=/dev/null", program, *words]
-    ran = subprocess.run(command, check=True, capture_output=True, text=True, **requesting(asked, work))
-    return int(re.search(r"Collected : (\d+)", ran.stderr)[1])
+    return common.callgrind([program, *words], **requesting(asked, work)).total
 
 
 def script(program, shell):
@@ -257,7 +251,7 @@ def script(program, shell):
 
 
 def alike(shell, version, ours, theirs):
-    """Prints how the scripts differ, and returns whether they are the same as far as they are to be."""
+    """Prints how the scripts differ, and returns whether only known differences were found."""
     names = ("clap_complete", "lagvtsune")
     rows = list(difflib.unified_diff(known(theirs), known(ours), *names, lineterm="", n=0))
     differ = sum(row[0] in "+-" for row in rows[2:])
@@ -268,9 +262,11 @@ def alike(shell, version, ours, theirs):
 
 
 def known(text):
-    """The lines of a text without what is known to differ: `nushell`, which the original has in a crate
-    of its own; the longer text of a flag `help` where some value has a help; and in fish which
-    children are excluded where one is on the path."""
+    """Returns the lines of a text without the known differences:
+
+    `nushell`, which the original has in a crate of its own; the longer text of a flag `help` if some value
+    has a help text; and in fish the excluded children, if one of them is on the path.
+    """
     text = re.sub(r"nushell(\\t''\n| |$)", "", text, flags=re.MULTILINE)
     text = re.sub(r"Print help \(see more with ['\\]+--help['\\]+\)", "Print help", text)
     seen = "; and __fish_seen_subcommand_from"

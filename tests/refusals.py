@@ -1,28 +1,34 @@
 #!/usr/bin/env python3
-"""Refuses each allocation of each call in turn, and has each sink fail after each byte.
+"""Makes each allocation of each call fail in turn, and each sink after each byte.
 
-    bench/refusals [--program FILE] [--complgen FILE] [CALL..]
+    tests/refusals.py [--calls FILE] [CALL..]
+    tests/refusals.py --whole
 
-The program `bench_calls` makes a call of the library over a small command; unless --program names
-one, it is proved and built from bench/refusals.d/bench_calls by `rt ci`, in a copy of the crates,
-and kept until a source is newer. An allocation is refused by bench/refusals.d/refuse.c, which is
-compiled by `cc` and preloaded. Without a CALL all calls are made, and then `complgen` is run as a
-whole.
+The program `bench_calls` makes a call of the library over a small command. Without --calls, `rt ci`
+proves and builds it from tests/refusals.d/bench_calls in a copy of the crates, and it is kept until a
+source is newer. `cc` compiles tests/refusals.d/refuse.c, a preloaded library that makes allocations
+fail. Without a CALL, all calls are made, and then `complgen` runs as a whole. With --whole, only
+`complgen` runs.
 
-A call that is refused an allocation has to fail with `Memory`; one whose sink fails after so many
-bytes with `Write` and the kind of the sink, and one whose sink takes nothing more with `WriteZero`.
-What the getters that `state.rt` of `bench_calls` asks say of the command and all below it is
-then what they said before the call, or what they say after the call is carried out; after `build` it
-is the former, and where the sink failed the latter. The same call, repeated with all it needs, gives
-the text (the file) of a call that was refused nothing. A generator that is refused its first
-allocation has put nothing, and so have `write_complete` and `try_complete` where any is refused.
-`complgen` has to end with status 1 and `out of memory`; what it printed is the beginning of what it
-prints else, and nothing where that are candidates. A block that was to become smaller stays as it is
-where that is refused: such a call has to end as one that is refused nothing.
+These rules are checked:
 
-Printed is a line for each call: its runs, in how many of them an allocation was refused, how many of
-these ended as if it were not, in how many the sink failed, and how many runs were wrong; and at the
-end the totals. The status is 0 where no run was wrong, else 1.
+- a call that gets no memory fails with `Memory`. If its sink fails after some bytes, it fails with `Write`
+  and the kind of the sink. If its sink accepts nothing more, the kind is `WriteZero`;
+- then the command and all below it are as they were before the call, or as the call leaves them. After
+  `build` they are as before, and if the sink failed, as the call leaves them. `state.rt` of
+  `bench_calls` asks the getters;
+- the same call, repeated with enough memory and room, writes the text or the file that it writes if
+  nothing fails;
+- a generator whose first allocation fails has written nothing. `write_complete` and `try_complete` have
+  written nothing, whichever allocation fails;
+- `complgen` ends with status 1 and `out of memory`. Its output is the beginning of the usual output, and
+  empty for candidates;
+- a block that should become smaller stays as it is if that allocation fails. Such a call has to end as
+  if nothing failed. It counts as spared.
+
+The script prints a line for each call: its runs, how many got no memory, how many of these were spared,
+how many sinks failed, and how many runs were wrong. The last line has the totals. The status is 0 if no
+run was wrong.
 """
 
 import argparse
@@ -35,15 +41,18 @@ import subprocess
 import sys
 import tempfile
 
-TOP = os.path.dirname(os.path.dirname(os.path.realpath(__file__)))
-TREE = os.path.join(TOP, "examples", "tree-with-children.json")
+sys.path.append(os.path.join(os.path.dirname(os.path.realpath(__file__)), "..", "tools"))
+import common
+
+SOURCES = os.path.join(common.TOP, "tests", "refusals.d")
+TREE = os.path.join(common.EXAMPLES, "tree-with-children.json")
 ENOUGH = str(2**64 - 1)
 SECONDS = 20
-# Calls that build the command which they are handed.
+# Calls that build the command that they get.
 BUILDING = ("build", "complete", "generate ", "generate_to ", "write_complete ")
-# Calls that write nothing to the sink before they have ended.
+# Calls that write nothing to the sink before they end.
 SINKLESS = ("build", "complete", "generate_to ")
-# Calls that put nothing where an allocation is refused.
+# Calls that write nothing if an allocation fails.
 REPLIES = (*SINKLESS, "write_complete ", "try_complete ")
 
 Ended = collections.namedtuple("Ended", "status outcome taken state text refused")
@@ -52,17 +61,16 @@ totals = collections.Counter()
 
 def main():
     options = arguments()
-    options.program = options.program or placed_program()
+    calls = [] if options.whole else options.calls or None
     with tempfile.TemporaryDirectory() as folder:
         refuse = os.path.join(folder, "refuse.so")
-        source = os.path.join(TOP, "bench", "refusals.d", "refuse.c")
+        source = os.path.join(SOURCES, "refuse.c")
         subprocess.run(["cc", "-O2", "-shared", "-fPIC", "-o", refuse, source], check=True)
         with concurrent.futures.ThreadPoolExecutor(os.cpu_count()) as pool:
-            before = Call(options.program, "write_registration bash", refuse).run().state
-            for name in options.calls or calls_of(options.program):
-                tried_call(Call(options.program, name, refuse), before, pool)
-            for words in [] if options.calls else whole_runs(folder):
-                tried_run(options.complgen, words, folder, refuse, pool)
+            if calls != []:
+                try_calls(options.program or placed_program(), calls, refuse, pool)
+            for words in [] if calls else whole_runs(folder):
+                tried_run(common.program("complgen"), words, folder, refuse, pool)
     print(
         f"{totals['runs']} runs, {totals['refused']} allocations refused, {totals['spared']} spared, "
         f"{totals['bytes']} sinks failed, {totals['wrong']} wrong"
@@ -71,39 +79,52 @@ def main():
 
 
 def arguments():
-    parser = argparse.ArgumentParser(usage=__doc__.split("\n")[2].strip())
-    default = os.path.join(TOP, "crates", "complgen", "out", "complgen")
-    parser.add_argument("--program", type=os.path.realpath)
-    parser.add_argument("--complgen", default=default, type=os.path.realpath)
+    parser = argparse.ArgumentParser(usage=common.usage(__doc__))
+    parser.add_argument("--calls", dest="program", type=os.path.realpath)
+    parser.add_argument("--whole", action="store_true")
     parser.add_argument("calls", nargs="*", metavar="CALL")
     return parser.parse_args()
 
 
-def placed_program():
-    """The program `bench_calls`, proved and built in a copy of the crates where a source is newer."""
-    source = pathlib.Path(TOP, "bench", "refusals.d", "bench_calls")
-    program = source.parent / "out" / "bench_calls"
-    files = [*source.iterdir(), *pathlib.Path(TOP, "crates").glob("*/s*/**/*.*t*")]
+def try_calls(program, names, refuse, pool):
+    """Tries these calls, or all that the program names."""
+    before = Call(program, "write_registration bash", refuse).run().state
+    for name in names or calls_of(program):
+        tried_call(Call(program, name, refuse), before, pool)
+
+
+def kept_program():
+    """Returns the path of the program `bench_calls`, and whether it is newer than all sources."""
+    source = pathlib.Path(SOURCES, "bench_calls")
+    path = source / "out" / "bench_calls"
+    files = [*source.iterdir(), *pathlib.Path(common.TOP, "crates").glob("*/s*/**/*.*t*")]
     newest = max(file.stat().st_mtime for file in files)
-    if program.exists() and program.stat().st_mtime > newest:
+    return path, path.exists() and path.stat().st_mtime > newest
+
+
+def placed_program():
+    """Returns the path of `bench_calls`, which is first proved and built if a source is newer."""
+    source = pathlib.Path(SOURCES, "bench_calls")
+    program, is_new = kept_program()
+    if is_new:
         return str(program)
     with tempfile.TemporaryDirectory() as folder:
-        # The gate runs programs as nobody, where root proves them.
+        # If root runs the gate, the gate runs programs as nobody.
         os.chmod(folder, 0o711)
         copy = pathlib.Path(folder, "copy")
         (copy / ".git").mkdir(parents=True)
-        shutil.copy(os.path.join(TOP, "HANDLES"), copy)
+        shutil.copy(os.path.join(common.TOP, "HANDLES"), copy)
         lines = needed_lines("bench_calls: clap_complete")
         (copy / "crates.txt").write_text("".join(f"{line}\n" for line in lines.values()))
         ignored = shutil.ignore_patterns("out", "must-fail", "more-faults")
         for name in lines.keys() - {"bench_calls"}:
-            shutil.copytree(os.path.join(TOP, "crates", name), copy / "crates" / name, ignore=ignored)
+            shutil.copytree(os.path.join(common.TOP, "crates", name), copy / "crates" / name, ignore=ignored)
         crate = copy / "crates" / "bench_calls"
         (crate / "src").mkdir(parents=True)
         for file in source.iterdir():
             name = file.name.removesuffix(".txt")
             shutil.copy(file, crate / "src" / name if name.endswith(".rt") else crate / name)
-        print("bench_calls is proved and built", file=sys.stderr)
+        print("proving and building bench_calls", file=sys.stderr)
         subprocess.run(["rt", "ci"], cwd=copy, check=True, stdout=sys.stderr)
         program.parent.mkdir(exist_ok=True)
         shutil.copy(crate / "out" / "bench_calls", program)
@@ -111,10 +132,8 @@ def placed_program():
 
 
 def needed_lines(line):
-    """This line of crates.txt and those of the crates that it needs, by the names of the crates."""
-    with open(os.path.join(TOP, "crates.txt"), encoding="utf-8") as file:
-        known = {text.split(":")[0]: text.strip() for text in file if text[0] not in "#\n"}
-    lines, left = {}, [line]
+    """Returns this line of crates.txt and those of the crates that it needs, by their names."""
+    known, lines, left = common.crate_lines(), {}, [line]
     while left:
         line = left.pop()
         lines[line.split(":")[0]] = line
@@ -124,7 +143,7 @@ def needed_lines(line):
 
 
 def calls_of(program):
-    """The names of the calls, a line each."""
+    """Returns the names of the calls."""
     return subprocess.run([program], capture_output=True, check=True, text=True).stdout.splitlines()
 
 
@@ -159,7 +178,7 @@ def contents(path):
 
 
 def tried_call(call, before, pool):
-    """Prints the line of a call, and counts its runs that were wrong."""
+    """Tries a call, prints its line, and counts the wrong runs."""
     whole = call.run()
     wrong = []
 
@@ -197,8 +216,8 @@ def tried_call(call, before, pool):
 
 
 def refused_runs(call, pool):
-    """The runs in which the first allocation is refused, the second and so on, while one is; and
-    the run after them."""
+    """Returns the runs in which the first allocation fails, the second and so on, and the run after the
+    last."""
     refused, step = [], 64
     while True:
         first = len(refused) + 1
@@ -209,7 +228,7 @@ def refused_runs(call, pool):
 
 
 def report(name, whole, refused, spared, failed, wrong):
-    """Prints the line of a call; `whole` is the number of its runs in which nothing failed."""
+    """Prints the line of a call. In `whole` of its runs nothing failed."""
     runs = whole + refused + failed
     totals.update(runs=runs, refused=refused, spared=spared, bytes=failed, wrong=len(wrong))
     print(
@@ -225,10 +244,10 @@ def report(name, whole, refused, spared, failed, wrong):
 
 
 def whole_runs(folder):
-    """The words of the runs; the last one lists the files of the folder, which it makes."""
-    for shell in ("bash", "elvish", "fish", "nushell", "powershell", "zsh"):
+    """Yields the words of the runs. The last one lists the files of the directory, which this makes."""
+    for shell in common.SHELLS:
         yield ["script", "--shell", shell, "--bin", "app", TREE]
-    for shell in ("bash", "elvish", "fish", "powershell", "zsh"):
+    for shell in common.LIVE_SHELLS:
         yield ["register", "--shell", shell, "--bin", "app", TREE]
     yield ["candidates", "--index", "1", TREE, "--", "app", ""]
     with open(os.path.join(folder, "tree.json"), "w", encoding="utf-8") as file:
@@ -238,7 +257,7 @@ def whole_runs(folder):
 
 
 def tried_run(program, words, folder, refuse, pool):
-    """Prints the line of a run of `complgen` in the folder, and counts the runs that were wrong."""
+    """Tries a run of `complgen` in the directory, prints its line, and counts the wrong runs."""
     refused, spared, wrong = 0, 0, []
 
     def run(number):

@@ -1,27 +1,24 @@
 #!/usr/bin/env python3
-"""Has two builds of `complgen` do the same work, and compares what they do.
+"""Compares what two builds of `complgen` do.
 
-    bench/compare OLD [NEW] [--seed N] [--trees N] [--files N] [--words N] [--only KIND:N]
+    tests/compare.py OLD [NEW] [--seed N] [--trees N] [--files N] [--words N] [--only KIND:N]
 
-OLD and NEW are programs: OLD for instance of an earlier commit, NEW by default the one that
-`./complgen --prove` builds here. Three kinds of runs, all made at random:
+OLD and NEW are programs. OLD may come from an earlier commit; NEW is the proved program by default.
+There are three kinds of random runs:
 
-- tree: a tree file with any of its keys, from which the script and the registration of each shell are
-  written (--trees, 2,000);
-- file: a tree file of examples/ that was changed as bench/hostile changes it (--files, 3,000);
-- words: words and an index that are completed over one of some tree files made at random and those of
-  examples/ (--words, 10,000).
+- tree: the script and the registration of each shell for a tree file with any keys (--trees, 2,000);
+- file: a tree file of examples/, changed as tests/hostile.py changes it (--files, 3,000);
+- words: candidates for words and an index, over random tree files and those of examples/ (--words,
+  10,000).
 
-The status and all that is printed have to be the same, byte for byte. Printed is each run that
-differs, by its kind and number, which --only repeats, and at the end how many runs ended with which
-status. The status is 0 where none differs.
+The status and the output have to be the same, byte for byte. The script prints each run that differs,
+with its kind and number, which --only repeats. Then it prints how many runs ended with which status.
+The status is 0 if no run differs.
 """
 
 import argparse
 import collections
 import concurrent.futures
-import importlib.machinery
-import importlib.util
 import json
 import os
 import random
@@ -29,22 +26,12 @@ import subprocess
 import sys
 import tempfile
 
-TOP = os.path.dirname(os.path.dirname(os.path.realpath(__file__)))
-PROVED = os.path.join(TOP, "crates", "complgen", "out", "complgen")
-# How many random trees the lists of words are completed over.
+sys.path.append(os.path.join(os.path.dirname(os.path.realpath(__file__)), "..", "tools"))
+import common
+import hostile
+
+# The number of random trees for the lists of words.
 WORD_TREES = 200
-
-
-def loaded(name):
-    """A program of this folder as a module."""
-    loader = importlib.machinery.SourceFileLoader(name, os.path.join(TOP, "bench", name))
-    module = importlib.util.module_from_spec(importlib.util.spec_from_loader(name, loader))
-    sys.dont_write_bytecode = True
-    loader.exec_module(module)
-    return module
-
-
-hostile = loaded("hostile")
 
 
 def main():
@@ -66,9 +53,9 @@ def main():
 
 
 def arguments():
-    parser = argparse.ArgumentParser(usage=__doc__.split("\n")[2].strip())
+    parser = argparse.ArgumentParser(usage=common.usage(__doc__))
     parser.add_argument("old", metavar="OLD")
-    parser.add_argument("new", metavar="NEW", nargs="?", default=PROVED)
+    parser.add_argument("new", metavar="NEW", nargs="?", default=common.default_program("complgen"))
     parser.add_argument("--seed", type=int, default=1)
     parser.add_argument("--trees", type=int, default=2000)
     parser.add_argument("--files", type=int, default=3000)
@@ -78,7 +65,7 @@ def arguments():
 
 
 def reported(results):
-    """Prints what differs, and how the runs ended."""
+    """Prints what differs, and how the runs ended. Returns the status."""
     ended, differ = collections.Counter(), 0
     for (kind, number), outcomes in results:
         for words, old, new in outcomes:
@@ -93,7 +80,7 @@ def reported(results):
 
 
 def make_home(folder):
-    """A folder with some files, in which the programs run: candidates may be paths."""
+    """Makes a directory with some files, in which the programs run, because candidates may be paths."""
     os.makedirs(os.path.join(folder, "home", "src"))
     for name in ("a.txt", "notes", ".hidden", "src/main.rs"):
         with open(os.path.join(folder, "home", name), "w", encoding="utf-8"):
@@ -101,7 +88,7 @@ def make_home(folder):
 
 
 def compared(options, folder, examples, kind, number):
-    """The words of each call, with what the one and the other program did."""
+    """Returns the words of each call, with what each of the two programs did."""
     chance = random.Random(f"{options.seed} {kind} {number}")
     path = os.path.join(folder, f"{kind}-{number}.json")
     with open(path, "wb") as file:
@@ -146,7 +133,7 @@ def calls_of(chance, kind, path):
 
 
 def some_words(chance, path):
-    """Words of which most lead somewhere in the tree of a file."""
+    """Returns words of which most lead somewhere in the tree of a file."""
     with open(path, "rb") as file:
         node = json.load(file)
     words = [b"app"] if chance.randrange(8) else []
@@ -242,12 +229,12 @@ def possible(chance):
 
 
 def name(chance):
-    # Most are plain, since else no script would be.
+    # Most are plain, because otherwise no script would be.
     return chance.choice(NAMES[:9] if chance.randrange(8) else NAMES)
 
 
 def some(chance, found, one_in, key, value):
-    """Has the key in one of so many cases."""
+    """Sets the key in one of `one_in` cases."""
     if chance.randrange(one_in) == 0:
         found[key] = value()
 

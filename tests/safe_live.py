@@ -1,34 +1,35 @@
 #!/usr/bin/env python3
-"""Types into real shells that have loaded the safe registrations, and sees what a program receives.
+"""Types into real shells that have loaded the safe registrations, and checks what a program receives.
 
-    bench/safe_live.py [--complgen FILE] [--shells bash,zsh,fish,elvish] [--only PART]..
+    tests/safe_live.py [--shells bash,zsh,fish,elvish] [--only PART]..
                        [--before] [--seed N] [--names N] [--verbose]
 
-The shells run in a pseudo terminal and have loaded what `COMPLETE=SHELL complgen` writes for a folder
+The shells run in a pseudo terminal, and have loaded what `COMPLETE=SHELL complgen` writes for a directory
 of tree files. Their programs write the words that they receive into a file. Nothing that is typed or
-offered may run: `touch` is a program that leaves a mark, and no file may appear in the current folder.
+offered may run: `touch` is a program that leaves a mark, and no file may appear in the current directory.
 
 The parts:
 
-- values: each of some ninety odd texts is the one possible value of an argument. It is typed not at all, by
-  its first letter, after `'` and after `"`, and by its first letter after each; then Tab and Enter. The
-  program has to receive exactly the value.
-- files, folders: the same for a file and a folder of that name, by the hint `FilePath`. In a folder a
-  second Tab has to complete the file in it.
-- words: words with `:`, `=` and `@`, earlier words in quotes, a cursor within a word, paths after `~/`.
-- typed: a command substitution is typed and completed. Nothing may run at the Tab.
-- random: folders with names made at random of signs and commands, a file in each, and one to three Tabs.
-  --seed makes other names, --names another number of them.
-- ten-thousand: milliseconds of a Tab with 10,000 candidates, beside the original's registration.
+- values: each of some ninety odd texts is the only possible value of an argument. The script types
+  nothing, its first letter, `'`, `"`, or its first letter after one of these, and then Tab and Enter. The
+  program has to receive exactly the value;
+- files, folders: the same for a file and a directory of that name, by the hint `FilePath`. In a directory a
+  second Tab has to complete the file in it;
+- words: words with `:`, `=` and `@`, earlier words in quotes, a cursor within a word, paths after `~/`;
+- typed: a command substitution is typed and completed. Nothing may run at the Tab;
+- random: directories with random names made of signs and commands, a file in each, and one to three Tabs.
+  --seed makes other names, and --names another number of them;
+- ten-thousand: milliseconds of a Tab with 10,000 candidates, and the same by the original's registration;
 - start: milliseconds that 500 tree files add to the start of a shell, and the bytes of the registration.
 
-A value that is not inserted has to be one that the rules leave out: `left_out` has them. With --before the
-parts `values`, `files`, `folders` and `words` are tried by the original's registration too, as `complgen
-register` writes it, and so is the file of the issue, `x$(touch${IFS}hit)`. What happens then is counted and
-printed, with --verbose case by case, and does not count for the status.
+A value that is not inserted has to be one that the rules leave out: `left_out` has them. With --before,
+the original's registration, as `complgen register` writes it, is tried too: with the parts `values`,
+`files`, `folders` and `words`, and with the file `x$(touch${IFS}hit)`. The script counts and prints what
+happens then, with --verbose case by case. It does not count for the status.
 
-Printed is a line for each exception, and for each shell and part. The status is 0 where nothing was changed
-or ran, all that was not inserted was to be left out, and the start of each shell is within its bounds.
+The script prints a line for each exception, and for each shell and part. The status is 0 if no value was
+changed, nothing ran, every value that was not inserted was to be left out, and the start of each shell
+keeps its limits.
 """
 
 import argparse
@@ -50,7 +51,9 @@ import tempfile
 import termios
 import time
 
-TOP = os.path.dirname(os.path.dirname(os.path.realpath(__file__)))
+sys.path.append(os.path.join(os.path.dirname(os.path.realpath(__file__)), "..", "tools"))
+import common
+
 SHELLS = ("bash", "zsh", "fish", "elvish")
 PARTS = ("values", "files", "folders", "words", "typed", "random", "ten-thousand", "start")
 ISSUE = "x$(touch${IFS}hit)"
@@ -75,12 +78,12 @@ def has_control(text):
     return any(ord(letter) < 32 or 127 <= ord(letter) < 160 for letter in text)
 
 
-# What a shell leaves out at some Tabs only.
+# The reason for a value that a shell leaves out at some Tabs only.
 MAY_LEAVE_OUT = "bash may complete nothing after a `"
 
 
 def left_out(shell, quote, value, typed=""):
-    """Why a value is not to be inserted after this open quote; None where it is."""
+    """Returns why a value must not be inserted after this open quote, or `None`."""
     if has_control(value):
         return "control character"
     if shell == "bash" and quote == "'" and "'" in value[len(typed):]:
@@ -106,7 +109,7 @@ SPECIAL = set("$`\"'\\;&|*?[](){}<>#!~=^% \u00a0‘")
 
 
 def letter_in(shell, quote, letter):
-    """The letter as it is typed bare or after a quote; None where it can't be, or is no letter for that."""
+    """Returns the letter as a user types it, bare or after a quote, or `None` if that is impossible."""
     if has_control(letter):
         return None
     if shell == "elvish":
@@ -124,7 +127,7 @@ def letter_in(shell, quote, letter):
 
 
 def forms(shell, value):
-    """(open quote, what is meant by what is typed, what is typed)."""
+    """Yields triples: the open quote, the value that was typed, and how it was typed."""
     for quote in ("", "'", '"'):
         yield quote, "", quote
         letter = letter_in(shell, quote, value[0])
@@ -133,7 +136,7 @@ def forms(shell, value):
 
 
 def open_quote(shell, line):
-    """The quote that is open at the end of a line, or nothing."""
+    """Returns the quote that is open at the end of a line, or an empty text."""
     quote, escaped = "", False
     for letter in line:
         if escaped:
@@ -156,7 +159,7 @@ def escapes(shell, quote):
 # ---- the scratch folder
 
 class Scratch:
-    """Folders of tree files, programs, homes and files, which are removed in the end."""
+    """Directories of tree files, programs, homes and files, which are removed at the end."""
 
     def __init__(self, complgen, options=None):
         self.options = options
@@ -180,7 +183,7 @@ class Scratch:
         os.chmod(path, 0o755)
 
     def program(self, tree):
-        """A tree file, and a program of its name that writes down the words that it receives."""
+        """Makes a tree file, and a program of its name that writes down the words that it receives."""
         write(os.path.join(self.trees, tree["name"] + ".json"), json.dumps(tree))
         self.script(tree["name"], f"""#!{sys.executable} -IS
 import json, os, sys
@@ -190,13 +193,14 @@ os.rename({self.record + ".part"!r}, {self.record!r})
 """)
 
     def written(self, shell, **variables):
-        """What `complgen` writes for a shell to load."""
+        """Returns what `complgen` writes for a shell to load."""
         environment = {**self.environment, "COMPLETE": shell, **variables}
         return subprocess.run(["complgen"], env=environment, cwd=self.here, stdout=subprocess.PIPE, check=True,
                               executable=os.path.join(self.bin, "complgen")).stdout.decode()
 
     def original(self, shell):
-        """The registrations of the original's form for all programs, by which the shell calls `complgen`."""
+        """Returns the registrations in the original's form for all programs. With them a shell calls
+        `complgen`."""
         texts = []
         for name in sorted(os.listdir(self.trees)):
             bin_name = name.removesuffix(".json")
@@ -207,7 +211,7 @@ os.rename({self.record + ".part"!r}, {self.record!r})
         return "".join(texts)
 
     def marks(self, folder, known):
-        """What ran or appeared since; it is removed."""
+        """Returns what ran or appeared since the last call, and removes it."""
         found = sorted(set(os.listdir(folder)) - set(known))
         for name in found:
             os.unlink(os.path.join(folder, name))
@@ -276,7 +280,7 @@ class Terminal:
         return True
 
     def wait(self, path, seconds, again=""):
-        """Waits until a file is there. Keys are sent again now and then."""
+        """Waits until a file exists. Keys are sent again now and then."""
         began = last = time.monotonic()
         while not os.path.exists(path):
             now = time.monotonic()
@@ -289,7 +293,7 @@ class Terminal:
         return True
 
     def tab(self, text, keys="\t"):
-        """Types a text and a Tab; the command line after it and the seconds that it took."""
+        """Types a text and a Tab. Returns the command line after it, and the seconds that it took."""
         unlink(self.scratch.line)
         self.send(text)
         began = time.monotonic()
@@ -303,14 +307,14 @@ class Terminal:
         return (line.removesuffix("\n") if self.shell == "fish" else line), took
 
     def complete(self, text, tabs=1, keys=""):
-        """Types a text, other keys and Tabs, closes a quote that is open then, and presses Enter; the words
+        """Types a text, other keys and Tabs, closes an open quote, and presses Enter. Returns the words
         that the program received."""
         unlink(self.scratch.record)
         self.seen = b""
         for at in range(tabs):
             line, _ = self.tab("" if at else text + keys)
             if line and line.startswith(LISTED):
-                # Elvish shows the one candidate in a list, from which Enter takes it
+                # Elvish shows a single candidate in a list, and Enter selects it
                 line, _ = self.tab("", "\r")
         self.send(open_quote(self.shell, line or "") + "\r")
         if not self.wait(self.scratch.record, 4):
@@ -404,14 +408,14 @@ START = {"bash": start_bash, "zsh": start_zsh, "fish": start_fish, "elvish": sta
 # ---- judging
 
 class Count:
-    """What became of the tries of a part in a shell. A quiet one prints the counts alone."""
+    """The outcomes of a part in a shell. A quiet one prints the counts alone."""
 
     def __init__(self, shell, part, verbose, quiet=False):
         self.name, self.verbose, self.quiet = f"{shell}, {part}", verbose, quiet and not verbose
         self.found, self.reasons = collections.Counter(), collections.Counter()
 
     def judge(self, what, typed, expected, got, reason, marks, prefixes):
-        """Counts a try: what the program is to receive, what it did, and what ran."""
+        """Counts a try: the expected words, the received words, and what ran."""
         if marks:
             self.say("EVALUATED", what, typed, got, marks)
         elif got == expected and reason in (None, MAY_LEAVE_OUT):
@@ -465,7 +469,7 @@ def try_values(terminal, scratch, count):
 
 
 def file_names():
-    """Those of the values that can name a file, in a folder of its own each."""
+    """Yields the values that can name a file, each in a directory of its own."""
     return [(f"{at:02}", value) for at, value in enumerate(VALUES) if "/" not in value]
 
 
@@ -507,7 +511,7 @@ def try_folders(terminal, scratch, count):
 
 
 WORDS = (
-    # what is typed, and what the program is to receive after Tab and Enter
+    # the text to type, and the words that the program should receive after Tab and Enter
     ("word img", ["img:1.2"]),
     ("word img:", ["img:1.2"]),
     ("word img:1", ["img:1.2"]),
@@ -579,7 +583,7 @@ SIGNS = (
 
 
 def random_names(seed, count):
-    """Names of folders, made of signs and commands."""
+    """Returns names of directories, made from signs and commands."""
     chance, names = random.Random(seed), []
     while len(names) < count:
         name = "".join(chance.choice(SIGNS) for _ in range(chance.randrange(1, 7)))
@@ -646,7 +650,7 @@ def try_typed(terminal, scratch, count):
 # ---- times
 
 def try_ten_thousand(scratch, shell, verbose):
-    """Prints the milliseconds of a Tab with 10,000 candidates by each of the two registrations."""
+    """Prints the milliseconds of a Tab with 10,000 candidates, for each of the two registrations."""
     values = [{"name": f"value-{at:05}"} for at in range(10000)]
     scratch.program({"name": "many", "disable_help_flag": True, "args": [{"id": "v", "possible_values": values}]})
     setup = {"zsh": "unsetopt auto_list auto_menu"}.get(shell, "")
@@ -712,7 +716,7 @@ def try_shell(scratch, shell, options):
             before = Count(shell, "before, " + part, options.verbose, True)
             try_part(Driver(scratch, shell, scratch.original(shell), ""), part, before)
         if part == "typed" and shell == "zsh":
-            # by its own default zsh itself expands what is typed at a Tab, in any command; then it is to complete alone
+            # by default zsh itself expands the typed word at a Tab, in any command; here it should only complete
             by_default = Count(shell, "its default key for Tab, not counted, typed", options.verbose, True)
             try_part(Driver(scratch, shell, safe, ""), part, by_default)
             setup = "bindkey '^I' complete-word"
@@ -729,7 +733,8 @@ def try_part(driver, part, count):
 
 
 def show_issue(scratch):
-    """The file of the issue in bash, by the original's registration and by the safe one."""
+    """Shows what bash does with the file of the name `ISSUE`, by the original's registration and by the
+    safe one."""
     for name, text in (("before", scratch.original("bash")), ("after", scratch.written("bash"))):
         folder = os.path.join(scratch.path, "issue-" + name)
         os.makedirs(folder)
@@ -743,8 +748,7 @@ def show_issue(scratch):
 
 
 def arguments():
-    parser = argparse.ArgumentParser(description=__doc__, formatter_class=argparse.RawDescriptionHelpFormatter)
-    parser.add_argument("--complgen", default=os.path.join(TOP, "crates", "complgen", "out", "complgen"))
+    parser = argparse.ArgumentParser(usage=common.usage(__doc__))
     parser.add_argument("--shells", default=",".join(SHELLS))
     parser.add_argument("--only", action="append", choices=PARTS)
     parser.add_argument("--before", action="store_true")
@@ -756,9 +760,7 @@ def arguments():
 
 def main():
     options = arguments()
-    if not os.access(options.complgen, os.X_OK):
-        raise SystemExit(f"no program {options.complgen}: run `rt run` in its crate, or name one by --complgen")
-    scratch = Scratch(options.complgen, options)
+    scratch = Scratch(common.program("complgen"), options)
     good = True
     try:
         scratch.program(value_tree())
@@ -769,7 +771,7 @@ def main():
             show_issue(scratch)
         for shell in options.shells.split(","):
             if shutil.which(shell) is None:
-                print(f"{shell}: not installed, passed over")
+                print(f"{shell}: not installed, skipped")
                 continue
             good &= try_shell(scratch, shell, options)
     finally:

@@ -1,17 +1,19 @@
 #!/usr/bin/env python3
-"""Looks for what the documents name in the repository.
+"""Checks what the documents name, and how long sentences and pages are.
 
-    bench/documents
+    tools/documents.py [--sentences]
 
-The documents are README.md and the other pages at the top, those of docs/, and bench/README.md.
+The documents are the pages at the top, those of docs/, and the README.md of bench/, tests/ and tools/.
 
-- Each code block in Rattle or Rust stands in a file of crates/ or examples/, line for line, at any indentation; of
-  its imports the names are imported there. Those of docs/CALLS.md, which bench/calls makes, are left out.
-- Each file and function in the walks of docs/ARCHITECTURE.md is there, and each definition.
-- Each link leads to a file, and each source file that is named, as `quote/src/escape.rt` or `escape.rt`, is there.
-- A page has at most 4,000 words; docs/TEXTS.md and docs/CALLS.md may have any number.
+- Each code block in Rattle or Rust is in a file of crates/ or examples/, line by line, at any indentation.
+  What it imports is imported there. The blocks of docs/CALLS.md, which tools/calls.py makes, are left out.
+- Each file, function and definition in the walks of docs/ARCHITECTURE.md exists.
+- Each link leads to a file. Each named source file exists, such as `quote/src/escape.rt` or `escape.rt`,
+  and so does each named script of bench/, tests/ and tools/.
+- A page has at most 4,000 words, except docs/TEXTS.md and docs/CALLS.md.
 
-Printed is what does not hold. The status is 0 where all holds, else 1.
+The script prints how many sentences of each page have more than 30 words, and with --sentences these
+sentences. Then it prints what does not hold. The status is 0 if all of it holds, whatever the sentences are.
 """
 
 import glob
@@ -19,33 +21,73 @@ import os
 import re
 import sys
 
-TOP = os.path.dirname(os.path.dirname(os.path.realpath(__file__)))
+import common
+
+TOP = common.TOP
 WALKS = os.path.join("docs", "ARCHITECTURE.md")
 CALLS = os.path.join("docs", "CALLS.md")
 ANY_LENGTH = {CALLS, os.path.join("docs", "TEXTS.md")}
 MOST_WORDS = 4000
+LONG_SENTENCE = 30
 
 
 def main():
-    found = []
+    found, long = [], {}
     for page in pages():
         lines = lines_of(page)
         found += [f"{page}:{at}: no such file: {link}" for at, link in broken_links(page, lines)]
         found += [f"{page}:{at}: no such file: {name}" for at, name in unknown_files(lines)]
+        if page not in ANY_LENGTH:
+            long[page] = [it for it in sentences(lines) if len(it.split()) > LONG_SENTENCE]
         if page != CALLS:
-            found += [f"{page}:{at}: this code stands in no source: {line}" for at, line in unknown_blocks(lines)]
+            found += [f"{page}:{at}: this code is in no source: {line}" for at, line in unknown_blocks(lines)]
         if page == WALKS:
             found += [f"{page}:{at}: there is no {name}" for at, name in unknown_names(lines)]
         words = len(" ".join(lines).split())
         if words > MOST_WORDS and page not in ANY_LENGTH:
             found.append(f"{page}: {words} words of {MOST_WORDS}")
+    print_long(long)
     print("\n".join(found + [f"{len(found)} faults in the documents"]))
     return 1 if found else 0
 
 
+def print_long(long):
+    """Prints the number of long sentences of each page, and with --sentences the sentences."""
+    for page, found in long.items():
+        if found:
+            print(f"{page}: {len(found)} sentences above {LONG_SENTENCE} words")
+        for sentence in found if "--sentences" in sys.argv else []:
+            print(f"    {sentence}")
+    print(f"{sum(map(len, long.values()))} sentences above {LONG_SENTENCE} words")
+
+
 def pages():
-    paths = glob.glob(os.path.join(TOP, "*.md")) + glob.glob(os.path.join(TOP, "docs", "*.md"))
-    return [os.path.relpath(path, TOP) for path in sorted(paths)] + [os.path.join("bench", "README.md")]
+    found = [path for folder in (".", "docs", "bench", "tests", "tools") for path in paths(f"{folder}/*.md")]
+    return [os.path.relpath(path, TOP) for path in found]
+
+
+def sentences(lines):
+    """Yields the sentences of paragraphs, list items and table cells. A piece of code counts as a word."""
+    text, is_code = "", False
+    for line in [*lines, ""]:
+        if line.lstrip().startswith("```"):
+            is_code = not is_code
+            line = ""
+        begins = re.match(r" *([-*#]|\d+\.) |$", line)
+        if (begins or is_code or line.startswith("|")) and text:
+            yield from parts(text)
+            text = ""
+        if line.startswith("|"):
+            for cell in line.strip("| ").split(" | "):
+                yield from parts(cell)
+        elif not is_code and line.strip():
+            text += " " + re.sub(r"^ *([-*#]+|\d+\.) ", "", line)
+
+
+def parts(text):
+    """Splits a text into its sentences."""
+    plain = re.sub(r"\]\([^)]*\)", "]", re.sub(r"`[^`]*`", "`code`", text))
+    return [it for it in re.split(r"(?<=[.!?:])[*_)]* (?=[A-Z`\[*])", plain.strip()) if it]
 
 
 def broken_links(page, lines):
@@ -57,15 +99,18 @@ def broken_links(page, lines):
 
 
 def unknown_files(lines):
-    """Source files that are nowhere; a name in capitals stands for any."""
+    """Yields source files and scripts that do not exist. A name in capitals is a placeholder."""
     for at, line in enumerate(lines, 1):
+        for name in re.findall(r"`((?:bench|tests|tools)/[\w./-]+)", line):
+            if not os.path.exists(os.path.join(TOP, name)) and not re.search("[A-Z]", name):
+                yield at, name
         for name in re.findall(r"`([\w/.-]+\.(?:rt|antt|rs))`", line):
             if not name.split(".")[0].isupper() and not any(path.endswith(f"/{name}") for path in PATHS):
                 yield at, name
 
 
 def unknown_blocks(lines):
-    """The blocks that stand nowhere, each as the number and the text of its first line."""
+    """Yields the blocks that no source has, each as the number and the text of its first line."""
     begin = None
     for at, line in enumerate(lines):
         if not re.match(r" *```", line):
@@ -74,21 +119,21 @@ def unknown_blocks(lines):
             begin = at + 1 if line.strip() in ("```rust", "```rattle") else 0
             continue
         block = dedented(lines[begin:at]) if begin else []
-        if block and not any(stands(block, source) for source in SOURCES):
+        if block and not any(is_in(block, source) for source in SOURCES):
             yield begin + 1, block[0]
         begin = None
 
 
-def stands(block, source):
-    """Whether the lines of a block stand in a file, each import by the words that it is made of."""
-    wanted, there = without_imports(block), without_imports(source)
+def is_in(block, source):
+    """Tells whether a file has the lines of a block, and imports what the block imports."""
+    sought, there = without_imports(block), without_imports(source)
     if not imported(block) <= imported(source):
         return False
-    return any(there[at:at + len(wanted)] == wanted for at in range(len(there) - len(wanted) + 1))
+    return any(there[at:at + len(sought)] == sought for at in range(len(there) - len(sought) + 1))
 
 
 def without_imports(lines):
-    """The other lines, without blank ones: a document may leave those out."""
+    """Returns the other lines, without empty ones, which a document may leave out."""
     return [line.strip() for line in lines if line.strip() and not line.startswith("use ")]
 
 
@@ -102,7 +147,7 @@ def dedented(lines):
 
 
 def unknown_names(lines):
-    """What the rows with a step, crates with files, functions and definitions name in vain."""
+    """Yields what does not exist of the files, functions and definitions in the rows of a walk."""
     for at, line in enumerate(lines, 1):
         cells = line.strip("| ").split(" | ")
         if len(cells) != 4 or not re.match(r"\w+ `\w+\.rt`", cells[1]):

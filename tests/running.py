@@ -1,14 +1,15 @@
 #!/usr/bin/env python3
-"""Tries in bash and zsh which texts of a tree a script's shell runs at a Tab.
+"""Tries in bash and zsh which texts of a tree a shell runs at a Tab.
 
-    bench/running [--seed N] [--pairs N]
+    tests/running.py [--seed N] [--pairs N]
 
-bash reads the two lines of a bash script that hold possible values, with pairs of random values, of
-which `check` says that bash may split or change them. None may run the program `h`. Then bash and zsh
-read scripts with texts that docs/SECURITY.md lists: each has to run it, so that the page is right.
+bash reads the two lines of a bash script that hold possible values, with pairs of random values. They
+are values of which `check` says that bash may split or change them. None may run the program `h`. Then
+bash and zsh read scripts with texts that docs/SECURITY.md lists. Each of these has to run it, because
+the page says so.
 
-Printed is each text for which this does not hold, and at the end how many were tried. The status is 0
-where all holds, else 1. A shell that is not installed is passed over.
+The script prints each text for which this does not hold, and how many it tried. It skips a shell that is
+not installed. The status is 0 if all of it holds. It needs no program of this repository.
 """
 
 import argparse
@@ -91,8 +92,8 @@ def tried(folder, pairs):
     return faults, count
 
 
-# What `may_run_value` of complgen_lints says.
 def may_run(value):
+    """Decides as `may_run_value` of complgen_lints does."""
     return any(c in value for c in '$`"') or value.endswith("\\") or ("(" in value and any(c in value for c in "<>"))
 
 
@@ -117,8 +118,8 @@ def environment(folder):
     return {"PATH": f"{folder}/bin:/usr/bin:/bin", "D": folder, "LC_ALL": "C.UTF-8", "HOME": folder, "ZDOTDIR": folder, "TERM": "xterm", "V": "$(h)"}
 
 
-# Whether a Tab in a script with one of these pairs of values runs the program `h`.
 def bash_runs(folder, pairs):
+    """Tells whether a Tab in a script with one of these pairs of values runs the program `h`."""
     text = "".join(BASH.format(i, v, w) for i, (v, w) in enumerate(pairs))
     text += "".join(f"_f{i} a\n_f{i} b\n" for i in range(len(pairs)))
     with open(f"{folder}/script", "wb") as file:
@@ -131,8 +132,8 @@ def bash_runs(folder, pairs):
     return os.path.exists(f"{folder}/hit")
 
 
-# Whether a Tab after `app ` or `app --o ` runs it, where `_arguments` gets this line.
 def zsh_runs(folder, line):
+    """Tells whether a Tab after `app ` or `app --o ` runs it, if `_arguments` gets this line."""
     with open(f"{folder}/.zshrc", "w") as file:
         file.write(ZSH % line.replace("'", "'\\''"))
     forget(folder)

@@ -1,14 +1,13 @@
 #!/usr/bin/env python3
-"""Looks for each call that the library is to have, in the module under which a program finds it.
+"""Checks that the library has each of the public calls listed below, in the right module.
 
-    bench/surface
+    tools/surface.py
 
-The calls are listed below, module by module: a function, a type, or a type with its methods. A name
-has to be re-exported by the module of crates/clap_complete (or be public in the crate that is named),
-and each method has to be public in an `impl` or a trait of that type. It is a search in the sources
-and builds nothing.
+A call is a function, a type, or a type with its methods. The module of crates/clap_complete has to
+re-export the name, or the named crate has to declare it public. Each method has to be public in an `impl`
+or a trait of that type. The script searches the sources and builds nothing.
 
-Printed is what is missing, and the count of calls. The status is 0 where none is missing, else 1.
+It prints what is missing, and the number of calls. The status is 0 if nothing is missing.
 """
 
 import glob
@@ -16,7 +15,7 @@ import os
 import re
 import sys
 
-TOP = os.path.dirname(os.path.dirname(os.path.realpath(__file__)))
+import common
 
 GENERATOR = "generate try_generate file_name"
 ADAPTER = "name is write_registration write_complete"
@@ -121,7 +120,7 @@ def main():
 
 
 def entries(text):
-    """The names of a module, each with its methods: entries end at `;`, or before a name with `:`."""
+    """Yields the names of a module with their methods. An entry ends at `;`, or before a name with `:`."""
     for part in text.split(";"):
         name, methods = None, []
         for word in part.split():
@@ -136,18 +135,18 @@ def entries(text):
 
 
 def sources(crate):
-    for path in sorted(glob.glob(os.path.join(TOP, "crates", crate, "src", "**", "*.rt"), recursive=True)):
+    for path in sorted(glob.glob(os.path.join(common.TOP, "crates", crate, "src", "**", "*.rt"), recursive=True)):
         with open(path, encoding="utf-8") as file:
             yield file.read()
 
 
 def crate_of(module, name):
-    """The crate whose item the module re-exports under this name."""
+    """Returns the crate whose item the module re-exports under this name."""
     if module.startswith("crate "):
         crate = module.split()[1]
         return crate if is_public(crate, name) else None
     crate, file = ("cc_generator", "utils") if module == "aot::utils" else ("clap_complete", module or "lib")
-    with open(os.path.join(TOP, "crates", crate, "src", f"{file}.rt"), encoding="utf-8") as source:
+    with open(os.path.join(common.TOP, "crates", crate, "src", f"{file}.rt"), encoding="utf-8") as source:
         text = source.read()
     for of, names in re.findall(r"pub use (\w+)::(?:\w+::)*(\w+|\{[^}]*\});", text):
         if re.search(rf"\b{name}\b", names):
@@ -161,7 +160,7 @@ def is_public(crate, name):
 
 
 def methods_of(crate, name):
-    """The public methods of a type, and those of a trait."""
+    """Returns the public methods of a type, and those of a trait."""
     found = set()
     for text in sources(crate):
         for block in re.split(r"\n(?=(?:pub trait|impl)\b)", "\n" + text):
@@ -172,7 +171,7 @@ def methods_of(crate, name):
                 body = body.split("\n}\n")[0]
                 found |= set(re.findall(rf"^    {visible}(?:const )?fn (\w+)", body, re.MULTILINE))
                 if re.search(r"\bGenerator for ", head):
-                    # By default the trait's own.
+                    # The trait has a default for it.
                     found.add("try_generate")
     return found
 

@@ -1,47 +1,40 @@
 #!/usr/bin/env python3
-"""Compares bash scripts of the example trees, whole, with a filling of docs/TEXTS.md.
+"""Compares whole bash scripts of the example trees with docs/TEXTS.md.
 
-    bench/bash-texts [--program FILE]
+    tests/bash_texts.py
 
-For each tree file in examples/ the script that `complgen` writes is compared with one that is made
-here in another way: the frame and the arm are read from the section on bash scripts in
-docs/TEXTS.md, and filled in as its tables say, for the tree with what building adds. The program is
-the one that `./complgen` at the top of the repository builds; it is built first where that is due.
-Another one is named by --program.
+For each tree file in examples/, it compares the script that `complgen` writes with one that it makes in
+another way. It reads the frame and the arm from the section on bash scripts in docs/TEXTS.md. Then it
+fills them in as the tables of that section say, for the tree with what building adds.
 
-Printed is a line for each tree. The status is 0 where all scripts are equal, else 1.
+It prints a line for each tree. The status is 0 if all scripts are equal.
 """
 
-import argparse
 import json
 import os
 import subprocess
 import sys
 
-TOP = os.path.dirname(os.path.dirname(os.path.realpath(__file__)))
-EXAMPLES = os.path.join(TOP, "examples")
-# `./complgen` then runs nothing unproved.
-PROVED = {**os.environ, "COMPLGEN_PROVED": "1"}
+sys.path.append(os.path.join(os.path.dirname(os.path.realpath(__file__)), "..", "tools"))
+import common
+
 BIN = "app"
 LINE = "\n" + 20 * " "
 
 
 def main():
-    parser = argparse.ArgumentParser(description="Compares bash scripts with docs/TEXTS.md.")
-    parser.add_argument("--program", default=os.path.join(TOP, "complgen"))
-    program = parser.parse_args().program
-    with open(os.path.join(TOP, "docs", "TEXTS.md"), encoding="utf-8") as file:
+    program = common.program("complgen")
+    with open(os.path.join(common.TOP, "docs", "TEXTS.md"), encoding="utf-8") as file:
         section = file.read().split("\n## Bash script\n")[1].split("\n## ")[0]
     frame, arm = (block.split("\n```\n")[0] for block in section.split("\n\n```\n")[1:])
-    trees = sorted(name for name in os.listdir(EXAMPLES) if name.endswith(".json"))
-    equal = [is_equal(program, os.path.join(EXAMPLES, tree), frame + "\n", arm) for tree in trees]
+    equal = [is_equal(program, tree, frame + "\n", arm) for tree in common.example_trees()]
     return 0 if equal and all(equal) else 1
 
 
 def is_equal(program, path, frame, arm):
-    """Whether the program writes the script that is made here."""
+    """Tells whether the program writes the script that is made here."""
     words = [program, "script", "--shell", "bash", "--bin", BIN, path]
-    written = subprocess.run(words, stdout=subprocess.PIPE, check=True, env=PROVED).stdout
+    written = subprocess.run(words, stdout=subprocess.PIPE, check=True).stdout
     with open(path, encoding="utf-8") as file:
         made = script(built(json.load(file)), frame, arm)
     equal = written == made.encode()
@@ -49,11 +42,11 @@ def is_equal(program, path, frame, arm):
     return equal
 
 
-# What building adds.
+# Additions of building.
 
 
 def built(command, inherited=()):
-    """A command of a tree file with the arguments and the child that building adds."""
+    """Returns a command of a tree file with the arguments and the child that building adds."""
     children = list(command.get("subcommands", []))
     taken = [name for child in children for name in all_names(child)]
     if children and not command.get("disable_help_subcommand") and "help" not in taken:
@@ -68,7 +61,7 @@ def built(command, inherited=()):
 
 
 def with_missing(args, further):
-    """The arguments, and those of the further ones whose id none before them has."""
+    """Returns the arguments, and those of the further ones that have a new id."""
     args = list(args)
     for arg in further:
         if arg["id"] not in [each["id"] for each in args]:
@@ -84,7 +77,7 @@ def built_child(child, inherited):
 
 
 def copies(children):
-    """The children of a generated `help`: copies of the command's, and a last `help`."""
+    """Returns the children of a generated `help`: copies of the command's children, and a last `help`."""
     return [*map(copy, children), {"name": "help", "generated": True}]
 
 
@@ -98,7 +91,7 @@ def all_names(command):
 
 
 def flags(command, args):
-    """The flags that show the help and the version, where they are not disabled or given."""
+    """Returns the flags for the help text and the version, unless they are disabled or exist."""
     ids = [arg["id"] for arg in args]
     added = []
     if not command.get("disable_help_flag") and "help" not in ids:
@@ -136,7 +129,7 @@ def bytes_of(case):
 
 
 def collect(command, label, full_name, level, cases, arms):
-    """Adds the cases that lead to what is below a command, and all arms from it on."""
+    """Adds the cases that lead to the commands below a command, and the arms of all of them."""
     arms.append((full_name.replace(" ", "__subcmd__"), label, level, command))
     for child in command["children"]:
         name = child["names"][0]
@@ -165,7 +158,7 @@ def words(command):
 
 
 def dashed(arg, kind, last=False):
-    """The shorts or longs of an argument as they are typed, the name first or last."""
+    """Returns the shorts or longs of an argument as a user types them, the name first or last."""
     if kind not in arg:
         return []
     aliases = arg.get("visible_short_aliases" if kind == "short" else "visible_aliases", [])
@@ -205,7 +198,7 @@ def offered(arg):
 
 
 def around(hint):
-    """The lines before and after what is offered."""
+    """Returns the lines before and after the candidates."""
     if hint == "FilePath":
         kept = ['if [ -n "${IFS+x}" ]; then', '    oldifs="$IFS"', "fi"]
         before = ["local oldifs", *kept, "IFS=$'\\n'"]

@@ -1,54 +1,50 @@
 #!/usr/bin/env python3
-"""Times `complgen script` over large trees, and judges whether time and memory stay in bounds.
+"""Measures `complgen` over large trees, and checks limits of time, memory and instructions.
 
-    bench/run [--program FILE] [--shells NAME,NAME..] [--runs N]
-    bench/run --instructions [--program FILE] [--shells NAME,NAME..]
-    bench/run --candidates [--program FILE] [--larder FILE]
+    bench/run.py [--shells NAME,NAME..] [--runs N]
+    bench/run.py --instructions [--shells NAME,NAME..]
+    bench/run.py --candidates
 
-The program is the one that `./complgen` at the top of the repository builds; it is built first where
-that is due. Another one is named by --program.
-
-The trees, as files in a temporary folder:
+The first form times `complgen script` over these trees, which it writes as files:
 
 - wide: a root with all other commands as its children;
-- deep: a root with chains below it, each 39 commands long (the last one shorter where they don't
-  come out even), so that the tree is 40 deep;
-- options: one command with 10,000 options, each with a long, a help and one value.
+- deep: a root with chains below it. A chain is 39 commands long, so the tree is 40 deep;
+- options: one command with 10,000 options, each with a long name, a help text and one value.
 
-Wide and deep stand for 100, 1,000 and 10,000 commands. A command has a name of six letters and
-digits, so that no tree has longer names than another, an about of some forty characters, and no
-arguments or aliases. Each disables the help flag and the help child: the child `help` copies the
-whole tree below it, and there would be twice as many commands and more. So a script has one table
-(in bash one arm, in zsh one block) for each command of the count, or one row (arm, line) for each
-option; a fish script has one record for each option, or for each command below the program. That is
-checked. The files have no blanks between their tokens.
+Wide and deep trees have 100, 1,000 and 10,000 commands. A command has a name of six letters and
+digits, a description of some forty characters, and no arguments or aliases. Its help flag and help
+subcommand are disabled, because the subcommand `help` copies the whole tree below it. So a script has
+one table for each command, or one row for each option, and the script checks their number. In a fish
+script each command and each option is one record. The files have no spaces between their tokens.
 
-Printed is, for each shell and tree: the best time of several runs (five times as many of the small
-trees), less the best of as many over a tree of one command, which take turns with them, as
-microseconds a command (an option), and as megabytes of the script a second; and the peak of the
-program's memory beside its limit. The time is the processor's, user and system, which depends less on
-what else the machine does: the program has one thread and waits for nothing. Timed runs write to
-/dev/null.
+It prints a line for each shell and tree:
 
-The limits, both of which have to be kept for the status 0:
+- the best time of several runs, minus the best of as many runs over a tree of one command. Both take
+  turns. The time is given as microseconds for each command or option, and as megabytes of the script
+  for each second;
+- the peak of the program's memory, and its limit.
 
-- time: from 1,000 to 10,000 commands of one shape, the time a command grows by no more than a third;
+The time is the processor's, user and system. It depends less on what else the machine does, and the
+program has one thread and waits for nothing. Timed runs write to /dev/null.
+
+The status is 0 if these limits hold:
+
+- time: from 1,000 to 10,000 commands of one shape, the time for each command grows by at most a third;
 - memory: the peak stays below ten times the size of the tree file plus 8 MB (8,000,000 bytes).
 
-With --instructions nothing is timed: for each shell, valgrind counts the instructions of one run over
-the wide trees of 1,000 and 10,000 commands, over the one of one command, over one command with 1,000
-options and over a chain of 39 commands (see `instructions_of`); bench/README.md says how to read them.
-Then it counts those of `complgen check` of the 10,000 options, which may take three times as many as
-reading them does in a run of `script`; else the status is 1.
+With --instructions, valgrind counts the instructions of one run for each shell: over the wide trees of
+1,000 and 10,000 commands, over one command, over one command with 1,000 options, and over a chain of
+39 commands. bench/README.md explains the columns. Then it counts `complgen check` of the 10,000
+options, which may take three times the instructions of reading them in a run of `script`.
 
-With --candidates valgrind counts the instructions of `complete`, without the build, in runs of
-`complgen candidates`: over 100, 1,000 and 10,000 children and options for a word with which none, one
-and all of their names begin; and after 10, 100 and 1,000 words. A child or an option that is not taken
-may cost 250 instructions, and among ten times as many no child, option or word more than a third
-above that; else the status is 1. Then it counts those of a run of `larder` that replies to a shell,
-beside those of `complgen candidates` over examples/larder.json, the tree of a larger tool.
+With --candidates, valgrind counts the instructions of `complete`, without the build, in runs of
+`complgen candidates`. The runs are over 100, 1,000 and 10,000 children and options, for a word that
+begins none, one and all of their names, and after 10, 100 and 1,000 words. A child or an option that
+is not offered may cost 250 instructions. Among ten times as many, a child, an option or a word may cost
+at most a third more. Then it counts a run of `larder` that replies to a shell, and a run of `complgen
+candidates` for the same words over examples/larder.json.
 
-Linux only: the peak is asked of the system (see `peak_memory`).
+It runs on Linux only, because it gets the memory peak from the system (see `peak_memory`).
 """
 
 import argparse
@@ -59,8 +55,9 @@ import subprocess
 import sys
 import tempfile
 
-TOP = os.path.dirname(os.path.dirname(os.path.realpath(__file__)))
-SHELLS = "bash,elvish,fish,nushell,powershell,zsh"
+sys.path.append(os.path.join(os.path.dirname(os.path.realpath(__file__)), "..", "tools"))
+import common
+
 COUNTS = (100, 1000, 10000)
 OPTIONS = 10000
 DEPTH = 40
@@ -72,13 +69,14 @@ PR_SET_CHILD_SUBREAPER = 36
 
 def main():
     options = arguments()
-    program = options.program or built_program()
+    program = common.program("complgen")
     shells = options.shells.split(",")
     if options.instructions:
         return counted(program, shells)
     if options.candidates:
+        larder = common.program("larder")
         status = counted_candidates(program)
-        counted_reply(program, options.larder)
+        counted_reply(program, larder)
         return status
     adopt_orphans()
     kept = True
@@ -95,23 +93,14 @@ def main():
 
 
 def arguments():
-    parser = argparse.ArgumentParser(description="Times complgen over large trees.")
-    parser.add_argument("--program", help="the executable, in place of the one that ./complgen builds")
-    parser.add_argument("--shells", default=SHELLS, help="names joined by commas")
+    parser = argparse.ArgumentParser(usage=common.usage(__doc__))
+    parser.add_argument("--shells", default=",".join(common.SHELLS), help="names joined by commas")
     parser.add_argument("--instructions", action="store_true", help="count instructions, time nothing")
     parser.add_argument(
         "--candidates", action="store_true", help="count instructions of live completion"
     )
-    larder = os.path.join(TOP, "crates", "larder", "out", "larder")
-    parser.add_argument("--larder", default=larder, help="the program that replies")
     parser.add_argument("--runs", type=int, default=20, help="runs of which the best counts")
     return parser.parse_args()
-
-
-def built_program():
-    """The executable, which ./complgen builds where it is missing or older than its sources."""
-    subprocess.run([os.path.join(TOP, "complgen"), "--prove"], check=True)
-    return os.path.join(TOP, "crates", "complgen", "out", "complgen")
 
 
 # Trees.
@@ -182,9 +171,9 @@ def write_tree(folder, name, tree):
 
 
 def adopt_orphans():
-    """Has a process whose parent ended become a child of this one."""
+    """Makes this process the parent of processes whose own parent ended."""
     if ctypes.CDLL(None).prctl(PR_SET_CHILD_SUBREAPER, 1, 0, 0, 0) != 0:
-        sys.exit("bench: the system doesn't hand over processes whose parent ended")
+        sys.exit("bench: the system does not adopt processes whose parent ended")
 
 
 def words(program, shell, tree):
@@ -192,7 +181,7 @@ def words(program, shell, tree):
 
 
 def ended_well(pid):
-    """Waits for a process, and returns what it used; ends the run where it failed."""
+    """Waits for a process, and returns what it used. Ends the script if the process failed."""
     _, status, usage = os.wait4(pid, 0)
     if os.waitstatus_to_exitcode(status) != 0:
         sys.exit("bench: the program refused a tree")
@@ -200,14 +189,14 @@ def ended_well(pid):
 
 
 def seconds_of(call):
-    """The processor time of a run, the system's work for it included."""
+    """Returns the processor time of a run, including the system's."""
     nothing = [(os.POSIX_SPAWN_OPEN, 1, os.devnull, os.O_WRONLY, 0)]
     usage = ended_well(os.posix_spawn(call[0], call, {}, file_actions=nothing))
     return usage.ru_utime + usage.ru_stime
 
 
 def best_seconds(call, call_of_one, runs):
-    """The shortest of several runs, less the shortest of as many over a tree of one command."""
+    """Returns the best of several runs, minus the best of as many runs over a tree of one command."""
     best = best_of_one = float("inf")
     for _ in range(runs):
         best_of_one = min(best_of_one, seconds_of(call_of_one))
@@ -216,11 +205,11 @@ def best_seconds(call, call_of_one, runs):
 
 
 def peak_memory(call, script):
-    """The peak of the program's memory in bytes, in a run that writes the script to this file.
+    """Returns the peak of the program's memory in bytes, in a run that writes the script to this file.
 
-    What the system tells of a process counts what its parent held when it made it, and an
-    interpreter of Python alone is above some limits. So a shell, which is small, makes the process
-    and ends; only then is the process let go, so that it is this one that learns how it ended.
+    The system's count for a process includes what its parent held at the start. Python alone is above some
+    limits. So a small shell starts the process and ends. The process waits for that at a gate, and then its
+    parent is this script, which learns how it ended.
     """
     start = 'script=$1; shift; exec 3<&0; { read go <&3; exec "$@" 3<&-; } >"$script" & echo $!'
     gate, key = os.pipe()
@@ -234,16 +223,16 @@ def peak_memory(call, script):
 
 
 def script_of(call, tree):
-    """The script of a tree, and the peak of memory that it took."""
+    """Returns the script of a tree, and its memory peak."""
     path = tree + ".script"
     peak = peak_memory(call, path)
     with open(path, "rb") as file:
         return file.read(), peak
 
 
-# What stands once for each command in a script, and once for each option: what begins an arm in
-# bash, a record in fish and a block or line in zsh, and what ends a block in Nushell, and a table and
-# a row in the others.
+# Texts that a script has once for each command, and once for each option: the beginning of an arm in
+# bash, of a record in fish and of a block or line in zsh, the end of a block in Nushell, and the ends
+# of a table and a row in the others.
 COMMAND_MARKS = {
     "bash": b'\n            opts="',
     "fish": b"\ncomplete -c app",
@@ -259,7 +248,7 @@ TABLE_END, ROW_END = b"\n        }", b"\n"
 
 
 def is_whole(shell, shape, count, script, script_of_one):
-    """Whether the script has all that stands for a command, or for an option."""
+    """Tells whether the script has all tables or rows, one for each command or option."""
     if shape == "options":
         mark, wanted = OPTION_MARKS.get(shell, ROW_END), count
     else:
@@ -268,7 +257,7 @@ def is_whole(shell, shape, count, script, script_of_one):
 
 
 def marks(mark, script):
-    """How often the mark stands in a script, at its very start too."""
+    """Counts the lines of a script that begin with the mark."""
     return (b"\n" + script).count(mark)
 
 
@@ -307,7 +296,7 @@ def print_line(shell, shape, count, seconds, length, size, peak):
 
 
 def judged_growth(shell, seconds_each):
-    """Prints how the time a command grows, and returns whether it stays in its limit."""
+    """Prints how the time for each command grows, and returns whether it keeps its limit."""
     kept = True
     for shape in ("wide", "deep"):
         growth = seconds_each[shape, 10000] / seconds_each[shape, 1000]
@@ -323,8 +312,8 @@ def judged_growth(shell, seconds_each):
 # Instructions.
 
 
-# What the symbols of the programs call the generator, the reading of a tree, `complete`,
-# `completes`, into which `try_complete` is inlined, and `build`.
+# Parts of the symbols of the generator, the reader of trees, `complete`, `completes`, into which
+# `try_complete` is inlined, and `build`.
 GENERATE = "ShellGenerator::generate"
 READ_TREE = "read_tree"
 COMPLETE = "completion::complete::<"
@@ -334,57 +323,20 @@ BUILD = "command::Command::build"
 BUILD_WITHIN = "command::build::build_under"
 
 
-def costs_of(call, folder, *functions):
-    """The instructions of a run, and of all calls of each function, with all that it calls.
-
-    The names come from the program's symbols; a function that is inlined counts for the one that it
-    is in.
-    """
-    profile = os.path.join(folder, "profile")
-    subprocess.run(
-        [
-            "valgrind", "--quiet", "--tool=callgrind", "--compress-strings=no", "--compress-pos=no",
-            f"--callgrind-out-file={profile}", *call,
-        ],
-        check=True, stdout=subprocess.DEVNULL,
-    )
-    with open(profile, encoding="utf-8", errors="replace") as file:
-        return read_profile(file, functions)
-
-
-def read_profile(lines, functions):
-    """The total of a profile, and what the calls of each function cost."""
-    total, costs, called = 0, dict.fromkeys(functions, 0), ""
-    for line in lines:
-        if line.startswith(("summary:", "totals:")):
-            total = int(line.split()[1])
-        elif line.startswith("cfn="):
-            called = line[4:].strip()
-        elif line.startswith("calls="):
-            inclusive = int(next(lines).split()[1])
-            for function in functions:
-                # A call of itself, which has a number after a `'`, is in the cost of the outer one.
-                if function in called and "'" not in called:
-                    costs[function] += inclusive
-    for function in functions:
-        if costs[function] == 0:
-            sys.exit(f"bench: the profile has no call of {function}")
-    return total, *costs.values()
-
-
-def instructions_of(call, folder):
-    """The instructions of a run, and of the generator in it."""
-    return costs_of(call, folder, GENERATE)
-
-
-# How many instructions a whole run may take over 1,000 wide commands and over 1,000 options, and how
-# many times those of 1,000 commands the run over 10,000 may take.
+# Limits of the instructions of a whole run over 1,000 wide commands and over 1,000 options, and of a
+# run over 10,000 commands in comparison with 1,000.
 MOST_WIDE = 60_000_000
 MOST_OPTIONS = 11_500_000
 MOST_TIMES = 10.5
 
-# How many times as many a check of 10,000 options may take as reading them.
+# The limit of a check of 10,000 options, in comparison with reading them.
 MOST_CHECK = 3
+
+
+def script_costs(program, shell, tree):
+    """Returns the instructions of writing a script, all and those of the generator."""
+    counted = common.callgrind(words(program, shell, tree), GENERATE)
+    return counted.total, counted.costs[0]
 
 
 def counted(program, shells):
@@ -395,11 +347,11 @@ def counted(program, shells):
         rows = write_tree(folder, "rows", with_options(1000))
         line = write_tree(folder, "line", chain(0, DEPTH - 1))
         for shell in shells:
-            whole, writing = instructions_of(words(program, shell, trees["wide", 1000]), folder)
-            many, _ = instructions_of(words(program, shell, trees["wide", 10000]), folder)
-            one, writing_one = instructions_of(words(program, shell, trees["one", 1]), folder)
-            options, writing_rows = instructions_of(words(program, shell, rows), folder)
-            deep_line, _ = instructions_of(words(program, shell, line), folder)
+            whole, writing = script_costs(program, shell, trees["wide", 1000])
+            many, _ = script_costs(program, shell, trees["wide", 10000])
+            one, writing_one = script_costs(program, shell, trees["one", 1])
+            options, writing_rows = script_costs(program, shell, rows)
+            deep_line, _ = script_costs(program, shell, line)
             kept &= whole <= MOST_WIDE and options <= MOST_OPTIONS and many <= MOST_TIMES * whole
             print(
                 f"{shell:<11}wide {whole:>11,}  times {many / whole:>5.2f}  options {options:>11,}  "
@@ -408,16 +360,16 @@ def counted(program, shells):
                 f"a row {(writing_rows - writing_one) // 1000:>6,}",
                 flush=True,
             )
-        kept &= counted_check(program, trees["options", OPTIONS], folder)
+        kept &= counted_check(program, trees["options", OPTIONS])
     print("all limits are kept" if kept else "a limit is not kept")
     return 0 if kept else 1
 
 
-def counted_check(program, tree, folder):
-    """Prints the instructions of a check beside those of reading the tree, and whether they keep the
+def counted_check(program, tree):
+    """Prints the instructions of a check and those of reading the tree. Returns whether they keep the
     limit."""
-    _, reading = costs_of(words(program, "elvish", tree), folder, READ_TREE)
-    (checking,) = costs_of([program, "check", tree], folder)
+    (reading,) = common.callgrind(words(program, "elvish", tree), READ_TREE).costs
+    checking = common.callgrind([program, "check", tree]).total
     print(
         f"check of {OPTIONS:,} options {checking:>11,}  reading {reading:>11,}  "
         f"times {checking / reading:>5.2f}, limit {MOST_CHECK}"
@@ -426,24 +378,27 @@ def counted_check(program, tree, folder):
 
 
 def completing(program, tree, words):
-    """The command line that asks for candidates for the last of the words."""
+    """Returns the command line that requests candidates for the last of the words."""
     return [program, "candidates", "--index", str(len(words) - 1), tree, "--", *words]
 
 
-# How much a child or an option may cost that is looked at and not taken, and how much more one may
-# cost among ten times as many.
+# Limits of the cost of a child or an option that is examined and not offered, and of its growth among
+# ten times as many.
 MOST_EACH = 250
 MOST_GROWTH = 4 / 3
 
 
 def counted_candidates(program):
-    """Prints what `complete` costs beside the build: in all, and less what it costs for the value of
-    an option, for which neither children nor options are looked at; and what further words cost."""
+    """Prints the costs of `complete` without the build, and returns whether they keep the limits.
+
+    The baseline is the cost for the value of an option, because then neither children nor options are
+    examined.
+    """
     with tempfile.TemporaryDirectory() as folder:
 
         def cost(tree, *words):
             call = completing(program, tree, ["app", *words])
-            _, completed, built = costs_of(call, folder, COMPLETE, BUILD_WITHIN)
+            completed, built = common.callgrind(call, COMPLETE, BUILD_WITHIN).costs
             return completed - built
 
         print("                     word                        in all      each   looking      each")
@@ -455,8 +410,10 @@ def counted_candidates(program):
 
 
 def counted_line(cost, tree, last, of):
-    """Prints the costs of so many words, the last of the options and a value in turn, before a value
-    of it, and whether they grow in proportion."""
+    """Prints the costs of many words before a value of an option, and returns whether they are linear.
+
+    The words are the last of the options and a value in turn.
+    """
     none = cost(tree, last, "zzz")
     each = []
     for count in (10, 100, 1000):
@@ -466,13 +423,12 @@ def counted_line(cost, tree, last, of):
     return judged_each(f"a word before, {of},", each, None)
 
 
-# Words with which none, one and all of the names begin.
+# Words that begin none, one and all of the names.
 WORDS = {"children": ("zzz", "c00050", ""), "options": ("--zzz", "--o00050", "--", "")}
 
 
 def counted_word(cost, folder, kind):
-    """Prints the costs for so many children or options and each word, and whether those that are
-    not taken keep the limits."""
+    """Prints the costs for each count and each word, and returns whether they keep the limits."""
     kept = []
     for word in WORDS[kind]:
         wholes, each = [], []
@@ -493,7 +449,7 @@ def counted_word(cost, folder, kind):
 
 
 def counted_tree(kind, count):
-    """A command with so many options, or with so many children and one option."""
+    """Returns a command with that many options, or with that many children and one option."""
     if kind == "options":
         return with_options(count)
     tree = wide(count)
@@ -502,7 +458,7 @@ def counted_tree(kind, count):
 
 
 def judged_each(what, each, most):
-    """Prints where what each costs is too much, or grows with the count, and returns whether not."""
+    """Prints if the cost of one is too high or grows with the count, and returns whether it does not."""
     kept = True
     if most is not None and max(each) > most:
         print(f"too much: {what} costs {max(each):.0f} instructions, and {most} are allowed")
@@ -514,24 +470,22 @@ def judged_each(what, each, most):
 
 
 def counted_reply(program, larder):
-    """Prints what a reply costs `larder`, of that the build, `complete` of the built command and the
-    rest of the call, which makes the command and writes the reply; and what the candidates for the
-    same words cost `complgen`, which reads the tree of a larger tool from a file."""
+    """Prints what a reply costs `larder`, and what the candidates for the same words cost `complgen`.
+
+    The reply has three parts: the build, `complete` of the built command, and the rest of the call, which
+    makes the command and writes the reply. `complgen` reads the tree of a larger tool from a file.
+    """
     words = ["larder", "in"]
-    with tempfile.TemporaryDirectory() as folder:
-        os.environ["COMPLETE"] = "fish"
-        replying = [larder, "--", *words]
-        whole, call = costs_of(replying, folder, COMPLETES)
-        build = costs_of(replying, folder, BUILD)[1]
-        completed = costs_of(replying, folder, COMPLETE)[1]
-        print(
-            f"larder replies:      {whole:>10,} in all, {call:,} completes: {build:,} build, "
-            f"{completed:,} complete, {call - build - completed:,} command and reply"
-        )
-        del os.environ["COMPLETE"]
-        tree = os.path.join(TOP, "examples", "larder.json")
-        whole, cost = costs_of(completing(program, tree, words), folder, COMPLETE)
-        print(f"complgen candidates: {whole:>10,} in all, {cost:,} complete")
+    replying, asked = [larder, "--", *words], {**os.environ, "COMPLETE": "fish"}
+    replied = common.callgrind(replying, COMPLETES, BUILD, COMPLETE, env=asked)
+    call, build, completed = replied.costs
+    print(
+        f"larder replies:      {replied.total:>10,} in all, {call:,} completes: {build:,} build, "
+        f"{completed:,} complete, {call - build - completed:,} command and reply"
+    )
+    tree = os.path.join(common.EXAMPLES, "larder.json")
+    counted = common.callgrind(completing(program, tree, words), COMPLETE)
+    print(f"complgen candidates: {counted.total:>10,} in all, {counted.costs[0]:,} complete")
 
 
 if __name__ == "__main__":

@@ -1,10 +1,10 @@
 #!/usr/bin/env python3
-"""Writes a tree file of a made program, always the same for the same numbers.
+"""Writes a generated tree file, always the same for the same numbers.
 
-    bench/made-tree COMMANDS OPTIONS FILE
+    bench/made_tree.py COMMANDS OPTIONS FILE
 
-The program is called `big`; each of its commands has as many options: flags, values of a list,
-paths and values of any text, most with helps.
+The program is called `big`. Each of its commands has OPTIONS options: flags, options with possible
+values, paths, and values of any text. All have help texts.
 """
 
 import json
@@ -31,7 +31,7 @@ def main():
 
 
 def name_of(number):
-    """A verb, then with each further word, then with a number."""
+    """Returns the name of a command: a verb, which later rounds join to a word, and then to a number."""
     verb, round_ = VERBS[number % len(VERBS)], number // len(VERBS)
     if round_ == 0:
         return verb
@@ -76,4 +76,5 @@ def argument(chance, id_, longs, shorts):
     return made
 
 
-main()
+if __name__ == "__main__":
+    main()

@@ -1,51 +1,52 @@
 #!/usr/bin/env python3
-"""Lays what `complgen check` says of changed tree files beside what `complgen script` does, and its
-places beside those of a locator of its own.
+"""Compares `complgen check` with `complgen script` over changed tree files.
 
-    bench/check [--seed N] [--runs N] [--program FILE]
+    tests/check.py [--seed N] [--runs N]
 
-The files are those of examples/, each changed at random: a key misspelt, doubled or taken out, a
-value of another kind, a number out of range, a name that is not plain, bytes cut out; and laid out
-at random. For each file:
+The files are those of examples/ with random changes: a key misspelt, doubled or taken out, a value of
+another kind, a number out of range, a name that is not plain, bytes cut out. Their layout is random
+too. For each file:
 
-- `check` prints an error exactly where `script` says `tree: not JSON` or `tree: bad form`;
-- its status is 1 where it prints an error or a warning, and else 0; it prints nothing else;
-- of each line with a path, line and column are where this script finds the value at that path, or
-  the key, where the text is about a key;
-- where it prints neither an error nor a warning, the scripts of all shells are written.
+- `check` prints an error exactly if `script` prints `tree: not JSON` or `tree: bad form`;
+- the status of `check` is 1 if it prints an error or a warning, and otherwise 0. It prints nothing else;
+- each line with a path has the line and column at which this script, with a locator of its own, finds
+  the value of that path, or the key if the text is about a key;
+- if `check` prints neither an error nor a warning, `script` writes the scripts of all shells.
 
-Printed is each file for which that does not hold, with the lines, and at the end how many files had
-errors, warnings and nothing. The status is 0 where all holds, else 1.
+The script prints each file for which this does not hold, with the lines. Then it prints how many files
+had errors, warnings and nothing. The status is 0 if all of it holds.
 """
 
 import argparse
 import collections
 import concurrent.futures
-import glob
 import json
 import os
+import pathlib
 import random
 import re
 import subprocess
 import sys
 import tempfile
 
-TOP = os.path.dirname(os.path.dirname(os.path.realpath(__file__)))
-SHELLS = ["bash", "elvish", "fish", "nushell", "powershell", "zsh"]
+sys.path.append(os.path.join(os.path.dirname(os.path.realpath(__file__)), "..", "tools"))
+import common
+
 LINE = re.compile(r"(\d+):(\d+): (error|warning|note): (the file|[^ ]+): (.*)")
 STEP = re.compile(r"([^.\[\]]+)|\[(\d+)\]")
-ABOUT_KEY = re.compile(r"an? [a-z ]+ has no key `|the key `.*` stands twice")
+ABOUT_KEY = re.compile(r"an? [a-z ]+ has no key `|the key `.*` stands twice|duplicate key `")
 BLANK = " \t\r\n"
 
-# A value in a text: where it begins, and what it holds.
+# A value in a text: its beginning and its contents.
 Value = collections.namedtuple("Value", "at inside")
-# A member of an object: where the key begins, the key and the value.
+# A member of an object: the beginning of its key, the key and the value.
 Member = collections.namedtuple("Member", "at key value")
 
 
 def main():
     options = arguments()
-    trees = [open(name, encoding="utf-8").read() for name in sorted(glob.glob(f"{TOP}/examples/*.json"))]
+    program = common.program("complgen")
+    trees = [pathlib.Path(path).read_text(encoding="utf-8") for path in common.example_trees()]
     totals, wrong = collections.Counter(), 0
     with tempfile.TemporaryDirectory() as folder:
 
@@ -54,7 +55,7 @@ def main():
             path = os.path.join(folder, f"{number}.json")
             with open(path, "wb") as file:
                 file.write(text)
-            return number, judged(options.program, path, text)
+            return number, judged(program, path, text)
 
         with concurrent.futures.ThreadPoolExecutor(os.cpu_count()) as pool:
             for number, (kind, faults) in pool.map(attempt, range(options.runs)):
@@ -67,11 +68,9 @@ def main():
 
 
 def arguments():
-    parser = argparse.ArgumentParser(usage=__doc__.split("\n")[3].strip())
+    parser = argparse.ArgumentParser(usage=common.usage(__doc__))
     parser.add_argument("--seed", type=int, default=1)
     parser.add_argument("--runs", type=int, default=400)
-    default = os.path.join(TOP, "crates", "complgen", "out", "complgen")
-    parser.add_argument("--program", default=default, type=os.path.realpath)
     return parser.parse_args()
 
 
@@ -80,7 +79,7 @@ def run(program, *words):
 
 
 def judged(program, path, text):
-    """The highest level that is printed, and what does not hold."""
+    """Returns the highest level of the findings, and what does not hold."""
     done = run(program, "check", "--bin", "app", path)
     written = done.stdout.decode()
     lines = [LINE.fullmatch(line) for line in written.splitlines()]
@@ -91,7 +90,7 @@ def judged(program, path, text):
     faults = []
     if done.returncode != int(kind in ("error", "warning")):
         faults.append(f"status {done.returncode} at {kind}")
-    scripts = [run(program, "script", "--shell", shell, "--bin", "app", path) for shell in SHELLS]
+    scripts = [run(program, "script", "--shell", shell, "--bin", "app", path) for shell in common.SHELLS]
     is_taken = not any(script.stderr.startswith(b"tree: ") for script in scripts)
     if is_taken == (kind == "error"):
         faults.append(f"check finds {kind}, and script ends with {scripts[0].stderr!r}")
@@ -102,7 +101,7 @@ def judged(program, path, text):
 
 
 def misplaced(text, lines):
-    """The lines whose place is another than that of their path, with that place."""
+    """Yields the lines with a wrong place, each with the right one."""
     try:
         text = text.decode()
         whole = located(text)
@@ -120,8 +119,11 @@ def misplaced(text, lines):
 
 
 def place_of(value, steps, at_key, text):
-    """Where the value of a path begins, or the key of its last step; of several members of a key the
-    last counts, and where keys stand twice or are unknown, which one is meant stays open: `None`."""
+    """Returns where the value of a path begins, or the key of its last step.
+
+    If an object has a key several times, the last value counts. If the line is about such a key, or about
+    an unknown one, it does not tell which is meant. Then the result is `None`.
+    """
     at = value.at
     for left, (key, index) in zip(range(len(steps) - 1, -1, -1), steps):
         if index:
@@ -140,7 +142,7 @@ def place_of(value, steps, at_key, text):
 
 
 def located(text):
-    """The values in a JSON text with their places."""
+    """Returns the values in a JSON text with their places."""
     value, at = value_at(text, skipped(text, 0))
     if skipped(text, at) != len(text):
         raise ValueError
@@ -154,7 +156,7 @@ def skipped(text, at):
 
 
 def value_at(text, at):
-    """The value that begins here, and where it ends."""
+    """Returns the value that begins here, and where it ends."""
     if text[at] == "{":
         return items_at(text, at, "}", member_at)
     if text[at] == "[":
@@ -187,7 +189,7 @@ def items_at(text, begin, close, item_at):
 
 
 def changed(chance, trees):
-    """A tree file with some changes, as bytes."""
+    """Returns a tree file with random changes, as bytes."""
     tree = json.loads(chance.choice(trees))
     for _ in range(chance.randrange(4)):
         chance.choice([misspelt, taken_out, exchanged, odd_name])(chance, tree)
@@ -204,7 +206,7 @@ def changed(chance, trees):
 
 
 def objects(value):
-    """All objects in a value."""
+    """Yields all objects in a value."""
     if isinstance(value, dict):
         yield value
     for item in value.values() if isinstance(value, dict) else value if isinstance(value, list) else ():
@@ -240,4 +242,5 @@ def odd_name(chance, tree):
     found[key] = [value] if key in ("value_names", "aliases") else value
 
 
-sys.exit(main())
+if __name__ == "__main__":
+    sys.exit(main())

@@ -1,0 +1,102 @@
+//! Runs the subcommands `script` and `check` of `complgen` for `./complgen`, which compiles this
+//! program without a proof. So this program uses few crates, and no live completion.
+//!
+//! The first word is the directory of the caller, where a relative path of a tree file begins. The
+//! other words are those of `complgen`.
+#![tactic(auto)]
+
+use cc_base::Counted;
+use complgen_check::check;
+use complgen_command_line::{Plan, Refusal, ToolPlan, names_tool, plan, plan_tool};
+use complgen_commands::script;
+use std::alloc::AllocError;
+use std::convert::AsStr;
+use std::env::{self, Env};
+use std::process::ExitCode;
+use std::rt::Files;
+use std::{fs, io};
+
+const NOT_UTF8: &str = "words: not UTF-8\n";
+
+const NEEDS_PROOF: &str =
+    "complgen: without a proof only `script` and `check` run: call `./complgen --prove` first\n";
+
+fn main(rt: HostRuntime) -> ExitCode {
+    match carry_out(&rt) {
+        Ok(status) => ExitCode::from(status),
+        Err(refusal) => ExitCode::from(report(&rt, &refusal)),
+    }
+}
+
+// Carries out the words, and returns the exit status.
+fn carry_out<R: Env + Files + Print + AllocGlobal>(rt: &R) -> Result<u8, Refusal> {
+    let Ok(words) = env::args(rt) else {
+        return Err(Refusal::from_static(2, NOT_UTF8));
+    };
+    let words: Vec<String> = words.collect(rt.alloc())?;
+    // In the place of the directory `plan` and `plan_tool` expect the name of the program.
+    match words.as_slice() {
+        [_, words @ ..] if names_tool(words) => print_findings(rt, words),
+        [_, words @ ..] => print_script(rt, words),
+        [] => Err(Refusal::from_static(2, NEEDS_PROOF)),
+    }
+}
+
+// Prints the script that the words request.
+fn print_script<R: Files + Print + AllocGlobal>(rt: &R, words: &[String]) -> Result<u8, Refusal> {
+    match plan(rt.alloc(), words)? {
+        Plan::Script(shell, bin, tree) => {
+            let file = contents(rt, words, tree.as_str())?;
+            let file = file.as_ref().map(Vec::as_slice);
+            let mut out = Counted::new(io::writer(rt));
+            script(rt.alloc(), shell.as_str(), bin.as_str(), file, &mut out)?;
+            Ok(0)
+        }
+        _ => Err(Refusal::from_static(1, NEEDS_PROOF)),
+    }
+}
+
+// Prints the findings about the tree file that the words name. The status is 1 if one of them is an
+// error or a warning.
+fn print_findings<R: Files + Print + AllocGlobal>(rt: &R, words: &[String]) -> Result<u8, Refusal> {
+    match plan_tool(rt.alloc(), words)? {
+        ToolPlan::Check(bin, tree) => {
+            let file = contents(rt, words, tree.as_str())?;
+            let file = file.as_ref().map(Vec::as_slice);
+            let bin = bin.as_ref().map(|bin| bin.as_str());
+            let mut out = Counted::new(io::writer(rt));
+            let is_clean = check(rt.alloc(), bin, file, &mut out)?;
+            Ok(u8::from(!is_clean))
+        }
+        _ => Err(Refusal::from_static(1, NEEDS_PROOF)),
+    }
+}
+
+// The bytes of the file at a path from the directory that the first word names, or `None` if the
+// file cannot be read.
+fn contents<R: Files + AllocGlobal>(
+    rt: &R,
+    words: &[String],
+    path: &str,
+) -> Result<Option<Vec<u8>>, AllocError> {
+    let mut whole = String::new(rt.alloc());
+    match words {
+        [folder, ..] if !path.starts_with('/') => {
+            whole.push_str(folder.as_str())?;
+            whole.push_str("/")?;
+        }
+        _ => {}
+    }
+    whole.push_str(path)?;
+    Ok(fs::read(rt, whole.as_str()).ok())
+}
+
+// Prints the text of a refusal, and returns the exit status.
+fn report<R: Print + Eprint>(rt: &R, refusal: &Refusal) -> u8 {
+    let text = refusal.text.as_str();
+    let _ = match refusal.status {
+        0 => rt.print(text),
+        _ => rt.eprint(text),
+    };
+    refusal.status
+}
