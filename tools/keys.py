@@ -1,8 +1,8 @@
 #!/usr/bin/env python3
 """Writes from docs/tree.schema.json what repeats the keys of a tree file, and checks who has the keys.
 
-    tools/keys --write    writes the tables and the definitions between their markers
-    tools/keys --check    compares, and changes nothing
+    tools/keys.py --write    writes the tables and the definitions between their markers
+    tools/keys.py --check    compares, and changes nothing
 
 From the schema come:
 
@@ -79,10 +79,10 @@ def main():
 
 def generated(schema):
     """What is written into each file: the line before it, its text, and the line after it."""
-    parts = {PAGE: [(f"<!-- the keys of {kind}: tools/keys --write makes this table from tree.schema.json -->",
+    parts = {PAGE: [(f"<!-- the keys of {kind}: tools/keys.py --write makes this table from tree.schema.json -->",
                      table(schema, kind), "<!-- end of the table -->") for kind in FUNCTIONS]}
     for kind, name in DEFINITIONS.items():
-        parts[name] = [("  -- the keys: tools/keys --write makes these lines from docs/tree.schema.json",
+        parts[name] = [("  -- the keys: tools/keys.py --write makes these lines from docs/tree.schema.json",
                         fields(schema, kind), "-- end of the keys")]
     return parts
 

@@ -14,7 +14,7 @@ new_arg id = record {
   id = id;
   completer = None;
   candidates = None;
-  -- the keys: tools/keys --write makes these lines from docs/tree.schema.json
+  -- the keys: tools/keys.py --write makes these lines from docs/tree.schema.json
   short = None;
   long = None;
   visible_short_aliases = [];

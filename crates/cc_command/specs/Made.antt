@@ -13,7 +13,7 @@ new_node name = record {
   candidates = None;
   generated = false;
   built = false;
-  -- the keys: tools/keys --write makes these lines from docs/tree.schema.json
+  -- the keys: tools/keys.py --write makes these lines from docs/tree.schema.json
   bin_name = None;
   about = None;
   version = None;
