@@ -1,5 +1,5 @@
 //! Runs the subcommands `script` and `check` of `complgen` for `./complgen`, which compiles this
-//! program without a proof. So this program uses few crates, and no live completion.
+//! program without a proof.
 //!
 //! The first word is the directory of the caller, where a relative path of a tree file begins. The
 //! other words are those of `complgen`.
