@@ -63,7 +63,7 @@ def listed():
 
 def keys():
     """Returns the call that checks the generated tables of keys, if the repository has that tool."""
-    for name in ("tools/keys.py", "tools/keys"):
+    for name in ("tools/keys.py", "tools/keys.py"):
         if os.path.exists(os.path.join(common.TOP, name)):
             return [[name, "--check"]]
     return []

@@ -12,32 +12,34 @@ use Rattle.cc_arg.specs.Action.{action_takes_values}
 abbrev pub new_arg : List ℕ → Arg
 new_arg id = record {
   id = id;
+  completer = None;
+  candidates = None;
+  -- the keys: tools/keys.py --write makes these lines from docs/tree.schema.json
   short = None;
-  short_aliases = [];
-  visible_short_aliases = [];
   long = None;
-  aliases = [];
+  visible_short_aliases = [];
   visible_aliases = [];
+  short_aliases = [];
+  aliases = [];
   help = None;
+  help_heading = None;
   action = None;
   num_args = None;
   value_names = [];
+  value_delimiter = None;
+  value_terminator = None;
   possible_values = None;
   value_hint = Unknown;
-  value_terminator = None;
   default_value = None;
-  help_heading = None;
-  value_delimiter = None;
-  completer = None;
-  candidates = None;
-  index = None;
-  display_order = None;
   conflicts = [];
   required = false;
   last = false;
   global = false;
-  hide = false;
+  index = None;
   allow_hyphen_values = false;
+  display_order = None;
+  hide = false;
+  -- end of the keys
 }
 
 -- a positional has neither a short nor a long

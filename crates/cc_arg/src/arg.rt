@@ -56,6 +56,13 @@ impl Arg {
         Arg::from(ArgParts::new(alloc, Text::from(id)))
     }
 
+    /// Returns the id.
+    pub fn get_id(&self) -> &str
+        ensures { result.now ≡ self.now.id }
+    {
+        self.parts.id.as_str()
+    }
+
     /// Sets the short: the `c` of `-c`.
     pub fn short(mut self, short: char) -> Arg
         ensures { result ≡ record self { short = Some short } }
@@ -64,26 +71,11 @@ impl Arg {
         self
     }
 
-    /// Sets the long: the `name` of `--name`.
-    pub fn long(mut self, long: String) -> Arg
-        ensures { result ≡ record self { long = Some (string_bytes long) } }
+    /// Returns the short.
+    pub fn get_short(&self) -> Option<char>
+        ensures { result ≡ self.now.short }
     {
-        self.parts.long = Some(Text::from(long));
-        self
-    }
-
-    /// Adds a hidden alias of the short: a parser accepts it, but it is not shown.
-    ///
-    /// # Errors
-    ///
-    /// `Memory` if an allocation fails.
-    pub fn short_alias(mut self, alias: char) -> Result<Arg, Error>
-        ensures ok { IfOk result (λ arg.
-            arg ≡ record self { short_aliases = self.short_aliases ++ alias ∷ [] }) }
-        ensures memory { IfErr result (λ error. error ≡ Error.Memory) }
-    {
-        let added = self.parts.short_aliases.push(alias);
-        Ok(added.map(|()| self)?)
+        self.parts.short
     }
 
     /// Adds a visible alias of the short.
@@ -100,18 +92,58 @@ impl Arg {
         Ok(added.map(|()| self)?)
     }
 
-    /// Adds a hidden alias of the long: a parser accepts it, but it is not shown.
+    /// Returns the visible aliases of the short.
+    pub fn get_visible_short_aliases(&self) -> &[char]
+        ensures { result.now ≡ self.now.visible_short_aliases }
+    {
+        self.parts.visible_short_aliases.as_slice()
+    }
+
+    /// Returns an iterator over the short, then its visible aliases, or `None` if there is no
+    /// short.
+    pub fn get_short_and_visible_aliases(&self) -> Option<ShortAndVisibleAliases<'_>>
+        ensures { option_map shorts_left result
+            ≡ option_map (λ short. short ∷ self.now.visible_short_aliases) self.now.short }
+    {
+        let short = self.parts.short?;
+        let aliases = self.parts.visible_short_aliases.as_slice();
+        Some(ShortAndVisibleAliases::new(short, aliases))
+    }
+
+    /// Adds a hidden alias of the short: a parser accepts it, but it is not shown.
     ///
     /// # Errors
     ///
     /// `Memory` if an allocation fails.
-    pub fn alias(mut self, alias: String) -> Result<Arg, Error>
+    pub fn short_alias(mut self, alias: char) -> Result<Arg, Error>
         ensures ok { IfOk result (λ arg.
-            arg ≡ record self { aliases = self.aliases ++ string_bytes alias ∷ [] }) }
+            arg ≡ record self { short_aliases = self.short_aliases ++ alias ∷ [] }) }
         ensures memory { IfErr result (λ error. error ≡ Error.Memory) }
     {
-        let added = self.parts.aliases.push(Text::from(alias));
+        let added = self.parts.short_aliases.push(alias);
         Ok(added.map(|()| self)?)
+    }
+
+    /// Returns the hidden aliases of the short, which a parser accepts.
+    pub fn get_short_aliases(&self) -> &[char]
+        ensures { result.now ≡ self.now.short_aliases }
+    {
+        self.parts.short_aliases.as_slice()
+    }
+
+    /// Sets the long: the `name` of `--name`.
+    pub fn long(mut self, long: String) -> Arg
+        ensures { result ≡ record self { long = Some (string_bytes long) } }
+    {
+        self.parts.long = Some(Text::from(long));
+        self
+    }
+
+    /// Returns the long.
+    pub fn get_long(&self) -> Option<&str>
+        ensures { option_copied result ≡ self.now.long }
+    {
+        text_of(&self.parts.long)
     }
 
     /// Adds a visible alias of the long.
@@ -128,12 +160,72 @@ impl Arg {
         Ok(added.map(|()| self)?)
     }
 
+    /// Returns the visible aliases of the long.
+    pub fn get_visible_aliases(&self) -> &[Text]
+        ensures { result.now ≡ self.now.visible_aliases }
+    {
+        self.parts.visible_aliases.as_slice()
+    }
+
+    /// Returns an iterator over the long, then its visible aliases, or `None` if there is no long.
+    pub fn get_long_and_visible_aliases(&self) -> Option<LongAndVisibleAliases<'_>>
+        ensures { option_map longs_left result
+            ≡ option_map (λ long. long ∷ self.now.visible_aliases) self.now.long }
+    {
+        let long = self.get_long()?;
+        let aliases = self.parts.visible_aliases.as_slice();
+        Some(LongAndVisibleAliases::new(long, aliases))
+    }
+
+    /// Adds a hidden alias of the long: a parser accepts it, but it is not shown.
+    ///
+    /// # Errors
+    ///
+    /// `Memory` if an allocation fails.
+    pub fn alias(mut self, alias: String) -> Result<Arg, Error>
+        ensures ok { IfOk result (λ arg.
+            arg ≡ record self { aliases = self.aliases ++ string_bytes alias ∷ [] }) }
+        ensures memory { IfErr result (λ error. error ≡ Error.Memory) }
+    {
+        let added = self.parts.aliases.push(Text::from(alias));
+        Ok(added.map(|()| self)?)
+    }
+
+    /// Returns the hidden aliases of the long, which a parser accepts.
+    pub fn get_aliases(&self) -> &[Text]
+        ensures { result.now ≡ self.now.aliases }
+    {
+        self.parts.aliases.as_slice()
+    }
+
     /// Sets the help text.
     pub fn help(mut self, help: String) -> Arg
         ensures { result ≡ record self { help = Some (string_bytes help) } }
     {
         self.parts.help = Some(Text::from(help));
         self
+    }
+
+    /// Returns the help text.
+    pub fn get_help(&self) -> Option<&str>
+        ensures { option_copied result ≡ self.now.help }
+    {
+        text_of(&self.parts.help)
+    }
+
+    /// Sets the help heading, with which live completion tags the candidates of this argument.
+    pub fn help_heading(mut self, heading: String) -> Arg
+        ensures { result ≡ record self { help_heading = Some (string_bytes heading) } }
+    {
+        self.parts.help_heading = Some(Text::from(heading));
+        self
+    }
+
+    /// Returns the help heading.
+    pub fn get_help_heading(&self) -> Option<&str>
+        ensures { option_copied result ≡ self.now.help_heading }
+    {
+        text_of(&self.parts.help_heading)
     }
 
     /// Sets the action.
@@ -144,12 +236,26 @@ impl Arg {
         self
     }
 
+    /// Returns the action, or `Set` if none is set.
+    pub fn get_action(&self) -> ArgAction
+        ensures { result ≡ unwrap_or self.now.action ArgAction.Set }
+    {
+        self.parts.action.unwrap_or(ArgAction::Set)
+    }
+
     /// Sets how many values each use takes.
     pub fn num_args(mut self, range: ValueRange) -> Arg
         ensures { result ≡ record self { num_args = Some range } }
     {
         self.parts.num_args = Some(range);
         self
+    }
+
+    /// Returns how many values each use takes, if that was set or the command is built.
+    pub fn get_num_args(&self) -> Option<ValueRange>
+        ensures { result ≡ self.now.num_args }
+    {
+        self.parts.num_args
     }
 
     /// Adds the name of a further value, under which it is shown.
@@ -164,6 +270,28 @@ impl Arg {
     {
         let added = self.parts.value_names.push(Text::from(name));
         Ok(added.map(|()| self)?)
+    }
+
+    /// Returns the names of the values.
+    pub fn get_value_names(&self) -> &[Text]
+        ensures { result.now ≡ self.now.value_names }
+    {
+        self.parts.value_names.as_slice()
+    }
+
+    /// Sets the character that separates several values in one word.
+    pub fn value_delimiter(mut self, delimiter: char) -> Arg
+        ensures { result ≡ record self { value_delimiter = Some delimiter } }
+    {
+        self.parts.value_delimiter = Some(delimiter);
+        self
+    }
+
+    /// Returns the character that separates several values in one word.
+    pub fn get_value_delimiter(&self) -> Option<char>
+        ensures { result ≡ self.now.value_delimiter }
+    {
+        self.parts.value_delimiter
     }
 
     /// Sets the possible values.
@@ -182,12 +310,11 @@ impl Arg {
         self
     }
 
-    /// Sets the word that ends the values.
-    pub fn value_terminator(mut self, terminator: String) -> Arg
-        ensures { result ≡ record self { value_terminator = Some (string_bytes terminator) } }
+    /// Returns the value hint.
+    pub fn get_value_hint(&self) -> ValueHint
+        ensures { result ≡ self.now.value_hint }
     {
-        self.parts.value_terminator = Some(Text::from(terminator));
-        self
+        self.parts.value_hint
     }
 
     /// Sets the value that a parser uses if the argument is not given. Scripts and candidates do
@@ -199,12 +326,26 @@ impl Arg {
         self
     }
 
-    /// Sets the index of a positional, counted from 1. Building the command keeps it.
-    pub fn index(mut self, index: usize) -> Arg
-        ensures { result ≡ record self { index = Some index } }
+    /// Returns the value that a parser uses if the argument is not given.
+    pub fn get_default_value(&self) -> Option<&str>
+        ensures { option_copied result ≡ self.now.default_value }
     {
-        self.parts.index = Some(index);
+        text_of(&self.parts.default_value)
+    }
+
+    /// Sets the word that ends the values.
+    pub fn value_terminator(mut self, terminator: String) -> Arg
+        ensures { result ≡ record self { value_terminator = Some (string_bytes terminator) } }
+    {
+        self.parts.value_terminator = Some(Text::from(terminator));
         self
+    }
+
+    /// Returns the word that ends the values.
+    pub fn get_value_terminator(&self) -> Option<&str>
+        ensures { option_copied result ≡ self.now.value_terminator }
+    {
+        text_of(&self.parts.value_terminator)
     }
 
     /// Adds the id of an argument that cannot be given together with this one.
@@ -221,44 +362,19 @@ impl Arg {
         Ok(added.map(|()| self)?)
     }
 
-    /// Sets whether the argument must be given.
-    pub fn required(mut self, required: bool) -> Arg
-        ensures { result ≡ record self { required = required } }
+    /// Sets the index of a positional, counted from 1. Building the command keeps it.
+    pub fn index(mut self, index: usize) -> Arg
+        ensures { result ≡ record self { index = Some index } }
     {
-        self.parts.required = required;
+        self.parts.index = Some(index);
         self
     }
 
-    /// Sets whether the argument can be given only after `--`.
-    pub fn last(mut self, last: bool) -> Arg
-        ensures { result ≡ record self { last = last } }
+    /// Returns the index of a positional, counted from 1, if it was set or the command is built.
+    pub fn get_index(&self) -> Option<usize>
+        ensures { result ≡ self.now.index }
     {
-        self.parts.last = last;
-        self
-    }
-
-    /// Sets whether building the command also adds the argument to the commands below it.
-    pub fn global(mut self, global: bool) -> Arg
-        ensures { result ≡ record self { global = global } }
-    {
-        self.parts.global = global;
-        self
-    }
-
-    /// Sets the help heading, with which live completion tags the candidates of this argument.
-    pub fn help_heading(mut self, heading: String) -> Arg
-        ensures { result ≡ record self { help_heading = Some (string_bytes heading) } }
-    {
-        self.parts.help_heading = Some(Text::from(heading));
-        self
-    }
-
-    /// Sets the character that separates several values in one word.
-    pub fn value_delimiter(mut self, delimiter: char) -> Arg
-        ensures { result ≡ record self { value_delimiter = Some delimiter } }
-    {
-        self.parts.value_delimiter = Some(delimiter);
-        self
+        self.parts.index
     }
 
     /// Sets the display order, which sorts the candidates of live completion.
@@ -269,30 +385,56 @@ impl Arg {
         self
     }
 
-    /// Sets whether words that begin with `-` are accepted as values.
-    pub fn allow_hyphen_values(mut self, allow: bool) -> Arg
-        ensures { result ≡ record self { allow_hyphen_values = allow } }
+    /// Returns the display order, or 999 if none is set.
+    pub fn get_display_order(&self) -> usize
+        ensures { result ≡ unwrap_or self.now.display_order 999 }
     {
-        self.parts.allow_hyphen_values = allow;
+        self.parts.display_order.unwrap_or(999)
+    }
+
+    /// Sets whether the argument must be given.
+    pub fn required(mut self, required: bool) -> Arg
+        ensures { result ≡ record self { required = required } }
+    {
+        self.parts.required = required;
         self
     }
 
-    /// Sets the completer of the values, by its number. It takes precedence over a list of
-    /// candidates, the possible values and the value hint.
-    pub fn add(mut self, completer: ArgValueCompleter) -> Arg
-        ensures { result ≡ record self { completer = Some completer } }
+    /// Returns whether the argument must be given.
+    pub fn is_required_set(&self) -> bool
+        ensures { result ≡ self.now.required }
     {
-        self.parts.completer = Some(completer);
+        self.parts.required
+    }
+
+    /// Sets whether the argument can be given only after `--`.
+    pub fn last(mut self, last: bool) -> Arg
+        ensures { result ≡ record self { last = last } }
+    {
+        self.parts.last = last;
         self
     }
 
-    /// Sets the list of candidates for the values, by its number in `Completers`. It takes
-    /// precedence over the possible values and the value hint.
-    pub fn add_candidates(mut self, candidates: ArgValueCandidates) -> Arg
-        ensures { result ≡ record self { candidates = Some candidates } }
+    /// Returns whether the argument can be given only after `--`.
+    pub fn is_last_set(&self) -> bool
+        ensures { result ≡ self.now.last }
     {
-        self.parts.candidates = Some(candidates);
+        self.parts.last
+    }
+
+    /// Sets whether building the command also adds the argument to the commands below it.
+    pub fn global(mut self, global: bool) -> Arg
+        ensures { result ≡ record self { global = global } }
+    {
+        self.parts.global = global;
         self
+    }
+
+    /// Returns whether building the command also adds the argument to the commands below it.
+    pub fn is_global_set(&self) -> bool
+        ensures { result ≡ self.now.global }
+    {
+        self.parts.global
     }
 
     /// Sets whether the argument is hidden. Live completion offers a hidden argument only if no
@@ -304,137 +446,19 @@ impl Arg {
         self
     }
 
-    /// Returns the id.
-    pub fn get_id(&self) -> &str
-        ensures { result.now ≡ self.now.id }
+    /// Returns whether the argument is hidden.
+    pub fn is_hide_set(&self) -> bool
+        ensures { result ≡ self.now.hide }
     {
-        self.parts.id.as_str()
+        self.parts.hide
     }
 
-    /// Returns the short.
-    pub fn get_short(&self) -> Option<char>
-        ensures { result ≡ self.now.short }
+    /// Sets whether words that begin with `-` are accepted as values.
+    pub fn allow_hyphen_values(mut self, allow: bool) -> Arg
+        ensures { result ≡ record self { allow_hyphen_values = allow } }
     {
-        self.parts.short
-    }
-
-    /// Returns the visible aliases of the short.
-    pub fn get_visible_short_aliases(&self) -> &[char]
-        ensures { result.now ≡ self.now.visible_short_aliases }
-    {
-        self.parts.visible_short_aliases.as_slice()
-    }
-
-    /// Returns the hidden aliases of the short, which a parser accepts.
-    pub fn get_short_aliases(&self) -> &[char]
-        ensures { result.now ≡ self.now.short_aliases }
-    {
-        self.parts.short_aliases.as_slice()
-    }
-
-    /// Returns an iterator over the short, then its visible aliases, or `None` if there is no
-    /// short.
-    pub fn get_short_and_visible_aliases(&self) -> Option<ShortAndVisibleAliases<'_>>
-        ensures { option_map shorts_left result
-            ≡ option_map (λ short. short ∷ self.now.visible_short_aliases) self.now.short }
-    {
-        let short = self.parts.short?;
-        let aliases = self.parts.visible_short_aliases.as_slice();
-        Some(ShortAndVisibleAliases::new(short, aliases))
-    }
-
-    /// Returns the long.
-    pub fn get_long(&self) -> Option<&str>
-        ensures { option_copied result ≡ self.now.long }
-    {
-        text_of(&self.parts.long)
-    }
-
-    /// Returns the visible aliases of the long.
-    pub fn get_visible_aliases(&self) -> &[Text]
-        ensures { result.now ≡ self.now.visible_aliases }
-    {
-        self.parts.visible_aliases.as_slice()
-    }
-
-    /// Returns the hidden aliases of the long, which a parser accepts.
-    pub fn get_aliases(&self) -> &[Text]
-        ensures { result.now ≡ self.now.aliases }
-    {
-        self.parts.aliases.as_slice()
-    }
-
-    /// Returns an iterator over the long, then its visible aliases, or `None` if there is no long.
-    pub fn get_long_and_visible_aliases(&self) -> Option<LongAndVisibleAliases<'_>>
-        ensures { option_map longs_left result
-            ≡ option_map (λ long. long ∷ self.now.visible_aliases) self.now.long }
-    {
-        let long = self.get_long()?;
-        let aliases = self.parts.visible_aliases.as_slice();
-        Some(LongAndVisibleAliases::new(long, aliases))
-    }
-
-    /// Returns the help text.
-    pub fn get_help(&self) -> Option<&str>
-        ensures { option_copied result ≡ self.now.help }
-    {
-        text_of(&self.parts.help)
-    }
-
-    /// Returns the action, or `Set` if none is set.
-    pub fn get_action(&self) -> ArgAction
-        ensures { result ≡ unwrap_or self.now.action ArgAction.Set }
-    {
-        self.parts.action.unwrap_or(ArgAction::Set)
-    }
-
-    /// Returns how many values each use takes, if that was set or the command is built.
-    pub fn get_num_args(&self) -> Option<ValueRange>
-        ensures { result ≡ self.now.num_args }
-    {
-        self.parts.num_args
-    }
-
-    /// Returns the names of the values.
-    pub fn get_value_names(&self) -> &[Text]
-        ensures { result.now ≡ self.now.value_names }
-    {
-        self.parts.value_names.as_slice()
-    }
-
-    /// Returns the value hint.
-    pub fn get_value_hint(&self) -> ValueHint
-        ensures { result ≡ self.now.value_hint }
-    {
-        self.parts.value_hint
-    }
-
-    /// Returns the word that ends the values.
-    pub fn get_value_terminator(&self) -> Option<&str>
-        ensures { option_copied result ≡ self.now.value_terminator }
-    {
-        text_of(&self.parts.value_terminator)
-    }
-
-    /// Returns the value that a parser uses if the argument is not given.
-    pub fn get_default_value(&self) -> Option<&str>
-        ensures { option_copied result ≡ self.now.default_value }
-    {
-        text_of(&self.parts.default_value)
-    }
-
-    /// Returns the help heading.
-    pub fn get_help_heading(&self) -> Option<&str>
-        ensures { option_copied result ≡ self.now.help_heading }
-    {
-        text_of(&self.parts.help_heading)
-    }
-
-    /// Returns the character that separates several values in one word.
-    pub fn get_value_delimiter(&self) -> Option<char>
-        ensures { result ≡ self.now.value_delimiter }
-    {
-        self.parts.value_delimiter
+        self.parts.allow_hyphen_values = allow;
+        self
     }
 
     /// Returns whether words that begin with `-` are accepted as values.
@@ -444,6 +468,15 @@ impl Arg {
         self.parts.allow_hyphen_values
     }
 
+    /// Sets the completer of the values, by its number. It takes precedence over a list of
+    /// candidates, the possible values and the value hint.
+    pub fn add(mut self, completer: ArgValueCompleter) -> Arg
+        ensures { result ≡ record self { completer = Some completer } }
+    {
+        self.parts.completer = Some(completer);
+        self
+    }
+
     /// Returns the number of the completer of the values.
     pub fn get_completer(&self) -> Option<ArgValueCompleter>
         ensures { result ≡ self.now.completer }
@@ -451,53 +484,20 @@ impl Arg {
         self.parts.completer
     }
 
+    /// Sets the list of candidates for the values, by its number in `Completers`. It takes
+    /// precedence over the possible values and the value hint.
+    pub fn add_candidates(mut self, candidates: ArgValueCandidates) -> Arg
+        ensures { result ≡ record self { candidates = Some candidates } }
+    {
+        self.parts.candidates = Some(candidates);
+        self
+    }
+
     /// Returns the number of the list of candidates for the values.
     pub fn get_candidates(&self) -> Option<ArgValueCandidates>
         ensures { result ≡ self.now.candidates }
     {
         self.parts.candidates
-    }
-
-    /// Returns the index of a positional, counted from 1, if it was set or the command is built.
-    pub fn get_index(&self) -> Option<usize>
-        ensures { result ≡ self.now.index }
-    {
-        self.parts.index
-    }
-
-    /// Returns the display order, or 999 if none is set.
-    pub fn get_display_order(&self) -> usize
-        ensures { result ≡ unwrap_or self.now.display_order 999 }
-    {
-        self.parts.display_order.unwrap_or(999)
-    }
-
-    /// Returns whether the argument must be given.
-    pub fn is_required_set(&self) -> bool
-        ensures { result ≡ self.now.required }
-    {
-        self.parts.required
-    }
-
-    /// Returns whether the argument can be given only after `--`.
-    pub fn is_last_set(&self) -> bool
-        ensures { result ≡ self.now.last }
-    {
-        self.parts.last
-    }
-
-    /// Returns whether building the command also adds the argument to the commands below it.
-    pub fn is_global_set(&self) -> bool
-        ensures { result ≡ self.now.global }
-    {
-        self.parts.global
-    }
-
-    /// Returns whether the argument is hidden.
-    pub fn is_hide_set(&self) -> bool
-        ensures { result ≡ self.now.hide }
-    {
-        self.parts.hide
     }
 
     /// Returns whether the argument is a positional: it has neither a short nor a long.

@@ -1,6 +1,6 @@
 //! The fields of an argument.
 
-ghost use Rattle.std.specs.Prelude.{◌≡◌, IfOk};
+ghost use Rattle.std.specs.Prelude.{◌≡◌, IfOk, OnOk};
 ghost use Rattle.std.specs.Option.{option_copied};
 ghost use Rattle.cc_arg.specs.Arguments.{new_arg};
 
@@ -70,138 +70,105 @@ pub struct ArgParts {
     pub allow_hyphen_values: bool,
 }
 
+// One line for each field except the id: its kind. In a new argument, a field has the value `first!`
+// of its kind, and `copied!` copies it.
+macro_rules! each_field {
+    ($all:ident! $($with:ident),*) => {
+        $all! {
+            [$($with),*]
+            short given,
+            short_aliases characters,
+            visible_short_aliases characters,
+            long text,
+            aliases texts,
+            visible_aliases texts,
+            help text,
+            action given,
+            num_args given,
+            value_names texts,
+            possible_values values,
+            value_hint hint,
+            value_terminator text,
+            default_value text,
+            help_heading text,
+            value_delimiter given,
+            completer given,
+            candidates given,
+            index given,
+            display_order given,
+            conflicts texts,
+            required flag,
+            last flag,
+            global flag,
+            hide flag,
+            allow_hyphen_values flag,
+        }
+    };
+}
+
+// Makes an argument from its id.
+macro_rules! new_fields {
+    ([$alloc:ident, $id:ident] $($field:ident $kind:ident,)*) => {
+        ArgParts { id: $id, $($field: first!($kind $alloc)),* }
+    };
+}
+
+// Sets each field to a copy of that of another argument.
+macro_rules! copy_each {
+    ([$alloc:ident, $copy:ident, $of:ident] $($field:ident $kind:ident,)*) => {
+        $($copy.$field = copied!($kind $alloc $of $field);)*
+    };
+}
+
+macro_rules! first {
+    (characters $alloc:ident) => { Items::new($alloc) };
+    (flag $alloc:ident) => { false };
+    (hint $alloc:ident) => { ValueHint::Unknown };
+    (texts $alloc:ident) => { Items::new($alloc) };
+    ($kind:ident $alloc:ident) => { None };
+}
+
+macro_rules! copied {
+    (characters $alloc:ident $of:ident $field:ident) => {
+        Items::copy_of($alloc, $of.$field.as_slice())?
+    };
+    (text $alloc:ident $of:ident $field:ident) => {
+        Text::copy_of_some($alloc, text_of(&$of.$field))?
+    };
+    (texts $alloc:ident $of:ident $field:ident) => {
+        Items::copy_of_texts($alloc, $of.$field.as_slice())?
+    };
+    (values $alloc:ident $of:ident $field:ident) => {
+        copy_of_given($alloc, &$of.$field)?
+    };
+    ($kind:ident $alloc:ident $of:ident $field:ident) => { $of.$field };
+}
+
 impl ArgParts {
     /// Makes the fields of an argument with this id, in which nothing else is set. The lists
     /// allocate from `alloc`.
     pub fn new(alloc: Global, id: Text) -> ArgParts
         ensures { result ≡ new_arg id }
     {
-        ArgParts {
-            id,
-            short: None,
-            short_aliases: Items::new(alloc),
-            visible_short_aliases: Items::new(alloc),
-            long: None,
-            aliases: Items::new(alloc),
-            visible_aliases: Items::new(alloc),
-            help: None,
-            action: None,
-            num_args: None,
-            value_names: Items::new(alloc),
-            possible_values: None,
-            value_hint: ValueHint::Unknown,
-            value_terminator: None,
-            default_value: None,
-            help_heading: None,
-            value_delimiter: None,
-            completer: None,
-            candidates: None,
-            index: None,
-            display_order: None,
-            conflicts: Items::new(alloc),
-            required: false,
-            last: false,
-            global: false,
-            hide: false,
-            allow_hyphen_values: false,
-        }
+        each_field!(new_fields! alloc, id)
     }
 
     // Returns an equal copy.
     pub(crate) fn try_clone(&self, alloc: Global) -> Result<ArgParts, AllocError>
         ensures { IfOk result (λ copy. copy ≡ self.now) }
     {
-        let (id, long, aliases, visible_aliases) = copy_longs(alloc, self)?;
-        let (short_aliases, visible_short_aliases, help, help_heading) = copy_shorts(alloc, self)?;
-        let (value_names, possible_values, conflicts) = copy_values(alloc, self)?;
-        let (value_terminator, default_value) = copy_words(alloc, self)?;
-        Ok(ArgParts {
-            id,
-            short: self.short,
-            short_aliases,
-            visible_short_aliases,
-            long,
-            aliases,
-            visible_aliases,
-            help,
-            action: self.action,
-            num_args: self.num_args,
-            value_names,
-            possible_values,
-            value_hint: self.value_hint,
-            value_terminator,
-            default_value,
-            help_heading,
-            value_delimiter: self.value_delimiter,
-            completer: self.completer,
-            candidates: self.candidates,
-            index: self.index,
-            display_order: self.display_order,
-            conflicts,
-            required: self.required,
-            last: self.last,
-            global: self.global,
-            hide: self.hide,
-            allow_hyphen_values: self.allow_hyphen_values,
-        })
+        let mut copy = ArgParts::new(alloc, self.id.try_clone(alloc)?);
+        copy_fields(alloc, &mut copy, self)?;
+        Ok(copy)
     }
 }
 
-// The fields that own memory are copied in four groups, because the proof of a function grows with
-// the number of values that it owns at each call that can fail.
-
-type Longs = (Text, Option<Text>, Items<Text>, Items<Text>);
-
-type ShortsAndHelp = (Items<char>, Items<char>, Option<Text>, Option<Text>);
-
-type Values = (Items<Text>, Option<Items<PossibleValue>>, Items<Text>);
-
-type Words = (Option<Text>, Option<Text>);
-
-// Copies the id, the long and its aliases.
-fn copy_longs(alloc: Global, parts: &ArgParts) -> Result<Longs, AllocError>
-    ensures { IfOk result (λ copy. (copy.0 ≡ parts.now.id) × (copy.1 ≡ parts.now.long)
-        × (copy.2 ≡ parts.now.aliases) × (copy.3 ≡ parts.now.visible_aliases)) }
+// Copies all fields except the id.
+fn copy_fields(alloc: Global, copy: &mut ArgParts, of: &ArgParts) -> Result<(), AllocError>
+    ensures { OnOk result (copy.new ≡ record of.now { id = copy.old.id }) }
 {
-    let id = parts.id.try_clone(alloc)?;
-    let long = Text::copy_of_some(alloc, text_of(&parts.long))?;
-    let aliases = Items::copy_of_texts(alloc, parts.aliases.as_slice())?;
-    let visible_aliases = Items::copy_of_texts(alloc, parts.visible_aliases.as_slice())?;
-    Ok((id, long, aliases, visible_aliases))
-}
-
-// Copies the aliases of the short, the help text and its heading.
-fn copy_shorts(alloc: Global, parts: &ArgParts) -> Result<ShortsAndHelp, AllocError>
-    ensures { IfOk result (λ copy. (copy.0 ≡ parts.now.short_aliases)
-        × (copy.1 ≡ parts.now.visible_short_aliases) × (copy.2 ≡ parts.now.help)
-        × (copy.3 ≡ parts.now.help_heading)) }
-{
-    let short_aliases = Items::copy_of(alloc, parts.short_aliases.as_slice())?;
-    let visible_aliases = Items::copy_of(alloc, parts.visible_short_aliases.as_slice())?;
-    let help = Text::copy_of_some(alloc, text_of(&parts.help))?;
-    let help_heading = Text::copy_of_some(alloc, text_of(&parts.help_heading))?;
-    Ok((short_aliases, visible_aliases, help, help_heading))
-}
-
-// Copies the value names, the possible values and the conflicts.
-fn copy_values(alloc: Global, parts: &ArgParts) -> Result<Values, AllocError>
-    ensures { IfOk result (λ copy. (copy.0 ≡ parts.now.value_names)
-        × (copy.1 ≡ parts.now.possible_values) × (copy.2 ≡ parts.now.conflicts)) }
-{
-    let value_names = Items::copy_of_texts(alloc, parts.value_names.as_slice())?;
-    let possible_values = copy_of_given(alloc, &parts.possible_values)?;
-    let conflicts = Items::copy_of_texts(alloc, parts.conflicts.as_slice())?;
-    Ok((value_names, possible_values, conflicts))
-}
-
-// Copies the terminator and the default value.
-fn copy_words(alloc: Global, parts: &ArgParts) -> Result<Words, AllocError>
-    ensures { IfOk result (λ copy. (copy.0 ≡ parts.now.value_terminator)
-        × (copy.1 ≡ parts.now.default_value)) }
-{
-    let value_terminator = Text::copy_of_some(alloc, text_of(&parts.value_terminator))?;
-    let default_value = Text::copy_of_some(alloc, text_of(&parts.default_value))?;
-    Ok((value_terminator, default_value))
+    each_field!(copy_each! alloc, copy, of);
+    Ok(())
 }
 
 // Returns the text of a field, if it is set.

@@ -41,8 +41,8 @@ generated_version node =
 abbrev pub generated_arguments : Node → List Arg
 generated_arguments node = generated_help node ++ generated_version node
 
--- a node that building makes: a name, a bin name, a description, a display order and whether it is
--- hidden, and nothing else
+-- a node that building makes, with no flags or children to generate: it has a name, a bin name, an
+-- optional description and a display order, and it can be hidden
 abbrev pub generated_node : List ℕ → List ℕ → Option (List ℕ) → ℕ → Bool → Node
 generated_node name bin_name about order hide = record (new_node name) {
   bin_name = Some bin_name;

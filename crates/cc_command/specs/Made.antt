@@ -9,28 +9,30 @@ use Rattle.cc_command.specs.Tree.{none, more, join, Tree}
 abbrev pub new_node : List ℕ → Node
 new_node name = record {
   name = name;
+  next_order = 0;
+  candidates = None;
+  generated = false;
+  built = false;
+  -- the keys: tools/keys.py --write makes these lines from docs/tree.schema.json
   bin_name = None;
   about = None;
   version = None;
-  long_about = None;
-  after_help = None;
-  aliases = [];
   visible_aliases = [];
-  subcommand_help_heading = None;
-  display_order = None;
-  next_order = 0;
+  aliases = [];
   arguments = [];
-  hide = false;
   disable_help_flag = false;
   disable_version_flag = false;
   disable_help_subcommand = false;
+  hide = false;
+  display_order = None;
+  subcommand_help_heading = None;
   allow_external_subcommands = false;
   no_binary_name = false;
   subcommand_required = false;
   arg_required_else_help = false;
-  candidates = None;
-  generated = false;
-  built = false;
+  long_about = None;
+  after_help = None;
+  -- end of the keys
 }
 
 -- a tree of one node in which only the name is set

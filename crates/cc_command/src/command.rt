@@ -13,6 +13,7 @@ mod getters;
 mod iterators;
 mod plain;
 mod quiet;
+mod settings;
 
 pub use crate::command::build::build_as;
 pub use crate::command::builders::{add_argument, add_child};

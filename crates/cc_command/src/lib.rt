@@ -1,12 +1,13 @@
 //! A described command: a tree of nodes, with builders and getters, and the step that builds it.
 //!
 //! ```rattle
+//! let name = String::from_str(alloc, "app")?;
 //! let out = Arg::new(alloc, String::from_str(alloc, "out")?).short('o');
 //! let mut command = Command::new(alloc, name).arg(out)?;
 //! ```
 //!
-//! These lines describe a command with an option `-o`. `command.build(alloc)` then adds the flag
-//! `-h`, `--help`, and fills in what was left open.
+//! These lines describe the command `app` with an option `-o`. `command.build(alloc)` then adds the
+//! flag `-h`, `--help`, and fills in what was left open.
 #![tactic(auto)]
 
 mod command;

@@ -7,11 +7,11 @@ use std::mem;
 
 const NO_ORDER: usize = 999;
 
-/// The bytes of the first room for a tree file.
+/// The capacity in bytes with which a tree file begins.
 const LEAST_ROOM: usize = 8 << 10;
 
-/// Getters that early releases of clap 4 keep private: there these stand in for them, and later
-/// the getters of the same names in clap take precedence.
+/// Getters that are private in early releases of clap 4. In later releases, clap's own getters of
+/// the same names take precedence over these.
 #[allow(dead_code)]
 trait LaterGetters {
     fn get_display_order(&self) -> usize {
@@ -25,12 +25,12 @@ trait LaterGetters {
 impl LaterGetters for Arg {}
 impl LaterGetters for Command {}
 
-/// The tree file of a command that was not built yet.
+/// Returns the tree file of a command that is not built yet.
 pub fn tree_file(command: &Command) -> String {
     tree_file_of(command.clone())
 }
 
-/// As [`tree_file`], of a command that is not needed after.
+/// Returns the same as [`tree_file`], but consumes the command.
 pub fn tree_file_of(mut command: Command) -> String {
     let declared = command.get_arguments().count();
     let mut out = String::with_capacity(LEAST_ROOM);
@@ -39,7 +39,7 @@ pub fn tree_file_of(mut command: Command) -> String {
     out
 }
 
-/// A tree file with the names of the command alone, all that a registration takes from it.
+/// Returns a tree file with only the names of the command, which is all that a registration needs.
 #[allow(dead_code)] // a program that only writes tree files includes this file
 pub fn names_file(command: &Command) -> String {
     let mut out = String::new();
@@ -51,26 +51,26 @@ pub fn names_file(command: &Command) -> String {
     out
 }
 
-/// The numbers of children that are declared, and of the arguments of each.
+/// Returns a number for each declared child: how many arguments it declares.
 ///
-/// What building adds stands after them.
+/// Building adds children and arguments after the declared ones.
 fn declared_children(command: &Command) -> Vec<usize> {
     command.get_subcommands().map(|child| child.get_arguments().count()).collect()
 }
 
-/// Builds this command alone, which hands on to its children what they inherit.
+/// Builds only this command, which passes on to its children what they inherit.
 ///
-/// Of clap's public calls only those do it that render something; a usage of its own makes that
-/// cheap. `Command::build` renders one for each command, and copies all below a command
-/// for its child `help`.
+/// Of clap's public calls, only those that render a text do this. An own usage text makes that
+/// cheap. `Command::build` renders a usage for each command, and copies all commands below a
+/// command for its child `help`.
 fn build_alone(command: &mut Command) {
     *command = mem::take(command).override_usage("");
     command.render_usage();
 }
 
-/// A command with so many arguments of its own, and with what it inherits.
+/// Writes a command with its first `arg_count` arguments, which it declares, and what it inherits.
 fn command_object(out: &mut String, command: &mut Command, arg_count: usize) {
-    // What is inherited, and whom an argument conflicts with, only a built command says.
+    // Only a built command has what it inherits, and the conflicts of its arguments.
     let args: Vec<Declared> = command.get_arguments().take(arg_count).map(Declared::of).collect();
     let children = declared_children(command);
     build_alone(command);
@@ -116,11 +116,11 @@ fn command_flags(object: &mut Object<'_>, command: &Command, has_children: bool)
     object.flag("arg_required_else_help", command.is_arg_required_else_help_set());
 }
 
-/// What of an argument building fills in where it was not declared.
+/// The settings of an argument that building fills in if they are not declared.
 struct Declared {
     num_args: Option<ValueRange>,
     index: Option<usize>,
-    /// Whether there is one default value, for which a tree file has room.
+    /// True if there is exactly one default value: a tree file cannot hold more.
     default: bool,
 }
 
@@ -134,7 +134,7 @@ impl Declared {
     }
 }
 
-/// An argument as it was declared, of a command that is built.
+/// Writes an argument of a built command as it was declared.
 fn arg_object(out: &mut String, arg: &Arg, declared: &Declared, command: &Command) {
     let mut object = Object::new(out);
     object.text("id", Some(arg.get_id().as_str()));
@@ -171,7 +171,7 @@ fn arg_object(out: &mut String, arg: &Arg, declared: &Declared, command: &Comman
     object.end()
 }
 
-/// The names of an option, the hidden ones apart.
+/// Writes the names of an option, visible and hidden ones separately.
 fn arg_names(object: &mut Object<'_>, arg: &Arg) {
     let visible = arg.get_visible_aliases().unwrap_or_default();
     let hidden = arg.get_all_aliases().unwrap_or_default();
@@ -204,10 +204,10 @@ fn value_object(out: &mut String, value: &PossibleValue) {
     object.end()
 }
 
-/// A JSON object that is being written. What is missing, empty or `false` is left out.
+/// A JSON object that is being written. Leaves out a value that is missing, empty or `false`.
 struct Object<'o> {
     out: &'o mut String,
-    /// What stands before the next key.
+    /// The text before the next key.
     between: &'static str,
 }
 
@@ -216,7 +216,7 @@ impl<'o> Object<'o> {
         Object { out, between: "{\"" }
     }
 
-    /// Begins a member, whose key is plain.
+    /// Begins a member. The key needs no escape.
     fn key(&mut self, key: &str) -> &mut String {
         self.out.push_str(self.between);
         self.between = ", \"";
@@ -235,7 +235,7 @@ impl<'o> Object<'o> {
         }
     }
 
-    /// As `text`, of what is shown.
+    /// Writes a text as `text` does, from its displayed form.
     fn shown(&mut self, key: &str, value: Option<impl Display>) {
         if let Some(value) = value {
             let out = self.key(key);
@@ -245,7 +245,7 @@ impl<'o> Object<'o> {
         }
     }
 
-    /// As `text`, of a name in clap.
+    /// Writes a text as `text` does, from the name of a variant of clap.
     fn word(&mut self, key: &str, value: impl Debug) {
         let _ = write!(self.key(key), "\"{value:?}\"");
     }
@@ -287,7 +287,7 @@ impl<'o> Object<'o> {
     }
 }
 
-/// Adds a text as a JSON string.
+/// Appends a text as a JSON string.
 fn quote(json: &mut String, text: &str) {
     json.push('"');
     escape(json, text);
@@ -298,7 +298,7 @@ fn quote_char(json: &mut String, c: char) {
     quote(json, c.encode_utf8(&mut [0; 4]));
 }
 
-/// What is written to it stands inside a JSON string.
+/// A writer that escapes what is written to it for the inside of a JSON string.
 struct Escaped<'o>(&'o mut String);
 
 impl Write for Escaped<'_> {
@@ -308,7 +308,7 @@ impl Write for Escaped<'_> {
     }
 }
 
-/// Adds a text as it stands inside a JSON string.
+/// Appends a text, escaped for the inside of a JSON string.
 fn escape(json: &mut String, text: &str) {
     let mut plain = 0;
     for (at, byte) in text.bytes().enumerate() {

@@ -32,10 +32,12 @@ impl Command {
     /// Builds the command and all commands below it:
     ///
     /// - Each child gets the global arguments of its parent, except those whose ids it has already.
+    ///   Children that were generated get none.
     /// - Each command gets the flag `help`. If it has a version, it gets the flag `version`. If it
-    /// has children, it gets the child `help`. None of them is added if it is disabled or exists
-    /// already. - Ranges, actions and indexes are filled in. - Each child gets its full name as its
-    /// bin name.
+    ///   has children, it gets the child `help`. None of them is added if it is disabled or exists
+    ///   already.
+    /// - Ranges, actions and indexes are filled in.
+    /// - Each child gets its full name as its bin name.
     ///
     /// A plain command stays plain, and quiet possible values stay quiet. Building a built command
     /// changes nothing and never fails.
