@@ -2,6 +2,8 @@
 //! number.
 //!
 //! ```rattle
+//! use cc_candidates::{CompletionCandidate, retain_beginning_with, sort_candidates};
+//!
 //! let mut candidates = Vec::new(alloc);
 //! candidates.push(CompletionCandidate::new(String::from_str(alloc, "run")?))?;
 //! candidates.push(CompletionCandidate::new(String::from_str(alloc, "rank")?))?;

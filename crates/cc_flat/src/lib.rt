@@ -2,6 +2,9 @@
 //! recursion.
 //!
 //! ```rattle
+//! use cc_command::Command;
+//! use cc_flat::Flat;
+//!
 //! let app = Command::new(alloc, String::from_str(alloc, "app")?)
 //!     .subcommand(Command::new(alloc, String::from_str(alloc, "run")?))?;
 //! let flat = Flat::new(alloc, &app)?;

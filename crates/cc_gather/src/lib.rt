@@ -2,6 +2,9 @@
 //! then makes the list final.
 //!
 //! ```rattle
+//! use cc_arg::PossibleValue;
+//! use cc_gather::{complete_possible_values, finish};
+//!
 //! let mut values = Vec::new(alloc);
 //! values.push(PossibleValue::new(String::from_str(alloc, "always")?))?;
 //! values.push(PossibleValue::new(String::from_str(alloc, "never")?))?;

@@ -2,10 +2,13 @@
 //! that the tree completes.
 //!
 //! ```rattle
-//! let store = Bump::new(alloc);
+//! use bumpalo::Bump;
+//! use cc_parser::{fits_parser, parser};
+//!
 //! app.build(alloc)?;
-//! let parser = parser(alloc, &store, &app)?;
+//! let store = Bump::new(alloc);
 //! let accepts_completions = fits_parser(&app);
+//! let parser = parser(alloc, &store, &app)?;
 //! ```
 #![tactic(auto)]
 

@@ -1,11 +1,14 @@
 //! Completes paths: a completer, tests that select paths, and the directories in which it looks.
 //!
 //! ```rattle
-//! let names: &[&str] = &["notes.md", "src"];
-//! let none: &[&str] = &[];
-//! let folder = MemoryFolder::new(&[("/w", names), ("/w/src", none)], &["/w/notes.md"]);
-//! let completer = PathCompleter::file(folder)
-//!     .current_dir(String::from_str(alloc, "/w")?);
+//! use cc_candidates::ValueCompleter;
+//! use cc_paths::{MemoryFolder, PathCompleter};
+//!
+//! let folder = MemoryFolder::new(
+//!     &[("/w", &["notes.md", "src"]), ("/w/src", &[])],
+//!     &["/w/notes.md"],
+//! );
+//! let completer = PathCompleter::file(folder).current_dir(String::from_str(alloc, "/w")?);
 //! let found = completer.complete(alloc, "n")?;
 //! assert!(rt; found[0].get_value() == "notes.md");
 //! ```

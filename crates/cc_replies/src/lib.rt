@@ -2,14 +2,16 @@
 //! replies.
 //!
 //! ```rattle
+//! use cc_base::Collected;
+//! use cc_candidates::CompletionCandidate;
+//! use cc_replies::write_safe_values;
+//!
 //! let mut candidates = Vec::new(alloc);
 //! candidates.push(CompletionCandidate::new(String::from_str(alloc, "run")?))?;
 //! let mut sink = Collected::new(alloc);
-//! write_safe_values(&mut sink, &candidates)?;
-//! let reply = sink.into_vec();
+//! write_safe_values(&mut sink, candidates.as_slice())?;
+//! assert!(rt; sink.as_slice() == "run\n".as_bytes());
 //! ```
-//!
-//! The reply is now `run` and a line feed.
 #![tactic(auto)]
 
 mod bash_words;

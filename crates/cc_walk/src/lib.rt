@@ -2,8 +2,11 @@
 //! the next positional, and the option that may still take values.
 //!
 //! ```rattle
+//! use cc_flat::Flat;
+//! use cc_walk::{positional_at, walk};
+//!
 //! let flat = Flat::new(alloc, &app)?;
-//! let walked = walk(&flat, &words);
+//! let walked = walk(&flat, words.as_slice());
 //! let command = flat.command(walked.node);
 //! let next = positional_at(command.get_arguments(), walked.state.position);
 //! ```

@@ -1,8 +1,10 @@
 //! Reads the options and flags from the help text that a program prints.
 //!
 //! ```rattle
-//! let help = b"  -o, --output <FILE>  Writes a file\n  -v, --verbose  Says more\n";
-//! let arguments = read_arguments(alloc, help)?;
+//! use complgen_import::{read_arguments, value_count};
+//!
+//! let help = "  -o, --output <FILE>  Writes a file\n  -v, --verbose  Says more\n";
+//! let arguments = read_arguments(alloc, help.as_bytes())?;
 //! assert!(rt; arguments.as_slice().len() == 2);
 //! let count = value_count(&arguments.as_slice()[0].line);
 //! assert!(rt; count.least == 1);
