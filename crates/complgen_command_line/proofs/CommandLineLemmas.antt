@@ -1,6 +1,6 @@
 -- The command line: what a parse of it gives, and how it fails.
 use Rattle.std.proofs.Common.{◌≡◌, ◌⊎◌, ◌||◌, inl, inr, refl, subst, sym, true, false, not, Bool}
-use Rattle.std.proofs.Common.{List, drop, ℕ, ⊥}
+use Rattle.std.proofs.Common.{List, drop, ℕ}
 use Rattle.std.proofs.Common.{[], ◌∷◌, Option, Some, None, is_some, option_map}
 use Rattle.std.specs.Borrow.{Bor}
 use Rattle.std.specs.Prelude.{IsSome, codes, find, if◌then◌else◌}
@@ -194,11 +194,11 @@ entered_from words stop e =
     (is_entered _ (finished top.rules end) checks, first_none _ _ after_walk)
 
 -- a command was entered that leaves rows of which something holds
-enters : {entered : Option (Text × List Row)} (s : Shape) (Has : List Row → Type 0)
+enters : (entered : Option (Text × List Row)) (s : Shape) (Has : List Row → Type 0)
     → ((words : List Text) → level_fault s [] nothing_held words false [] ≡ []
     → Has (rows_after s.rules [] words))
     → EntersShape entered s → Enters s.name Has entered
-enters s Has gives found = record {
+enters entered s Has gives found = record {
   rows = rows_after s.rules [] found.0;
   is_entered = found.1;
   has = gives found.0 found.2;
@@ -216,16 +216,16 @@ last f (inr none) = absurd none
 enters_its : (entered : Option (Text × List Row)) → EntersAmong entered (built program_line).subs
     → EntersOne entered
 enters_its entered =
-    either (enters (shape_at 0) GivesNames (λ words e. gives_names (shape_at 0) words e refl refl
+    either (enters entered (shape_at 0) GivesNames (λ words e. gives_names (shape_at 0) words e refl refl
     refl (three_given _ _ _ (checks_pass (shape_at 0) words e))))
-    (either (enters (shape_at 1) GivesDirectory (λ words e. gives_directory (shape_at 1) words e
+    (either (enters entered (shape_at 1) GivesDirectory (λ words e. gives_directory (shape_at 1) words e
     refl refl refl (three_given _ _ _ (checks_pass (shape_at 1) words e))))
-    (either (enters (shape_at 2) GivesNames (λ words e. gives_names (shape_at 2) words e refl refl
+    (either (enters entered (shape_at 2) GivesNames (λ words e. gives_names (shape_at 2) words e refl refl
     refl (three_given _ _ _ (checks_pass (shape_at 2) words e))))
-    (either (enters (shape_at 3) GivesWords (λ words e. gives_words (shape_at 3) words e refl refl
+    (either (enters entered (shape_at 3) GivesWords (λ words e. gives_words (shape_at 3) words e refl refl
     (two_given _ _ (checks_pass (shape_at 3) words e))))
-    (last (enters (shape_at 4) GivesTree (λ words e. has_value (shape_at 4) words e (codes "tree")
-    refl (one_given _ (checks_pass (shape_at 4) words e)))))))
+    (last (enters entered (shape_at 4) GivesTree (λ words e. has_value (shape_at 4) words e (codes "tree")
+    refl (one_given _ (checks_pass (shape_at 4) words e))))))))
 
 -- words of which no step fails enter a command, with its required arguments
 pub enters_one : (words : List Text) → fault_of program_line words ≡ []

@@ -1,7 +1,6 @@
 -- The words that ask for a plan.
-use Rattle.std.specs.Prelude.{◌≡◌, ◌<◌, ◌^◌, ◌⊎◌, ℕ, Bool, false, List, [], IsSome, Option, Some}
+use Rattle.std.specs.Prelude.{◌≡◌, ◌<◌, ◌^◌, ◌⊎◌, ℕ, Bool, false, List, [], IsSome, None, Option, Some}
 use Rattle.std.specs.Prelude.{codes, map, option_map, string_bytes, unwrap_or}
-use Rattle.std.specs.Option.{option_map_or}
 use Rattle.std.specs.Str.{bytes_eq}
 use Rattle.std.specs.Str.Parse.{IsNumeral, digits_value, without_leading_plus}
 use Rattle.clap.specs.Words.{Row, Text, all_of, first_of}
@@ -30,9 +29,14 @@ pub record HasDirectory (bin directory tree : Text) (rows : List Row) : Type 0 w
   pub has_directory : first_of (codes "out-dir") rows ≡ Some directory
   pub has_tree : first_of (codes "tree") rows ≡ Some tree
 
--- the flag of this name is set: its value is `true`
+-- the value of a flag that is set
+abbrev pub is_true : Option Text → Bool
+is_true None = false
+is_true (Some value) = bytes_eq value (codes "true")
+
+-- the flag of this name is set
 abbrev pub is_set : Text → List Row → Bool
-is_set name rows = option_map_or (λ value. bytes_eq value (codes "true")) (first_of name rows) false
+is_set name rows = is_true (first_of name rows)
 
 -- of `--bin`, which may be left out, `--json` and `TREE`
 pub record HasReport (bin : Option Text) (json : Bool) (tree : Text) (rows : List Row) : Type 0 where

@@ -1,8 +1,9 @@
 //! Reads the values of arguments from a parse, and the text to print if the parse failed.
 
 ghost use Rattle.std.specs.Prelude.{◌≡◌, IfOk, IsSome, Some, option_map, string_bytes};
+ghost use Rattle.std.specs.Option.{option_copied};
 ghost use Rattle.clap.specs.Words.{first_of, found_of, kind_of, rows_of};
-ghost use Rattle.complgen_command_line.specs.Plans.{is_set};
+ghost use Rattle.complgen_command_line.specs.Plans.{is_set, is_true};
 ghost use Rattle.complgen_command_line.specs.Refusals.{ReportsKind};
 
 use clap::ArgMatches;
@@ -55,8 +56,14 @@ pub fn optional(
 pub fn flag(values: &ArgMatches<'_>, id: &str) -> bool
     ensures { result ≡ is_set id.now (rows_of (found_of values.now)) }
 {
-    match values.get_str(id) {
-        Some(text) => text == "true",
+    is_true(values.get_str(id))
+}
+
+fn is_true(value: Option<&str>) -> bool
+    ensures { result ≡ is_true (option_copied value.entry) }
+{
+    match value {
+        Some(value) => value == "true",
         None => false,
     }
 }

@@ -12,7 +12,6 @@ use complgen_live::is_request;
 /// Returns whether `words` are a request of a shell, by the variables `env`, and not a command line
 /// for `plan`. The command line accepts no request, so every command line that works keeps its
 /// meaning when `COMPLETE` is set. The first word is the program's name.
-#[tactic(auto, using(crate::proofs::Untaken::untaken_request))]
 pub fn is_shell_request(env: &EnvValues, words: &[String]) -> bool
     ensures value { result
         ≡ is_request (value_of (codes "COMPLETE") env.now) (map string_bytes words.now) }

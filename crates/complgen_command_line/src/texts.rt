@@ -65,7 +65,8 @@ pub const WORDS_HELP: &str =
 
 /// The end of the long help text of `script`: for each shell the file of one user, the file for all
 /// users if the shell has one, and the line that the shell needs in its own files.
-pub const SCRIPT_FILES: &str = "Where shells look for the script of a program N, for one user and for all users:
+pub const SCRIPT_FILES: &str =
+    "Where shells look for the script of a program N, for one user and for all users:
   bash        ~/.local/share/bash-completion/completions/N
               /usr/share/bash-completion/completions/N
   elvish      ~/.config/elvish/lib/N.elv, with the line `use N` in ~/.config/elvish/rc.elv
@@ -81,7 +82,8 @@ Example:
   complgen script --shell zsh --bin app app.json > ~/.zfunc/_app";
 
 /// The end of the help text of `scripts`.
-pub const SCRIPTS_FILES: &str = "Writes NAME.bash, NAME.elv, NAME.fish, NAME.nu, _NAME.ps1 and _NAME, the file names that shells
+pub const SCRIPTS_FILES: &str =
+    "Writes NAME.bash, NAME.elv, NAME.fish, NAME.nu, _NAME.ps1 and _NAME, the file names that shells
 look for, and prints the paths. `complgen script --help` says in which directory each belongs.
 
 Example:

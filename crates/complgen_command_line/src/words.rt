@@ -93,10 +93,7 @@ fn names(alloc: Global, values: &ArgMatches<'_>) -> Result<(String, String, Stri
 }
 
 // Reads the values of `--bin`, `--out-dir` and `TREE`.
-fn directory(
-    alloc: Global,
-    values: &ArgMatches<'_>,
-) -> Result<(String, String, String), AllocError>
+fn directory(alloc: Global, values: &ArgMatches<'_>) -> Result<(String, String, String), AllocError>
     requires { GivesDirectory (rows_of (found_of values.now)) }
     ensures { IfOk result (λ texts. HasDirectory (string_bytes texts.0) (string_bytes texts.1)
         (string_bytes texts.2) (rows_of (found_of values.now))) }

@@ -1,5 +1,5 @@
 -- The outcomes of carrying out a plan.
-use Rattle.std.specs.Prelude.{⊤, ⊥, ℕ, false, List, Option, Result, length, map, string_bytes}
+use Rattle.std.specs.Prelude.{⊤, ℕ, false, List, Option, Result, length, map, string_bytes}
 use Rattle.cc_base.specs.declared.failures.Failures.{Failures}
 use Rattle.complgen_commands.specs.declared.plans.Plan.{Plan}
 use Rattle.complgen_commands.specs.declared.plans.Plan.TheVariants.{Candidates, Check, Register}

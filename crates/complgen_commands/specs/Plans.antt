@@ -1,5 +1,5 @@
 -- The parts of a plan.
-use Rattle.std.specs.Prelude.{⊤, ⊥, ℕ, List, string_bytes}
+use Rattle.std.specs.Prelude.{⊤, ℕ, List, string_bytes}
 use Rattle.complgen_commands.specs.declared.plans.Plan.{Plan}
 use Rattle.complgen_commands.specs.declared.plans.Plan.TheVariants.{Candidates, Check, Register}
 use Rattle.complgen_commands.specs.declared.plans.Plan.TheVariants.{Script, Scripts}

@@ -43,10 +43,10 @@ pub fn scripts<R: Files, W: Sink>(
     file: TreeFile<'_>,
     out: &mut W,
 ) -> Result<(), Refusal>
-    ensures ends { EndsScripts W.taken W.failed bin.now folder.now file.path.now out.old out.new
-        (option_copied file.bytes) result }
+    ensures ends { EndsScripts W.taken W.failed bin.now folder.now file.entry.path.now out.old out.new
+        (option_copied file.entry.bytes) result }
     ensures read_back { OnOk result
-        ((shell : Shell) → ScriptReads shell bin.now (option_copied file.bytes)) }
+        ((shell : Shell) → ScriptReads shell bin.now (option_copied file.entry.bytes)) }
 {
     let mut command = named_tree(alloc, file)?;
     // Only the bash script has labels that two commands may share. It is written first, so that this

@@ -41,7 +41,7 @@ pub fn tree(alloc: Global, file: Option<&[u8]>) -> Result<Command, Refusal>
 ///
 /// A refusal with status 1 and the text of the error, which names the file.
 pub fn named_tree(alloc: Global, file: TreeFile<'_>) -> Result<Command, Refusal>
-    ensures { ReadsFileAt file.path.now (option_copied file.bytes) result }
+    ensures { ReadsFileAt file.entry.path.now (option_copied file.entry.bytes) result }
 {
     let Some(bytes) = file.bytes else {
         return Err(unreadable(alloc, file.path));
