@@ -96,8 +96,8 @@ CALLS = {
         with_alias
     """,
     "program": "run ; end ; completes ; variables ; words ; home ; Failure:",
-    "crate complgen_command_line": "plan ; Plan: ; Refusal:",
-    "crate complgen_commands": "run",
+    "crate complgen_command_line": "plan",
+    "crate complgen_commands": "run ; Plan: ; Refusal:",
     "crate complgen_tree_file": "read_tree ; TreeError:",
 }
 

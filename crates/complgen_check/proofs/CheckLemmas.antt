@@ -4,8 +4,8 @@ use Rattle.cc_base.specs.Writes.{CountsWrite, IsMemoryOrWrite}
 use Rattle.cc_base.specs.declared.error.Error.{Error}
 use Rattle.cc_base.specs.declared.error.Error.TheVariants.{Memory, Write}
 use Rattle.cc_base.specs.declared.failures.Failures.{Failures}
-use Rattle.complgen_command_line.specs.declared.types.Refusal.{Refusal}
-use Rattle.complgen_command_line.specs.Refusals.{IsRefusal}
+use Rattle.complgen_commands.specs.declared.refusals.Refusal.{Refusal}
+use Rattle.complgen_commands.specs.Refusals.{IsRefusal}
 use Rattle.complgen_commands.specs.Refusals.{Reports, unreadable_line}
 use Rattle.complgen_tree_errors.specs.declared.finding.PlacedFinding.{PlacedFinding}
 use Rattle.complgen_check.specs.Checking.{EndsCheck, Finds, only_notes, out_of_memory, printed}

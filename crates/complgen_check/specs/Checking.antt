@@ -25,8 +25,8 @@ use Rattle.complgen_tree_errors.specs.declared.finding.PlacedFinding.{PlacedFind
 use Rattle.complgen_tree_file.specs.TreeFile.{Describes}
 use Rattle.complgen_check.specs.Promises.{HoldPremises}
 use Rattle.complgen_check.specs.TreeWarnings.{built_as, warnings_of}
-use Rattle.complgen_command_line.specs.Refusals.{IsOutOfMemory, IsRefusal}
-use Rattle.complgen_command_line.specs.declared.types.Refusal.{Refusal}
+use Rattle.complgen_commands.specs.Refusals.{IsOutOfMemory, IsRefusal}
+use Rattle.complgen_commands.specs.declared.refusals.Refusal.{Refusal}
 use Rattle.complgen_commands.specs.Refusals.{error_line, unreadable_line}
 use Rattle.complgen_commands.specs.Writing.{Untouched}
 use Rattle.complgen_check.specs.Lines.{finding_lines}

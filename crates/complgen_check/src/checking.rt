@@ -13,8 +13,7 @@ use crate::all_warnings::tree_warnings;
 use crate::lines::put_findings;
 use cc_base::{Sink, on_one_line};
 use cc_command::Command;
-use complgen_command_line::Refusal;
-use complgen_commands::{UNREADABLE, error_refusal};
+use complgen_commands::{Refusal, UNREADABLE, error_refusal};
 use complgen_lints::{self as warnings, Key, Place, Warning};
 use complgen_tree_errors::{
     Checked, Finding, Level, PlacedFinding, Step, check_file, place_findings,

@@ -1,4 +1,4 @@
--- The words of a request are none that the command line takes.
+-- The command line accepts no request of a shell.
 use Rattle.std.proofs.Common.{◌≡◌, refl, subst, sym, Bool, true, false, ℕ, List, [], ◌∷◌, codes, Option}
 use Rattle.std.specs.Prelude.{◌&&◌}
 use Rattle.std.proofs.lemmas.Slice.Eq.{bytes_eq-Decides}

@@ -2,7 +2,7 @@ use Rattle.std.proofs.Common.{◌∙◌, Option, Some, ap, option_map, sym}
 use Rattle.std.specs.Borrow.{Bor}
 use Rattle.clap.proofs.WalkLemmas.{first_value-rows}
 use Rattle.clap.specs.Words.{Text, found_of}
-use Rattle.complgen_command_line.proofs.tool_words.optional.Goals as goal
+use Rattle.complgen_command_line.proofs.parse.optional.Goals as goal
 
 pub returns-in_ok-from_str-in-Some : goal.returns-in_ok-from_str-in-Some
 returns-in_ok-from_str-in-Some c =
