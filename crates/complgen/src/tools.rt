@@ -3,7 +3,7 @@
 use crate::contents;
 use crate::output::{buffered, flush};
 use cc_base::Sink;
-use complgen_check::check;
+use complgen_check::{Report, check};
 use complgen_command_line::{Refusal, ToolPlan, plan_tool};
 use complgen_commands::scripts;
 use std::convert::AsStr;
@@ -42,7 +42,7 @@ fn carry_out<R: Files + AllocGlobal, W: Sink>(
     match plan {
         ToolPlan::Check(bin, _) => {
             let bin = bin.as_ref().map(|bin| bin.as_str());
-            let is_clean = check(alloc, bin, file, out)?;
+            let is_clean = check(alloc, bin, Report::Lines, file, out)?;
             Ok(u8::from(!is_clean))
         }
         ToolPlan::Scripts(bin, folder, _) => {

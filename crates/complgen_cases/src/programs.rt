@@ -8,7 +8,7 @@ use cc_env::{CompleteEnv, EnvCompleter};
 use cc_paths::MemoryFolder;
 use cc_quote::posix_word;
 use cc_replies::EnvValues;
-use complgen_check::check;
+use complgen_check::{Report, check};
 use complgen_command_line::{Refusal, ToolPlan, names_tool, plan, plan_tool};
 use complgen_commands::run;
 use complgen_tree_file::read_tree;
@@ -137,7 +137,7 @@ fn checked(
     match plan_tool(alloc, words)? {
         ToolPlan::Check(bin, tree) => {
             let bin = bin.as_ref().map(|bin| bin.as_str());
-            let is_clean = check(alloc, bin, document.tree(tree.as_str()), out)?;
+            let is_clean = check(alloc, bin, Report::Lines, document.tree(tree.as_str()), out)?;
             Ok(u8::from(!is_clean))
         }
         ToolPlan::Scripts(_, _, _) => Ok(3),

@@ -1,3 +1,4 @@
 pub mod CheckLemmas
+pub mod MarkLemmas
 pub mod ShownLemmas
 pub mod WalkLemmas
