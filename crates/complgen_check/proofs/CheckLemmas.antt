@@ -1,4 +1,4 @@
--- How a check of a tree file ends.
+-- The ends of a check of a tree file.
 use Rattle.std.proofs.Common.{◌≡◌, ◌++◌, ℕ, Bool, List, None, Option, Some, Ok, Err, Result, refl, subst, sym}
 use Rattle.cc_base.specs.Writes.{CountsWrite, IsMemoryOrWrite}
 use Rattle.cc_base.specs.declared.error.Error.{Error}
@@ -24,7 +24,7 @@ not_printed taken failed bin report bytes old new (Write kind) refusal is report
     write_failed bytes kind refusal reported counted
 not_printed taken failed bin report bytes old new error refusal is reported counted = absurd is
 
--- all are printed, and it is told whether they are notes
+-- all findings are printed, and the result is whether they are notes
 pub all_printed : {S : Type 0} (taken : S → List ℕ) (failed : S → Failures) (bin : Option (List ℕ))
     (report : Report) (bytes : List ℕ) (old new : S) (found : List PlacedFinding) (told : Bool)
     → Finds bin bytes found → told ≡ only_notes found

@@ -68,7 +68,7 @@ scripts_safe bin tree holds shell = record {
 
 -- ---- findings that are notes
 
--- among errors there is none
+-- no error is a note
 no_notes : (found : List PlacedFinding) → AreErrors found → IsTrue (only_notes found) → ⊥
 no_notes [] are clean = let none : true ≡ false = are.some in cc
 no_notes (finding ∷ more) are clean =

@@ -1,4 +1,4 @@
--- What a check finds in a tree file, and how it ends.
+-- The findings of a check of a tree file, and the ways in which it ends.
 use Rattle.std.specs.Prelude.{◌≡◌, ◌++◌, ℕ, Bool, true, false, IsTrue, List, [], ◌∷◌, Option, Some, None, Result, Ok, Err, codes, map}
 use Rattle.std.specs.List.{flat_map, list_all}
 use Rattle.std.specs.declared.io.ErrorKind.{ErrorKind}
@@ -73,7 +73,7 @@ shown_warning warning = record {
 
 -- ---- what is found
 
--- What a check finds in the bytes of a tree file.
+-- The findings of a check of the bytes of a tree file.
 pub data Finds (bin : Option (List ℕ)) (bytes : List ℕ) (found : List PlacedFinding) : Type 0 where
   -- errors, at least one: the bytes describe no command
   errors : DescribesNone bytes → AreErrors found → Finds bin bytes found
@@ -94,7 +94,7 @@ only_notes found = list_all (λ finding. is_note finding.level) found
 
 -- ---- how a check ends
 
--- How a check of a tree file ends, whose sink was `old` before and is `new` now.
+-- The ways in which a check of a tree file ends; its sink was `old` before and is `new` now.
 pub data EndsCheck {S : Type 0} (taken : S → List ℕ) (failed : S → Failures)
     (bin : Option (List ℕ)) (report : Report) (old new : S)
     : Option (List ℕ) → Result Bool Refusal → Type 0 where

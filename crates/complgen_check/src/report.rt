@@ -9,7 +9,7 @@ use cc_base::{Error, Sink, put_all, put_piece};
 use complgen_tree_errors::{Lines, PlacedFinding};
 use std::alloc::Global;
 
-/// What is printed for a finding.
+/// The form in which findings are printed.
 #[derive(Clone, Copy, Debug, Drop, PartialEq, Eq)]
 pub enum Report {
     /// A line of text, `LINE:COLUMN: LEVEL: PATH: TEXT`.

@@ -1,4 +1,4 @@
--- What `serde_json` reads is the value that is seen, where the numbers are in range.
+-- If the numbers are in range, `serde_json` reads the view of a value.
 use Rattle.std.proofs.Common.{◌≡◌, ◌∙◌, ◌&&◌, Bool, true, false, List, [], Option, Some, None}
 use Rattle.std.proofs.Common.{ap, if◌then◌else◌, is_some, refl, sym, true≢false}
 use Rattle.std.specs.Prelude.{option_and_then, option_map}

@@ -1,4 +1,4 @@
--- What reading a text returns.
+-- The results of reading a text.
 use Rattle.std.specs.Prelude.{◌≡◌, ⊤, ℕ, List, [], Some, None, Result, Ok, Err}
 use Rattle.std.specs.declared.alloc.Global.{Global}
 use Rattle.json.specs.Json.{Json, value}

@@ -1,4 +1,4 @@
--- What a check of a value says of the bytes that spell it.
+-- A check of a value is a check of the bytes that spell it.
 use Rattle.std.proofs.Common.{◌≡◌, ◌∙◌, ℕ, List, [], ◌∷◌, Some, None, ap, length, refl}
 use Rattle.std.specs.Str.{IsUtf8}
 use Rattle.json.specs.Json.{Json}

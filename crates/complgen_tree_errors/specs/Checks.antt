@@ -1,4 +1,4 @@
--- What a check of a tree file returns.
+-- The results of a check of a tree file.
 use Rattle.std.specs.Prelude.{◌≡◌, ℕ, List, [], Some, None, map}
 use Rattle.json.specs.Json.{Json}
 use Rattle.cc_command.specs.Tree.{Tree}

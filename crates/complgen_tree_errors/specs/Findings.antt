@@ -1,4 +1,4 @@
--- What is shown of a finding beside its line and its column.
+-- The parts of a finding that are shown, apart from its line and its column.
 use Rattle.std.specs.Prelude.{◌≡◌, ℕ, ◌-◌, All, List, [], ◌++◌, Option, Some, codes, false, length, map, slice_get, string_bytes}
 use Rattle.cc_base.specs.Shown.{HoldsNoControl}
 use Rattle.complgen_tree_errors.specs.Places.{ShownStep, index, key, path_text, shown_step}

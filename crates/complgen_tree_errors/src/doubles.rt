@@ -35,7 +35,7 @@ pub(crate) fn hidden_members<'t>(
     Ok(walk.found)
 }
 
-// A walk through a value: the path to where it is, and what it has found.
+// A walk through a value, with its current path and its findings.
 #[derive(Drop)]
 struct Walk<'t> {
     alloc: Global,

@@ -9,7 +9,7 @@ use complgen_json::Value;
 use complgen_tree_file::Step;
 use std::alloc::{AllocError, Global};
 
-/// How serious a finding is.
+/// The level of a finding.
 #[derive(Clone, Copy, Debug, Drop, PartialEq, Eq)]
 pub enum Level {
     /// Nothing is wrong.
@@ -26,7 +26,7 @@ pub struct Finding<'t> {
     pub level: Level,
     /// The steps from the whole file to the value.
     pub path: Vec<Step<'t>>,
-    /// Whether the finding is about the key of the last step instead of the value there.
+    /// True if the finding is about the key of the last step instead of the value there.
     pub at_key: bool,
     pub text: String,
 }
@@ -35,7 +35,7 @@ pub struct Finding<'t> {
 #[derive(Drop)]
 pub struct PlacedFinding {
     pub level: Level,
-    /// How many bytes of the file come before the place.
+    /// The number of bytes in the file before the place.
     pub offset: usize,
     /// The path as it is shown.
     pub path: String,

@@ -7,7 +7,7 @@ ghost use Rattle.complgen_tree_errors.specs.Places.{begins_character, column_aft
 use std::alloc::{AllocError, Global};
 use std::marker::Model;
 
-// How many bytes are between two marks.
+// The number of bytes between two marks.
 const STRIDE: usize = 256;
 
 /// A text whose offsets can be converted to lines and columns. Each conversion counts a few hundred

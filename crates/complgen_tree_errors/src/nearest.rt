@@ -32,7 +32,7 @@ pub(crate) fn nearest(alloc: Global, name: &str, known: &[&str]) -> Result<Optio
 }
 
 /// Returns the index of the first name in `known` that has the same ASCII letters and digits as
-/// `name`, in either case. Returns `None` if there is none.
+/// `name`, in either case. Returns `None` if no name has.
 ///
 /// # Errors
 ///

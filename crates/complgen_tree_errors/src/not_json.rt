@@ -12,7 +12,7 @@ use complgen_tree_file::Step;
 use json::Reader;
 use std::alloc::{AllocError, Global};
 
-// How deep lists and objects may nest.
+// The greatest depth of lists and objects in one another.
 const MOST_OPEN: usize = 127;
 
 /// Returns one error with the message `text` at `offset`, about the whole file.
@@ -166,14 +166,14 @@ fn why_not_here(before: Option<u8>, byte: u8) -> &'static str {
     match (before, byte) {
         (Some(b','), b']' | b'}') => "not JSON: no comma is allowed before `]` or `}`",
         (Some(b':'), b'"') => {
-            "not JSON: this string is not closed or has a bad escape, or a list has a key"
+            "not JSON: this string is not closed or has a bad escape, or a list has the key before it"
         }
         (Some(b',' | b'[' | b'{'), b'"') => {
             "not JSON: this string is not closed or has a bad escape, or a key is missing before it"
         }
         (Some(b'"'), b'"') => "not JSON: a comma or a colon is missing before this string",
         (Some(_), b'"') => "not JSON: a comma is missing before this string",
-        (Some(b':'), b'[' | b'{') => "not JSON: a list has a key",
+        (Some(b':'), b'[' | b'{') => "not JSON: a list has the key before this",
         (Some(b',' | b'[' | b'{'), b'[' | b'{') => "not JSON: a key is missing before this",
         (Some(b'"'), b'[' | b'{') => "not JSON: a comma or a colon is missing before this",
         (Some(_), b'[' | b'{') => "not JSON: a comma is missing before this",

@@ -9,7 +9,7 @@ ghost use Rattle.complgen_tree_errors.specs.Shown.{shown_text};
 use cc_base::visible;
 use std::alloc::AllocError;
 
-// How many characters of a text are shown at most.
+// The greatest number of characters that are shown of a text.
 const MOST_SHOWN: usize = 60;
 
 /// Appends `text` to `shown`, with each control character as `?`. Cuts it after 60 characters, and

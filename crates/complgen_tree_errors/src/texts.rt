@@ -199,8 +199,8 @@ fn listed(alloc: Global, names: &[&str]) -> Result<String, AllocError> {
     Ok(list)
 }
 
-// Returns the index of the name that `name` may stand for: the name that another tool uses, one
-// with the same letters, or a similar one.
+// Returns the index of the name that is probably meant by `name`: what another tool calls so, the
+// one with the same letters, or a similar one.
 fn meant(alloc: Global, name: &str, names: &[&str]) -> Result<Option<usize>, AllocError>
     ensures { IfOk result (λ found. IfSome found (λ index. index < length names.now)) }
 {

@@ -63,7 +63,7 @@ fn check_argument_keys<'t>(faults: &mut Faults<'t>, tree: &Value<'t>) -> Result<
     check_keys(faults, tree, KEYS, ObjectKind::Argument)
 }
 
-// Checks the keys besides the id. Each reader is that of a field of an argument.
+// Checks the keys other than the id, each by the reader of a field of an argument.
 fn check_rest<'t>(faults: &mut Faults<'t>, tree: &Value<'t>) -> Result<(), AllocError>
     ensures { IfOk result (λ _. has_none faults.new
         ≡ argument_fits (view tree.now) (has_none faults.old)) }

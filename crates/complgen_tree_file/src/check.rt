@@ -73,7 +73,7 @@ pub fn check_needed<'t, T: FromValue>(
     }
 }
 
-/// Checks `value`, which `step` leads to from where the walk is.
+/// Checks `value`, to which `step` leads from the current value of the walk.
 ///
 /// # Errors
 ///

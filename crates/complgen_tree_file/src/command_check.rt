@@ -44,7 +44,7 @@ fn check_command_keys<'t>(faults: &mut Faults<'t>, tree: &Value<'t>) -> Result<(
     check_keys(faults, tree, KEYS, ObjectKind::Command)
 }
 
-// Checks the keys besides the name and the children. Each reader is that of a field of a node.
+// Checks the keys other than the name and the children, each by the reader of a field of a node.
 fn check_rest<'t>(faults: &mut Faults<'t>, tree: &Value<'t>) -> Result<(), AllocError>
     ensures { IfOk result (λ _. has_none faults.new
         ≡ command_fits (view tree.now) (has_none faults.old)) }

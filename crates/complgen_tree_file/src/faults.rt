@@ -17,7 +17,7 @@ pub enum Step<'t> {
     Item(usize),
 }
 
-/// What is wrong with a value.
+/// The kind of a fault in a value.
 #[derive(Clone, Copy, Debug, Drop)]
 pub enum FaultKind {
     /// Expected a value of this kind.
@@ -37,7 +37,7 @@ pub struct Fault<'t> {
     pub kind: FaultKind,
 }
 
-/// The faults that are found during a walk through a value, and the path to where the walk is.
+/// A walk through a value, with its current path and the faults that it has found.
 #[derive(Drop)]
 pub struct Faults<'t> {
     alloc: Global,

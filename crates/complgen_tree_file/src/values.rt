@@ -24,7 +24,7 @@ pub trait FromValue: Drop {
     ghost use Rattle.complgen_tree_file.specs.Faults.{FindsUnless};
     ghost use Rattle.complgen_tree_file.specs.TreeForm.{GivesSame};
 
-    // What a value is read as; `None` if it is of another kind.
+    // The result of reading a value; `None` if the value is of another kind.
     ghost form: { Data → Option Self };
 
     /// Reads `value`.
