@@ -4,7 +4,7 @@ use Rattle.std.specs.Prelude.{count_by, take_while}
 use Rattle.std.specs.List.{prefix_len}
 use Rattle.std.proofs.lemmas.List.Folds.{length-prefix_len}
 use Rattle.std.proofs.lemmas.List.{length-reverse, length-take-le, reverse-append, take_more}
-use Rattle.std.proofs.lemmas.List.Sums.{count_by-le-length, count_by_more_no, count_by_more_yes, prefix_len-le-length, take_while-cons}
+use Rattle.std.proofs.lemmas.List.Sums.{count_by-le-length, count_by_more_no, count_by_more_yes, prefix_len-le-length, sum_by-cons, take_while-cons}
 use Rattle.complgen_tree_errors.specs.Places.{begins_character, column_after, ends_line, line_after, on_the_line}
 
 -- the bytes of the line, from the last one back, after one more byte
@@ -26,9 +26,15 @@ on_line_more before byte ends =
 
 -- the number of characters among the bytes of a line, and one more byte
 counted : (byte : ℕ) (more : List ℕ) → count_by begins_character (byte ∷ more)
-    ≡ cond (begins_character byte) (1 + count_by begins_character more)
-    (count_by begins_character more)
-counted byte more = refl
+    ≡ cond (begins_character byte) 1 0 + count_by begins_character more
+counted byte more = sum_by-cons (λ byte. cond (begins_character byte) 1 0) byte more
+
+column_counted : (before : List ℕ) (byte : ℕ) → ends_line byte ≡ false
+    → column_after (before ++ byte ∷ [])
+    ≡ (cond (begins_character byte) 1 0 + count_by begins_character (on_the_line before)) + 1
+column_counted before byte ends =
+    ap (λ line. count_by begins_character line + 1) (on_line_more before byte ends)
+    ∙ ap (λ count. count + 1) (counted byte (on_the_line before))
 
 column_line_feed : (before : List ℕ) (byte : ℕ) → ends_line byte ≡ true
     → column_after (before ++ byte ∷ []) ≡ 1
@@ -39,19 +45,15 @@ column_first : (before : List ℕ) (byte : ℕ) → ends_line byte ≡ false
     → begins_character byte ≡ true → column_after (before ++ byte ∷ []) ≡ column_after before + 1
 column_first before byte ends begins =
     let n = count_by begins_character (on_the_line before) in
-    let more : column_after (before ++ byte ∷ []) ≡ cond (begins_character byte) (1 + n) n + 1 =
-    ap (λ line. count_by begins_character line + 1) (on_line_more before byte ends)
-    ∙ ap (λ count. count + 1) (counted byte (on_the_line before)) in
-    let one : cond (begins_character byte) (1 + n) n ≡ 1 + n = ap (λ b. cond b (1 + n) n) begins in
-    omega arith
+    let same : (1 + n) + 1 ≡ (n + 1) + 1 = omega arith in
+    column_counted before byte ends ∙ ap (λ b. (cond b 1 0 + n) + 1) begins ∙ same
 
 column_within : (before : List ℕ) (byte : ℕ) → ends_line byte ≡ false
     → begins_character byte ≡ false → column_after (before ++ byte ∷ []) ≡ column_after before
 column_within before byte ends begins =
-    ap (λ line. count_by begins_character line + 1) (on_line_more before byte ends)
-    ∙ ap (λ count. count + 1) (counted byte (on_the_line before)
-    ∙ ap (λ b. cond b (1 + count_by begins_character (on_the_line before))
-    (count_by begins_character (on_the_line before))) begins)
+    let n = count_by begins_character (on_the_line before) in
+    let same : (0 + n) + 1 ≡ n + 1 = omega arith in
+    column_counted before byte ends ∙ ap (λ b. (cond b 1 0 + n) + 1) begins ∙ same
 
 -- line and column after a byte of a text
 module _ (bytes : List ℕ) (i : ℕ) (inside : i < length bytes) where

@@ -47,11 +47,7 @@ pub fn check_file<'t>(
 {
     match std::str::from_utf8(bytes) {
         Ok(text) => check_text(alloc, text, scratch),
-        Err(error) => Ok(Checked::Errors(one_error(
-            alloc,
-            error.valid_up_to(),
-            "not UTF-8",
-        )?)),
+        Err(error) => Ok(Checked::Errors(one_error(alloc, error.valid_up_to(), "not UTF-8")?)),
     }
 }
 
@@ -130,11 +126,7 @@ fn errors<'t>(
     Ok(errors)
 }
 
-fn error<'t>(
-    alloc: Global,
-    value: &Value<'t>,
-    fault: Fault<'t>,
-) -> Result<Finding<'t>, AllocError>
+fn error<'t>(alloc: Global, value: &Value<'t>, fault: Fault<'t>) -> Result<Finding<'t>, AllocError>
     ensures { IfOk result (λ error. IsError (shown error)) }
 {
     let text = shown_text(alloc, value, &fault)?;
@@ -147,11 +139,7 @@ fn error<'t>(
     })
 }
 
-fn shown_text(
-    alloc: Global,
-    value: &Value<'_>,
-    fault: &Fault<'_>,
-) -> Result<String, AllocError>
+fn shown_text(alloc: Global, value: &Value<'_>, fault: &Fault<'_>) -> Result<String, AllocError>
     ensures { IfOk result (λ text. HoldsNoControl (string_bytes text)) }
 {
     let text = fault_text(alloc, fault, value)?;

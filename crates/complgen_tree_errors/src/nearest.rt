@@ -13,7 +13,11 @@ const LONGEST: usize = 64;
 /// # Errors
 ///
 /// `AllocError` if an allocation fails.
-pub(crate) fn nearest(alloc: Global, name: &str, known: &[&str]) -> Result<Option<usize>, AllocError>
+pub(crate) fn nearest(
+    alloc: Global,
+    name: &str,
+    known: &[&str],
+) -> Result<Option<usize>, AllocError>
     ensures { IfOk result (λ found. IfSome found (λ index. index < length known.now)) }
 {
     if name.len() > LONGEST {
@@ -37,7 +41,11 @@ pub(crate) fn nearest(alloc: Global, name: &str, known: &[&str]) -> Result<Optio
 /// # Errors
 ///
 /// `AllocError` if an allocation fails.
-pub(crate) fn same_letters(alloc: Global, name: &str, known: &[&str]) -> Result<Option<usize>, AllocError>
+pub(crate) fn same_letters(
+    alloc: Global,
+    name: &str,
+    known: &[&str],
+) -> Result<Option<usize>, AllocError>
     ensures { IfOk result (λ found. IfSome found (λ index. index < length known.now)) }
 {
     let letters = letters_of(alloc, name)?;

@@ -79,7 +79,11 @@ fn after_value(
 {
     let offset = reader.offset().min(source.text.len());
     if reader.next().is_some() {
-        return one_error(alloc, offset, "not JSON: there is more text after the value");
+        return one_error(
+            alloc,
+            offset,
+            "not JSON: there is more text after the value",
+        );
     }
     range_error(alloc, &source)
 }

@@ -12,7 +12,10 @@ use std::alloc::{AllocError, Global};
 
 /// Returns the value inside `value` that `step` leads to, and its index among the members or items.
 /// Returns `None` if there is no such value.
-pub(crate) fn inside<'v, 't>(value: &'v Value<'t>, step: Step<'_>) -> Option<(usize, &'v Value<'t>)> {
+pub(crate) fn inside<'v, 't>(
+    value: &'v Value<'t>,
+    step: Step<'_>,
+) -> Option<(usize, &'v Value<'t>)> {
     match value {
         Value::Object(members) => inside_object(members.as_slice(), step),
         Value::Array(items) => inside_list(items.as_slice(), step),

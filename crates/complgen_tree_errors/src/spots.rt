@@ -90,12 +90,7 @@ fn read_members(
 /// Returns the offset of the value at `path`, or with `at_key` that of the key of the last step.
 /// The path leads from `value`, and `spot` has its offsets. If the path leads to nothing, the
 /// result is the offset of the last value on the way.
-pub(crate) fn offset_at(
-    spot: &Spot,
-    value: &Value<'_>,
-    path: &[Step<'_>],
-    at_key: bool,
-) -> usize {
+pub(crate) fn offset_at(spot: &Spot, value: &Value<'_>, path: &[Step<'_>], at_key: bool) -> usize {
     let Some((step, rest)) = path.split_first() else {
         return if at_key { spot.key } else { spot.value };
     };

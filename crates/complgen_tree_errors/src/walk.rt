@@ -6,9 +6,7 @@ ghost use Rattle.complgen_tree_file.specs.CommandForm as form;
 ghost use Rattle.complgen_tree_file.specs.Faults.{FindsUnless, is_nil};
 
 use complgen_json::{Value, member};
-use complgen_tree_file::{
-    Fault, FaultKind, Faults, ObjectKind, Step, ValueKind, command_faults,
-};
+use complgen_tree_file::{Fault, FaultKind, Faults, ObjectKind, Step, ValueKind, command_faults};
 use std::alloc::{AllocError, Global};
 
 /// Returns what is wrong with `tree` as a tree of commands; nothing exactly if it describes a
