@@ -1,8 +1,8 @@
 //! Findings as JSON objects.
 
-ghost use Rattle.std.specs.Prelude.{◌≡◌, IfOk, Some};
+ghost use Rattle.std.specs.Prelude.{◌≡◌, IfOk, Some, decimal};
+ghost use Rattle.std.specs.String.{string_bytes};
 ghost use Rattle.json.specs.Json.{document};
-ghost use Rattle.json.specs.Print.{IsNumber};
 ghost use Rattle.json.specs.Value.{value_view};
 ghost use Rattle.complgen_check.specs.Objects.{finding_json, finding_object, object_with};
 
@@ -27,9 +27,16 @@ pub(crate) fn object(
         document text.items ≡ Some (finding_json lines.now finding.now)) }
 {
     let (line, column) = lines.line_and_column(finding.offset);
-    let (line, column) = (line.to_string(alloc)?, column.to_string(alloc)?);
-    let value = value(alloc, line.as_str(), column.as_str(), finding)?;
-    to_vec(alloc, &value)
+    let line_digits = digits(alloc, line)?;
+    let column_digits = digits(alloc, column)?;
+    let object = value(alloc, line_digits.as_str(), column_digits.as_str(), finding)?;
+    to_vec(alloc, &object)
+}
+
+fn digits(alloc: Global, number: usize) -> Result<String, AllocError>
+    ensures { IfOk result (λ digits. string_bytes digits ≡ decimal number) }
+{
+    format!(in alloc; "{number}")
 }
 
 // Returns the object with these numbers, which are written as text.
