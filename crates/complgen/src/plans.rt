@@ -5,7 +5,7 @@ use crate::output::{buffered, flush};
 use cc_base::Sink;
 use cc_paths::{Folder, RealFolder};
 use cc_replies::home;
-use complgen_check::check;
+use complgen_check::{Report, check};
 use complgen_commands::{Plan, Refusal, TreeFile, run, scripts, unreadable};
 use std::convert::AsStr;
 use std::env::Env;
@@ -45,12 +45,13 @@ fn write_plan<R: Files + AllocGlobal, D: Folder, W: Sink>(
 ) -> Result<u8, Refusal> {
     let alloc = rt.alloc();
     match plan {
-        Plan::Check { bin, json: _, tree } => {
+        Plan::Check { bin, json, tree } => {
             if file.is_none() {
                 return Err(unreadable(alloc, tree.as_str()));
             }
             let bin = bin.as_ref().map(|bin| bin.as_str());
-            let is_clean = check(alloc, bin, file, out)?;
+            let report = if *json { Report::Json } else { Report::Lines };
+            let is_clean = check(alloc, bin, report, file, out)?;
             Ok(u8::from(!is_clean))
         }
         Plan::Scripts { bin, out_dir, tree } => {

@@ -8,7 +8,7 @@ use cc_env::{CompleteEnv, EnvCompleter};
 use cc_paths::MemoryFolder;
 use cc_quote::posix_word;
 use cc_replies::EnvValues;
-use complgen_check::check;
+use complgen_check::{Report, check};
 use complgen_command_line::plan;
 use complgen_commands::{Plan, Refusal, run, unreadable};
 use complgen_tree_file::read_tree;
@@ -121,12 +121,13 @@ fn carry_out(
     let plan = plan(alloc, words)?;
     let file = document.tree(plan.tree());
     match &plan {
-        Plan::Check { bin, json: _, tree } => {
+        Plan::Check { bin, json, tree } => {
             if file.is_none() {
                 return Err(unreadable(alloc, tree.as_str()));
             }
             let bin = bin.as_ref().map(|bin| bin.as_str());
-            let is_clean = check(alloc, bin, file, out)?;
+            let report = if *json { Report::Json } else { Report::Lines };
+            let is_clean = check(alloc, bin, report, file, out)?;
             Ok(u8::from(!is_clean))
         }
         Plan::Scripts { .. } => Ok(3),
