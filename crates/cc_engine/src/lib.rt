@@ -3,9 +3,11 @@
 
 mod candidates;
 mod completion;
-mod folder_paths;
+mod lookup;
 mod offered_lists;
 mod open_lists;
 mod sources;
 
-pub use crate::completion::complete;
+pub use crate::completion::{complete, complete_from};
+pub use crate::lookup::Lookup;
+pub use crate::sources::Sources;

@@ -10,7 +10,7 @@ use crate::parts::split_at_delimiter;
 use crate::possible::candidates_beginning;
 use cc_arg::{Arg, ValueHint, possible_values};
 use cc_base::CandidateSources;
-use cc_candidates::{Completers, CompletionCandidate, retain_beginning_with, sort_candidates};
+use cc_candidates::{CompletionCandidate, retain_beginning_with, sort_candidates};
 use std::alloc::{AllocError, Global};
 
 /// A source of paths: a folder, read from where a program runs. It fails only where memory runs
@@ -29,20 +29,24 @@ pub trait PathSource {
         ensures { IfOk result (λ found. finds self.now hint text.now found.items) };
 }
 
-/// The candidates for a word that is the value of this number, counted from 0, in one use of an
-/// argument. The text up to the last delimiter of the word stays before each value, and a
-/// candidate without a tag gets the printed form of the argument. Fails where memory runs out.
-pub fn arg_values<P: PathSource>(
+/// Returns the candidates for `word`, which is value number `number`, counted from 0, in one use of
+/// `argument`. They come from `completers` and `paths`. The text up to the last delimiter of the
+/// word stays before each value, and a candidate without a tag gets the printed form of the
+/// argument.
+///
+/// # Errors
+///
+/// `AllocError` if an allocation fails.
+pub fn arg_values<C: CandidateSources<Candidate = CompletionCandidate>, P: PathSource>(
     alloc: Global,
     argument: &Arg,
     word: &str,
     number: usize,
-    completers: &Completers,
+    completers: &C,
     paths: &P,
 ) -> Result<Vec<CompletionCandidate>, AllocError>
-    ensures { IfOk result (λ found. ArgumentValues (returned_by
-        ⟦<Completers as CandidateSources>⟧.may_complete ⟦<Completers as CandidateSources>⟧.may_list
-        completers.now (P.finds paths.now))
+    ensures { IfOk result (λ found. ArgumentValues
+        (returned_by C.may_complete C.may_list completers.now (P.finds paths.now))
         argument.now word.now number found.items) }
 {
     let (before, part) = split_at_delimiter(word, argument.get_value_delimiter());
@@ -50,18 +54,17 @@ pub fn arg_values<P: PathSource>(
     as_values(alloc, argument, before, found)
 }
 
-// The candidates for a text without a delimiter.
-fn gather<P: PathSource>(
+// Returns the candidates for a text without a delimiter.
+fn gather<C: CandidateSources<Candidate = CompletionCandidate>, P: PathSource>(
     alloc: Global,
     argument: &Arg,
     part: &str,
     number: usize,
-    completers: &Completers,
+    completers: &C,
     paths: &P,
 ) -> Result<Vec<CompletionCandidate>, AllocError>
-    ensures { IfOk result (λ found. Gathers (returned_by
-        ⟦<Completers as CandidateSources>⟧.may_complete ⟦<Completers as CandidateSources>⟧.may_list
-        completers.now (P.finds paths.now))
+    ensures { IfOk result (λ found. Gathers
+        (returned_by C.may_complete C.may_list completers.now (P.finds paths.now))
         argument.now number part.now found.items) }
 {
     if let Some(completer) = argument.get_completer() {
