@@ -1,4 +1,4 @@
--- What completers, lists and a folder may return.
+-- The lists that completers, lists of candidates and a folder may return.
 use Rattle.std.specs.Prelude.{ℕ, List, Option}
 use Rattle.cc_base.specs.declared.sources.CandidateSources.{Ghosts}
 use Rattle.cc_candidates.specs.declared.candidate.CompletionCandidate.{CompletionCandidate}
@@ -6,8 +6,8 @@ use Rattle.cc_engine.specs.Paths.{PathsOf}
 use Rattle.cc_gather.specs.Values.{MayReturn, returned_by}
 use Rattle.cc_paths.specs.Folders.{FolderFacts}
 
--- what may be returned by these completers and lists, and of the paths in a folder of which this is
--- so, where relative paths begin at a directory
+-- the lists that these completers and lists, and a folder with these facts, may return, if relative
+-- paths begin at this directory
 abbrev pub returned_from : {C : Type 0} → Ghosts C CompletionCandidate → C → FolderFacts
     → Option (List ℕ) → MayReturn
 returned_from members completers facts current =

@@ -1,4 +1,4 @@
-//! The list that is offered for a word.
+//! The list of candidates that is offered for a word.
 
 ghost use Rattle.std.specs.Prelude.{◌≡◌, ◌++◌, nat_le, IfOk, if◌then◌else◌};
 ghost use Rattle.cc_gather.specs.Finished.{finish};
@@ -58,7 +58,7 @@ fn finish_values(
     finish(alloc, values)
 }
 
-// Returns what is offered besides the values of an open option: the offered lists, one after
+// Returns what is offered in addition to the values of an open option: the offered lists, one after
 // another.
 fn besides_open_option<L: Lookup>(
     alloc: Global,

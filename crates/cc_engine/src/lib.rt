@@ -1,4 +1,24 @@
 //! The candidates for a word of a command line.
+//!
+//! A [`Lookup`] finds the candidates that a command does not hold. [`Sources`] looks in a folder and
+//! in completers:
+//!
+//! ```rattle
+//! fn candidates(
+//!     alloc: Global,
+//!     command: &mut Command,
+//!     words: Vec<String>,
+//! ) -> Result<Vec<CompletionCandidate>, Error> {
+//!     let folder = MemoryFolder::new(&[], &[]);
+//!     let completers = Completers::none(alloc);
+//!     let sources = Sources {
+//!         current_dir: None,
+//!         folder: &folder,
+//!         completers: &completers,
+//!     };
+//!     complete_from(alloc, command, words, 1, &sources)
+//! }
+//! ```
 #![tactic(auto)]
 
 mod candidates;

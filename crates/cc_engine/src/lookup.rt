@@ -1,4 +1,4 @@
-//! What live completion looks at besides the command and the words.
+//! The source of the candidates that a command does not hold.
 
 ghost use Rattle.std.specs.Prelude.{◌≡◌, ℕ, List, Option, IfOk, true};
 ghost use Rattle.std.specs.Option.{option_copied};
@@ -10,8 +10,8 @@ use cc_candidates::CompletionCandidate;
 use cc_command::Command;
 use std::alloc::{AllocError, Global};
 
-/// What live completion looks at besides the command and the words: where relative paths begin, and
-/// what offers candidates that the command does not hold. `Sources` is the usual one.
+/// Finds the candidates that a command does not hold, and knows where relative paths begin.
+/// `Sources` is the usual implementation.
 pub trait Lookup {
     // what completers, lists and folders may return
     ghost may_return: { Self → MayReturn };

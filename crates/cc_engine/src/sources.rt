@@ -14,7 +14,7 @@ use cc_gather::{PathSource, arg_values};
 use cc_paths::{EveryPath, Folder, IsDir, IsExecutable, IsFile, path_candidates};
 use std::alloc::{AllocError, Global};
 
-/// Where candidates come from that the command does not hold.
+/// A folder and completers, in which live completion looks for candidates.
 ///
 /// The values of an argument come from its completer. Without one they come from its list, then from
 /// its possible values, then from its value hint, by the paths in a folder. Arguments and commands
@@ -30,8 +30,7 @@ pub struct Sources<'a, D, C> {
 }
 
 impl<'a, D: Folder, C: CandidateSources<Candidate = CompletionCandidate>> Lookup
-    for Sources<'a, D, C>
-{
+    for Sources<'a, D, C> {
     ghost may_return = { λ sources. returned_from C.CandidateSources sources.completers.now
         (D.facts sources.folder.now) (option_copied sources.current_dir) };
 
