@@ -2,7 +2,7 @@ use Rattle.std.proofs.Common.{ap}
 use Rattle.std.specs.Prelude.{map, string_bytes}
 use Rattle.cc_engine.proofs.Laws.{candidates_differ}
 use Rattle.cc_engine.proofs.Completing.{completes_words}
-use Rattle.cc_engine.proofs.completion.complete.Goals as goal
+use Rattle.cc_engine.proofs.completion.complete_from.Goals as goal
 
 pub returns-clause-candidates : goal.returns-clause-candidates
 returns-clause-candidates g c =

@@ -3,7 +3,7 @@ use Rattle.std.proofs.lemmas.Result.{err_from_is_err_and}
 use Rattle.cc_env.specs.Wanted.{wanted_name}
 use Rattle.cc_env.specs.Steps.{nothing_written}
 use Rattle.cc_env.proofs.Ending.{ends_unwritten, ends_written, tries_known}
-use Rattle.cc_env.proofs.complete_env.CompleteEnv.try_complete.Goals as goal
+use Rattle.cc_env.proofs.complete_env.CompleteEnv.try_complete_from.Goals as goal
 
 pub returns-in_err-text : goal.returns-in_err-text
 returns-in_err-text g c =
