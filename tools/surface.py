@@ -18,7 +18,8 @@ import sys
 import common
 
 GENERATOR = "generate try_generate file_name"
-ADAPTER = "name is write_registration write_complete"
+# `write_complete` is a call of the trait, which each adapter inherits.
+ADAPTER = "name is write_registration write_complete_from"
 CALLS = {
     "": """
         Error: ; Shell: ; ValueHint: ; CompletionCandidate: ; ArgValueCompleter: ; PathCompleter:
@@ -83,7 +84,7 @@ CALLS = {
         possible_value_candidates ; complete_possible_values
     """,
     "env": f"""
-        EnvValues: new get ; EnvCompleter: {ADAPTER} ; Bash: {ADAPTER} ; Elvish: {ADAPTER}
+        EnvValues: new get ; EnvCompleter: {ADAPTER} write_complete ; Bash: {ADAPTER} ; Elvish: {ADAPTER}
         Fish: {ADAPTER} ; Powershell: {ADAPTER} ; Zsh: {ADAPTER} ; Builtin: {ADAPTER}
         SafeShell: new write_registrations {ADAPTER} ; Shells: builtins safe completer names iter
         CompleteEnv: with_factory safe var bin completer shells try_complete ; is_plain_path
