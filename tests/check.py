@@ -34,7 +34,7 @@ import common
 
 LINE = re.compile(r"(\d+):(\d+): (error|warning|note): (the file|[^ ]+): (.*)")
 STEP = re.compile(r"([^.\[\]]+)|\[(\d+)\]")
-ABOUT_KEY = re.compile(r"an? [a-z ]+ has no key `|the key `.*` stands twice|duplicate key `")
+ABOUT_KEY = re.compile(r"an? [a-z ]+ has no key `|duplicate key `")
 BLANK = " \t\r\n"
 
 # A value in a text: its beginning and its contents.

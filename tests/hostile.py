@@ -48,6 +48,7 @@ REFUSALS = {
             "invalid variant: .*", "tree: unreadable", "tree: not JSON", "tree: bad form",
             "two commands share the label .*", UNKNOWN_SHELL, "no completion generated",
             "complgen: .*: tree: not JSON", r"complgen: .*: tree: bad form \(run complgen check .*\)",
+            ".*: tree: unreadable", r".*: tree: (not JSON|bad form) \(run complgen check .*\)",
         ],
         2: ["index: bad number", "words: not UTF-8", "error: .*"],
     },
@@ -62,8 +63,8 @@ REFUSALS = {
     },
 }
 
-# The text for tree files whose names are not plain.
-PASSED_OVER = r"complgen: tree files passed over, whose names are not plain: [0-9]+\n"
+# What is printed where names of tree files are not plain.
+PASSED_OVER = r"complgen: tree files skipped because their names are not plain: [0-9]+\n"
 
 # A line of `complgen check`.
 FINDING = r"[0-9]+:[0-9]+: (error|warning|note): .*: .*"

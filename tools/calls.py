@@ -150,7 +150,16 @@ def block(lines):
 def fields(item):
     """Returns the variants of an enum, or the public fields of a struct."""
     if item.kind == "enum":
-        names = re.findall(r"^    (\w+(?:\([^)]*\))?),$", "\n".join(item.lines), re.MULTILINE)
+        names = []
+        for line in item.lines:
+            if found := re.match(r"    (\w+(?:\([^)]*\))?),$", line):
+                names.append(found[1])
+            elif found := re.match(r"    (\w+) \{$", line):
+                names.append(found[1] + " { ")
+            elif found := re.match(r"        (\w+: .*),$", line):
+                names[-1] += found[1] + ", "
+            elif line == "    },":
+                names[-1] = names[-1].rstrip(", ") + " }"
         text = f"enum {item.name} {{ {', '.join(names)} }}"
         return textwrap.wrap(text, 96, subsequent_indent="    ", break_on_hyphens=False)
     if re.match(r"pub struct .*\(pub ", item.lines[0]):

@@ -18,7 +18,8 @@ import sys
 import common
 
 GENERATOR = "generate try_generate file_name"
-ADAPTER = "name is write_registration write_complete"
+# `write_complete` is a call of the trait, which each adapter inherits.
+ADAPTER = "name is write_registration write_complete_from"
 CALLS = {
     "": """
         Error: ; Shell: ; ValueHint: ; CompletionCandidate: ; ArgValueCompleter: ; PathCompleter:
@@ -83,7 +84,7 @@ CALLS = {
         possible_value_candidates ; complete_possible_values
     """,
     "env": f"""
-        EnvValues: new get ; EnvCompleter: {ADAPTER} ; Bash: {ADAPTER} ; Elvish: {ADAPTER}
+        EnvValues: new get ; EnvCompleter: {ADAPTER} write_complete ; Bash: {ADAPTER} ; Elvish: {ADAPTER}
         Fish: {ADAPTER} ; Powershell: {ADAPTER} ; Zsh: {ADAPTER} ; Builtin: {ADAPTER}
         SafeShell: new write_registrations {ADAPTER} ; Shells: builtins safe completer names iter
         CompleteEnv: with_factory safe var bin completer shells try_complete ; is_plain_path
@@ -96,8 +97,8 @@ CALLS = {
         with_alias
     """,
     "program": "run ; end ; completes ; variables ; words ; home ; Failure:",
-    "crate complgen_command_line": "plan ; Plan: ; Refusal:",
-    "crate complgen_commands": "run",
+    "crate complgen_command_line": "plan",
+    "crate complgen_commands": "run ; Plan: ; Refusal:",
     "crate complgen_tree_file": "read_tree ; TreeError:",
 }
 

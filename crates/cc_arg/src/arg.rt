@@ -553,6 +553,14 @@ pub fn possible_values(argument: &Arg) -> Option<&[PossibleValue]>
     if !argument.takes_values() {
         return None;
     }
+    listed_values(argument)
+}
+
+/// Returns the list of possible values that was given, also if the argument takes no values. A free
+/// function, since `clap` has no such getter.
+pub fn listed_values(argument: &Arg) -> Option<&[PossibleValue]>
+    ensures { option_copied result ≡ argument.now.possible_values }
+{
     argument
         .parts
         .possible_values

@@ -29,7 +29,7 @@ pub use crate::action::ArgAction;
 pub use crate::aliases::{LongAndVisibleAliases, ShortAndVisibleAliases};
 pub use crate::arg::{
     Arg, conflicting_ids, copy_of, counted_range, fill_display_order, fill_index,
-    fill_range_and_action, possible_values,
+    fill_range_and_action, listed_values, possible_values,
 };
 pub use crate::names::{ShownName, ShownNames, shown_longs, shown_names, shown_shorts};
 pub use crate::parts::ArgParts;

@@ -15,12 +15,13 @@ mod plain;
 mod quiet;
 mod settings;
 
-pub use crate::command::build::build_as;
+pub use crate::command::build::{build_as, has_id, lacks_index};
 pub use crate::command::builders::{add_argument, add_child};
 pub use crate::command::conflicts::first_with_id;
 pub use crate::command::escaped::unescaped_quote;
 pub use crate::command::getters::{contains_name, full_name, has_name};
 pub use crate::command::iterators::{Arguments, NameAndVisibleAliases};
+pub use crate::command::plain::has_no_quote;
 pub use crate::command::quiet::is_quiet_value;
 use crate::node::Node;
 use cc_base::Text;

@@ -1,4 +1,4 @@
--- What is offered begins with the word, or comes from a completer or a folder.
+-- Each candidate begins with the word, or comes from a completer or a folder.
 use Rattle.std.proofs.Common.{◌≡◌, ◌⊎◌, ◌∙◌, ap, inl, inr, refl, subst, sym, zero, suc, ℕ, List, [], ◌∷◌, ◌++◌, append_assoc}
 use Rattle.std.specs.Prelude.{Bool, true, false, Option, Some, None, Contains, IsUtf8, ◌==◌, chars, codes, encode_utf8, encode_utf8_all, filter, find, flat_map, get_or, map, nat_eq, nat_le, string_bytes, if◌then◌else◌}
 use Rattle.std.specs.List.{AllByRecursion, dedup, starts_with}

@@ -1,4 +1,4 @@
--- What is offered where the words lead.
+-- The candidates that are offered at the node to which the words lead.
 use Rattle.std.proofs.Common.{◌≡◌, subst, ℕ, List, []}
 use Rattle.std.specs.Prelude.{IsUtf8, get_or}
 use Rattle.cc_candidates.specs.declared.candidate.CompletionCandidate.{CompletionCandidate}
@@ -12,7 +12,7 @@ use Rattle.cc_engine.proofs.Begins.{begins_or_is_completed}
 use Rattle.cc_engine.proofs.Laws.{is_sorted, shows_visible}
 use Rattle.cc_engine.proofs.OneFinishing.{finishes_once}
 
--- where none of the words is a hidden alias at the node where it is read, the walk by visible names ends at this node
+-- if none of the words is a hidden alias at the node that reads it, the walk by visible names ends at this node
 abbrev EndsVisibly : Tree → List (List ℕ) → Tree → Type 0
 EndsVisibly top before node = HasNoHiddenAlias top before → node ≡ visible_end top before
 

@@ -1,4 +1,4 @@
--- What is offered for a word, on small trees.
+-- The candidates for a word, on small trees.
 use Rattle.std.proofs.Common.{◌≡◌, ℕ, List, [], ◌∷◌, Some, codes, map, true, false, refl}
 use Rattle.std.specs.Prelude.{⊤}
 use Rattle.std.specs.Path.{path_file_name, path_join, split_last_component, trim_trailing}

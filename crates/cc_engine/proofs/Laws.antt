@@ -1,4 +1,4 @@
--- What is so of every result.
+-- The laws that every result keeps.
 use Rattle.std.proofs.Common.{◌≡◌, ◌∙◌, refl, subst, sym, ℕ, List, [], ◌++◌}
 use Rattle.std.specs.Prelude.{Bool, true, false, ◌||◌, get_or}
 use Rattle.std.specs.List.{list_any}
@@ -26,7 +26,7 @@ candidates_differ sources root words index found completes =
 
 -- WHERE A VISIBLE ONE IS GATHERED, NO HIDDEN ONE IS RETURNED
 
--- a visible one of either list is left where the second is finished
+-- if either list has a visible candidate, one is left after the second list is finished
 any_after : (opened others : Candidates) → list_any is_shown (opened ++ others) ≡ true → list_any is_shown (opened ++ finish others) ≡ true
 any_after opened others e =
     list_any-append is_shown opened (finish others)

@@ -1,4 +1,4 @@
--- What is offered at a node, from the lists that are gathered there.
+-- The candidates at a node, from the lists that are gathered there.
 use Rattle.std.proofs.Common.{◌≡◌, ◌∙◌, ap, refl, subst, sym, ℕ, List, [], ◌++◌}
 use Rattle.std.specs.Prelude.{nat_le, if◌then◌else◌}
 use Rattle.cc_arg.specs.declared.parts.ArgParts.{ArgParts as Arg}
@@ -13,7 +13,7 @@ use Rattle.cc_engine.specs.declared.open_lists.OpenLists.{OpenLists}
 use Rattle.cc_engine.specs.Completion.{AreOffered, Offers, finished_last, open_question}
 use Rattle.cc_engine.specs.OpenLists.{least, open_lists_by}
 
--- of a list for the open option and what is offered besides
+-- from a list for the open option and the other lists
 together : (sources : MayReturn) (tree : Tree) (state : State) (word : List ℕ) (opened besides found : List CompletionCandidate)
     → AreOffered sources tree state.position (open_lists_by tree.node.arguments state.position state.escaped state.pending) word besides
     → Allows sources (open_question state.pending word) opened
@@ -30,7 +30,7 @@ together sources tree state word opened besides found offered allowed is = (
   is ∙ ap (λ besides. finish (finished_last state.pending word opened besides)) offered.is,
 )
 
--- where no option is open
+-- if no option is open
 pub without_option : (sources : MayReturn) (tree : Tree) (state : State) (word : List ℕ) (lists : OpenLists) (besides found : List CompletionCandidate)
     → lists ≡ open_lists_by tree.node.arguments state.position state.escaped state.pending
     → AreOffered sources tree state.position lists word besides
@@ -48,7 +48,7 @@ without_option sources tree state word lists besides found made offered closed i
     besides_alone (OptionOpen option count) h = absurd (h option count refl)
     besides_alone _ h = refl
 
--- where an option is open
+-- if an option is open
 pub with_option : (sources : MayReturn) (tree : Tree) (state : State) (word : List ℕ) (lists : OpenLists) (option wanted counted : Arg) (count : ℕ) (vals besides found : List CompletionCandidate)
     → lists ≡ open_lists_by tree.node.arguments state.position state.escaped state.pending
     → AreOffered sources tree state.position lists word besides

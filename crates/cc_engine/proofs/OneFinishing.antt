@@ -1,4 +1,4 @@
--- One finishing of the values of an open option and of what is offered besides.
+-- The values of an open option and the other lists, finished once.
 use Rattle.std.proofs.Common.{◌≡◌, ◌∙◌, ap, refl, subst, sym, ℕ, List, [], ◌++◌}
 use Rattle.std.proofs.lemmas.List.{append-nil}
 use Rattle.std.specs.Prelude.{Bool, true, false, Option, Some, None, nat_le, if◌then◌else◌}
@@ -20,7 +20,7 @@ no_values : (positional : Option Arg) (word : List ℕ) (returned : List Complet
 no_values None word returned = refl
 no_values (Some argument) word returned = refl
 
--- where no list is open nothing is offered
+-- if no list is open, nothing is offered
 pub nothing_offered : (tree : Tree) (position : ℕ) (word : List ℕ) (returned : Returned) → offered tree position none_open word returned ≡ []
 nothing_offered tree position word returned =
     append-nil (positional_values (positional_at tree.node.arguments position) None word returned.positional)
@@ -30,7 +30,7 @@ nothing_offered tree position word returned =
 -- the list whose finishing is offered to all that is gathered.
 module _ (R : List CompletionCandidate → List CompletionCandidate → Type 0) (same : (xs : List CompletionCandidate) → R xs xs)
     (tree : Tree) (position : ℕ) (escaped : Bool) (word : List ℕ) (returned : Returned) where
-  -- beside an option that has enough values or too few
+  -- with an option that has enough values or too few
   abbrev beside : Bool → List CompletionCandidate
   beside enough = offered tree position (if enough then all_open escaped else none_open) word returned
 

@@ -1,5 +1,5 @@
--- What is offered for the word at an index: from which sources candidates come, and the list that
--- is made of what these return.
+-- The candidates that are offered for the word at an index: the sources from which they come, and
+-- the list that consists of what these return.
 use Rattle.std.specs.Prelude.{ℕ, List, [], ◌++◌, map, take, drop, get_or, ◌≡◌, ◌⊎◌, ◌&&◌, nat_le, nat_lt, Bool, false, true, Contains, Option, Some, None, if◌then◌else◌}
 use Rattle.std.specs.List.{list_any, AllByRecursion}
 use Rattle.cc_arg.specs.declared.parts.ArgParts.{ArgParts as Arg}
@@ -84,7 +84,7 @@ open_question _ word = nothing
 
 -- THE WORD
 
--- what is wanted for a word: for the children, the positional, a value within an option's word, the
+-- the questions for a word: for the children, the positional, a value within an option's word, the
 -- open option
 pub record Questions : Type 0 where
   pub children : Question
@@ -107,7 +107,7 @@ pub record AreAllowed (sources : MayReturn) (wanted : Questions) (returned : Ret
   pub within : Allows sources wanted.within returned.within
   pub opened : Allows sources wanted.opened returned.opened
 
--- what is wanted for the offered lists
+-- the questions for the offered lists
 abbrev pub questions_of_lists : Tree → ℕ → OpenLists → Pending → List ℕ → Questions
 questions_of_lists tree position lists pending word = record {
   children = children_question lists.children tree.node;
@@ -116,7 +116,7 @@ questions_of_lists tree position lists pending word = record {
   opened = open_question pending word;
 }
 
--- what is wanted for the word at a node, where the words before it lead to this state
+-- the questions for the word at a node, if the words before it lead to this state
 abbrev pub questions : Tree → State → List ℕ → Questions
 questions tree state word =
     questions_of_lists tree state.position
@@ -131,8 +131,9 @@ offered tree position lists word returned =
     (positional_at tree.node.arguments position) lists.value word returned.positional)
     ++ match_candidates (offered_match lists.options tree.node.arguments word) returned.within
 
--- the list whose finishing is offered: the values of an option that has too few alone; those of one
--- that may end here, and after them what is offered besides, finished; else what is offered besides
+-- The list whose finishing is offered. If an open option has too few values: its values alone. If
+-- it may end here: its values, and then the other lists, finished. Without an open option: the
+-- other lists.
 abbrev pub finished_last : Pending → List ℕ → List CompletionCandidate → List CompletionCandidate
     → List CompletionCandidate
 finished_last (OptionOpen option count) word returned besides =
@@ -140,13 +141,13 @@ finished_last (OptionOpen option count) word returned besides =
     else values option word returned
 finished_last _ word returned besides = besides
 
--- what is offered besides the values of an open option
+-- what is offered in addition to the values of an open option
 abbrev pub besides : Tree → State → List ℕ → Returned → List CompletionCandidate
 besides tree state word returned =
     offered tree state.position
     (open_lists_by tree.node.arguments state.position state.escaped state.pending) word returned
 
--- what is offered for the word, where these lists are returned
+-- the candidates that are offered for the word, if these lists are returned
 abbrev pub candidates_for : Tree → State → List ℕ → Returned → List CompletionCandidate
 candidates_for tree state word returned =
     finish (finished_last state.pending word returned.opened (besides tree state word returned))
@@ -174,25 +175,26 @@ pub record AreOffered (sources : MayReturn) (tree : Tree) (position : ℕ) (list
 
 -- WHAT IS SO OF THE RESULT
 
--- the values of an open option; none where no option is open
+-- the values of an open option; none if no option is open
 abbrev pub opened_values : Pending → List ℕ → List CompletionCandidate → List CompletionCandidate
 opened_values (OptionOpen option count) word returned = values option word returned
 opened_values _ word returned = []
 
--- all that is gathered for the word: the values of an open option, and what is offered besides
+-- all that is gathered for the word: the values of an open option, and what is offered with them
 abbrev pub all_gathered : Tree → State → List ℕ → Returned → List CompletionCandidate
 all_gathered tree state word returned =
     opened_values state.pending word returned.opened ++ besides tree state word returned
 
--- where the values of an open option share no id with what is offered besides, all is finished once
+-- if the values of an open option share no id with what is offered with them, all is finished once
 abbrev pub FinishesOnce : Tree → State → List ℕ → Returned → List CompletionCandidate → Type 0
 FinishesOnce tree state word returned result =
     ShareNone (opened_values state.pending word returned.opened) (besides tree state word returned)
     → result ≡ finish (all_gathered tree state word returned)
 
--- The result is sorted: of those candidates the visible ones if any is, and of each id the first,
--- by the rank of their tags and then by display order; those that tie keep their order. What is
--- offered besides the values of an open option is sorted so before it comes after them.
+-- The result is sorted. It has the visible candidates if any is visible, and the first of each id.
+-- They are sorted by the rank of their tags and then by display order, and ties keep their order.
+-- The lists that are offered with the values of an open option are sorted so before they come after
+-- these.
 abbrev pub IsSorted : Tree → State → List ℕ → Returned → List CompletionCandidate → Type 0
 IsSorted tree state word returned result =
     AreGrouped (first_of_ids (shown_or_all
@@ -205,13 +207,13 @@ abbrev pub ShowsVisible : Tree → State → List ℕ → Returned → List Comp
 ShowsVisible tree state word returned result =
     list_any is_shown (all_gathered tree state word returned) ≡ true → AreShown result
 
--- what is made of the list of a completer or a folder; nothing of any other list
+-- the candidates that come from the list of a completer or a folder; none from any other list
 abbrev pub completed : Question → List CompletionCandidate → List CompletionCandidate
 completed (completer which number text) found = found
 completed (paths hint text) found = found
 completed _ found = []
 
--- all that is made of the lists of completers and of the folder, where these lists are offered
+-- the candidates that come from the lists of completers and of the folder, if these are offered
 abbrev pub completed_by_lists : Tree → ℕ → OpenLists → Pending → List ℕ → Returned
     → List CompletionCandidate
 completed_by_lists tree position lists pending word returned =
@@ -229,7 +231,7 @@ completed_candidates tree state word returned =
     (open_lists_by tree.node.arguments state.position state.escaped state.pending)
     state.pending word returned
 
--- each candidate of the result begins with the word, or is made of the list of a completer or of
+-- each candidate of the result begins with the word, or comes from the list of a completer or of
 -- the folder
 abbrev pub BeginsOrIsCompleted : Tree → State → List ℕ → Returned → List CompletionCandidate
     → Type 0
@@ -251,10 +253,10 @@ is_in_range node count index = nat_le (names_before node) index && nat_lt index 
 abbrev pub words_before : Node → List (List ℕ) → ℕ → List (List ℕ)
 words_before node words index = drop (names_before node) (take index words)
 
--- What may be offered for the word at the index: the words before it lead to one node and one
--- state, to no others, and the list is one that may be offered there. Where none of those words is
--- a hidden alias at the command where it is read, the node is that of the walk by visible names.
--- The laws speak of this node and state, and of the very lists of which the result is made.
+-- The lists that may be offered for the word at the index. The words before it lead to one node and
+-- one state, and to no others, and the result is a list that may be offered there. If none of those
+-- words is a hidden alias at the command that reads it, the node is that of the walk by visible
+-- names. The laws are about this node and state, and about the very lists that make the result.
 pub record Completes (sources : MayReturn) (root : Tree) (words : List (List ℕ)) (index : ℕ)
     (result : List CompletionCandidate) : Type 0 where
   pub tree : Tree
@@ -269,8 +271,8 @@ pub record Completes (sources : MayReturn) (root : Tree) (words : List (List ℕ
   pub shows_visible : ShowsVisible tree state (get_or words index []) offers.0 result
   pub begins_or_completed : BeginsOrIsCompleted tree state (get_or words index []) offers.0 result
 
--- How a call that builds the tree and finds no candidates ends: out of memory, with the tree as it
--- was or built; or with the tree built and the index out of range.
+-- How a call ends that builds the tree and finds no candidates: out of memory, with the tree as it
+-- was, or built; or with the tree built and the index out of range.
 abbrev pub Refuses : Tree → Tree → ℕ → ℕ → Error → Type 0
 Refuses old new count index Memory = (new ≡ old) ⊎ (new ≡ built_tree old)
 Refuses old new count index NoCompletion =

@@ -1,3 +1,4 @@
 pub mod Completion
 pub mod OpenLists
 pub mod Paths
+pub mod Sources

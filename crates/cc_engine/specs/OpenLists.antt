@@ -1,4 +1,4 @@
--- Which lists the words before the index leave open to the word there.
+-- The lists that the words before the index leave open to the word there.
 use Rattle.std.specs.Prelude.{ℕ, List, Bool, false, true, not, ◌&&◌, nat_le, Option, Some, None, if◌then◌else◌}
 use Rattle.cc_arg.specs.declared.parts.ArgParts.{ArgParts as Arg}
 use Rattle.cc_arg.specs.Arguments.{range_of}
@@ -11,7 +11,7 @@ use Rattle.cc_engine.specs.declared.open_lists.OpenLists.{OpenLists}
 abbrev pub least : Arg → ℕ
 least argument = (range_of argument).least
 
--- the positional, where there is one, needs no more values than these
+-- the positional, if there is one, needs no more values than these
 abbrev pub has_enough : Option Arg → ℕ → Bool
 has_enough None count = true
 has_enough (Some argument) count = nat_le (least argument) count
@@ -24,10 +24,9 @@ none_open = record { children = false; value = None; options = false }
 abbrev pub all_open : Bool → OpenLists
 all_open escaped = record { children = true; value = Some 0; options = not escaped }
 
--- After a run of values the next value of the positional, and the options where no `--` was read
--- and the run is long enough; right after the last value of a positional that `--` precedes, the
--- first value of the next one alone; beside the values of an open option all that is offered
--- without one, where the option has enough values.
+-- After a run of values: the next value of the positional, and the options if no `--` was read and
+-- the run is long enough. Right after the last value of a positional that `--` precedes: the first
+-- value of the next one alone. With an open option: all lists, if the option has enough values.
 abbrev pub open_lists_by : List Arg → ℕ → Bool → Pending → OpenLists
 open_lists_by arguments position escaped Nothing = all_open escaped
 open_lists_by arguments position escaped (PositionalRun count) = record {

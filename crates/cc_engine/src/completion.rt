@@ -4,46 +4,41 @@ ghost use Rattle.std.specs.Prelude.{◌≡◌, ◌<◌, [], get_or, length, map,
 ghost use Rattle.std.specs.Option.{option_copied};
 ghost use Rattle.cc_command.specs.Built.{built_tree};
 ghost use Rattle.cc_engine.specs.Completion.{Completes, Refuses, is_in_range, names_before, words_before};
-ghost use Rattle.cc_engine.specs.Paths.{PathsOf};
+ghost use Rattle.cc_engine.specs.Sources.{returned_from};
 ghost use Rattle.cc_gather.specs.Finished.{Differ};
-ghost use Rattle.cc_gather.specs.Values.{returned_by};
 
 use crate::candidates::offer_candidates;
-use crate::folder_paths::FolderPaths;
+use crate::lookup::Lookup;
 use crate::sources::Sources;
 use cc_base::{CandidateSources, Error};
 use cc_candidates::{Completers, CompletionCandidate};
 use cc_command::Command;
 use cc_flat::Flat;
-use cc_gather::PathSource;
 use cc_paths::Folder;
 use cc_walk::walk;
 use std::alloc::{AllocError, Global};
 
-/// The candidates for the word at the index, counted from 0, of a command that is built first.
+/// Returns the candidates for the word at `index`, counted from 0, of a command line of `command`,
+/// which is built first. They come from `command` and from what `lookup` finds.
 ///
-/// The words are those of a command line, the program's name first unless `no_binary_name` is set.
-/// The values of an argument come from its completer, else its list, else its possible values, else
-/// its value hint, which is completed from the folder and the current folder. Completers and lists
-/// are named by their numbers, as are those of the names of other programs.
+/// The `words` are those of the command line, the program's name first unless `no_binary_name` is
+/// set.
 ///
-/// Where a candidate is visible, hidden ones are left out; of several with one id the first stays;
-/// they are in the order of the first of their tag, and by display order within a tag.
+/// If a candidate is visible, hidden ones are left out. Of several with one id the first stays.
+/// They are in the order of the first of their tag, and by display order within a tag.
 ///
-/// Fails with `NoCompletion` where no word, or the program's name, is at the index; the command is
-/// built all the same. Fails with `Memory`, and the command is then as it was or built.
-pub fn complete<D: Folder>(
+/// # Errors
+///
+/// `NoCompletion` if no word, or the program's name, is at `index`; the command is built all the
+/// same. `Memory` if an allocation fails; the command is then as it was, or built.
+pub fn complete_from<L: Lookup>(
     alloc: Global,
     command: &mut Command,
     words: Vec<String>,
     index: usize,
-    current_dir: Option<&str>,
-    folder: &D,
-    completers: &Completers,
+    lookup: &L,
 ) -> Result<Vec<CompletionCandidate>, Error>
-    ensures candidates { IfOk result (λ found. Completes (returned_by
-        ⟦<Completers as CandidateSources>⟧.may_complete ⟦<Completers as CandidateSources>⟧.may_list
-        completers.now (PathsOf (D.facts folder.now) (option_copied current_dir.entry)))
+    ensures candidates { IfOk result (λ found. Completes (L.may_return lookup.now)
         command.new (map string_bytes words.items) index found.items) }
 
     // Two candidates that are returned never share an id.
@@ -57,15 +52,40 @@ pub fn complete<D: Folder>(
     if !in_range(command, words.len(), index) {
         return Err(Error::NoCompletion);
     }
-    let paths = FolderPaths {
-        folder,
-        current_dir,
-    };
+    Ok(complete_in_range(alloc, command, words.as_slice(), index, lookup)?)
+}
+
+/// Returns the candidates for the word at `index`, as `complete_from` does, from `Sources` of a
+/// directory, a folder and completers.
+///
+/// # Errors
+///
+/// Those of `complete_from`.
+pub fn complete<D: Folder>(
+    alloc: Global,
+    command: &mut Command,
+    words: Vec<String>,
+    index: usize,
+    current_dir: Option<&str>,
+    folder: &D,
+    completers: &Completers,
+) -> Result<Vec<CompletionCandidate>, Error>
+    ensures candidates { IfOk result (λ found. Completes
+        (returned_from ⟦<Completers as CandidateSources>⟧ completers.now (D.facts folder.now)
+        (option_copied current_dir.entry)) command.new (map string_bytes words.items) index
+        found.items) }
+    ensures differ { IfOk result (λ found. Differ found.items) }
+    ensures built { OnOk result (command.new ≡ built_tree command.old) }
+    ensures in_range { OnOk result
+        (is_in_range command.new.node (length words.items) index ≡ true) }
+    ensures errors { IfErr result (Refuses command.old command.new (length words.items) index) }
+{
     let sources = Sources {
+        current_dir,
+        folder,
         completers,
-        paths: &paths,
     };
-    Ok(complete_in_range(alloc, command, words.as_slice(), index, &sources)?)
+    complete_from(alloc, command, words, index, &sources)
 }
 
 fn names_before(command: &Command) -> usize
@@ -84,29 +104,26 @@ fn in_range(command: &Command, count: usize, index: usize) -> bool
     names_before(command) <= index && index < count
 }
 
-// The candidates of a command that is built, for an index in range.
-fn complete_in_range<P: PathSource>(
+// Returns the candidates of a built command for an index in range.
+fn complete_in_range<L: Lookup>(
     alloc: Global,
     command: &Command,
     words: &[String],
     index: usize,
-    sources: &Sources<'_, P>,
+    lookup: &L,
 ) -> Result<Vec<CompletionCandidate>, AllocError>
     requires { is_in_range command.now.node (length words.now) index ≡ true }
-    ensures { IfOk result (λ found. Completes (returned_by
-        ⟦<Completers as CandidateSources>⟧.may_complete
-        ⟦<Completers as CandidateSources>⟧.may_list sources.now.completers.now
-        (P.finds sources.now.paths.now))
+    ensures { IfOk result (λ found. Completes (L.may_return lookup.now)
         command.now (map string_bytes words.now) index found.items) }
 {
     let flat = Flat::new(alloc, command)?;
     let walked = walk(&flat, words_before(command, words, index));
     let node = flat.command(walked.node);
     let word = word_at(words, index);
-    offer_candidates(alloc, node, &walked.state, word, sources)
+    offer_candidates(alloc, node, &walked.state, word, lookup)
 }
 
-// The words before the index, without the program's name.
+// Returns the words before the index, without the program's name.
 fn words_before<'w>(command: &Command, words: &'w [String], index: usize) -> &'w [String]
     requires { is_in_range command.now.node (length words.now) index ≡ true }
     ensures { map string_bytes result.now

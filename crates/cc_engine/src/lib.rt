@@ -1,11 +1,33 @@
 //! The candidates for a word of a command line.
+//!
+//! A [`Lookup`] finds the candidates that a command does not hold. [`Sources`] looks in a folder and
+//! in completers:
+//!
+//! ```rattle
+//! fn candidates(
+//!     alloc: Global,
+//!     command: &mut Command,
+//!     words: Vec<String>,
+//! ) -> Result<Vec<CompletionCandidate>, Error> {
+//!     let folder = MemoryFolder::new(&[], &[]);
+//!     let completers = Completers::none(alloc);
+//!     let sources = Sources {
+//!         current_dir: None,
+//!         folder: &folder,
+//!         completers: &completers,
+//!     };
+//!     complete_from(alloc, command, words, 1, &sources)
+//! }
+//! ```
 #![tactic(auto)]
 
 mod candidates;
 mod completion;
-mod folder_paths;
+mod lookup;
 mod offered_lists;
 mod open_lists;
 mod sources;
 
-pub use crate::completion::complete;
+pub use crate::completion::{complete, complete_from};
+pub use crate::lookup::Lookup;
+pub use crate::sources::Sources;

@@ -1,4 +1,4 @@
-//! Which lists the words before the index leave open to the word there.
+//! The lists that the words before the index leave open to the word there.
 
 ghost use Rattle.std.specs.Prelude.{◌≡◌};
 ghost use Rattle.std.specs.Option.{option_copied};
@@ -7,19 +7,19 @@ ghost use Rattle.cc_engine.specs.OpenLists.{all_open, has_enough, none_open, ope
 use cc_arg::{Arg, counted_range};
 use cc_walk::{Pending, State, positional_at};
 
-/// The lists that are offered besides the values of an open option.
+/// The lists that are offered in addition to the values of an open option.
 #[derive(Drop)]
 pub(crate) struct OpenLists {
-    /// Whether the children of the node are offered.
+    /// True if the children of the node are offered.
     pub children: bool,
-    /// The number of the value of the positional at the position, where its values are offered.
+    /// The number of the value of the positional at the position, if its values are offered.
     pub value: Option<usize>,
-    /// Whether the options of the node are offered.
+    /// True if the options of the node are offered.
     pub options: bool,
 }
 
 impl OpenLists {
-    /// What the words leave open at a node with these arguments.
+    /// Returns the lists that words which lead to `state` leave open at a node with `arguments`.
     pub(crate) fn new(arguments: &[Arg], state: &State<'_>) -> OpenLists
         ensures { result ≡ open_lists_by arguments.now state.now.position state.now.escaped
             state.now.pending }

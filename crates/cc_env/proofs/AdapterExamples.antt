@@ -1,4 +1,4 @@
--- What an adapter wants, and which names it has, by example.
+-- The words that an adapter completes, and the names that it has, by example.
 use Rattle.std.proofs.Common.{◌≡◌, [], ◌∷◌, true, false, codes, refl}
 use Rattle.cc_env.specs.WantedWords.{with_next}
 use Rattle.cc_env.specs.Builtins.{builtin_spec}

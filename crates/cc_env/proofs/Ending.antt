@@ -1,4 +1,4 @@
--- How the whole call ends, outcome by outcome.
+-- The ends of the whole call, outcome by outcome.
 use Rattle.std.proofs.Common.{◌≡◌, ◌++◌, ◌∙◌, ap, sym, subst, ℕ, Bool, true, List, Option, Some, None, Result, Ok, Err, find, map}
 use Rattle.cc_env.specs.Builtins.{CompleterSpec}
 use Rattle.cc_base.specs.Writes.{IsWrite, Writes}
@@ -24,14 +24,14 @@ module _ {S : Type 0} (taken : S → List ℕ) (failed : S → Failures) where
       text_written made makes (writes.ok ∙ ap (λ t. taken old ++ t) same) writes.failures
 
   module _ {C : Type 0} (spec : C → CompleterSpec) (shells : List C) (Makes : C → Result (List ℕ) Error → Type 0) (old new : S) where
-    -- what is wanted by a name
+    -- what a name requests
     abbrev wanted_by : List ℕ → Option C → Wanted C
     wanted_by name found = elim found [
       | Some shell ↦ known shell
       | None ↦ unknown name
     ]
 
-    -- a shell is wanted
+    -- a shell is requested
     pub tries_known : (result : Result Bool Error) (wanted : Option (List ℕ)) (name : List ℕ) (shell : C)
         → Some name ≡ wanted → find (λ s. (spec s).named name) shells ≡ Some shell → Ends taken failed (Makes shell) old new result
         → Tries taken failed spec shells Makes wanted old new result

@@ -1,4 +1,4 @@
--- What some values of a variable and some arguments want.
+-- The requests of some values of a variable and of some arguments.
 use Rattle.std.proofs.Common.{◌≡◌, ℕ, List, [], ◌∷◌, Some, None, codes, map, refl}
 use Rattle.std.specs.Path.{path_file_stem, path_file_name, path_join, rsplit_once, split_last_component, trim_trailing}
 use Rattle.std.specs.Prelude.{bytes_eq}

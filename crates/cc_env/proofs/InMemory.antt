@@ -1,4 +1,4 @@
--- What is written into memory.
+-- Replies that are written into memory.
 use Rattle.std.proofs.Common.{◌≡◌, ◌++◌, sym, ap, ◌∙◌, subst, ℕ, List, [], Result, Ok, Err}
 use Rattle.cc_env.specs.Builtins.{CompleterSpec}
 use Rattle.cc_env.specs.Replies.{IsReply, Replies}

@@ -1,4 +1,4 @@
--- How a call that finds candidates and writes their reply ends.
+-- The ends of a call that finds candidates and writes their reply.
 use Rattle.std.proofs.Common.{◌≡◌, ◌∙◌, ℕ, Bool, true, List, length}
 use Rattle.std.proofs.Common.{Result, Ok, Err, IfErr, IsErrAnd}
 use Rattle.std.proofs.Common.{ap, inl, refl, subst, sym}
@@ -29,7 +29,7 @@ module _ {S : Type 0} (taken : S → List ℕ) (failed : S → Failures) (before
       subst (λ e. Replies taken failed (Err e) sink sink before before Wants Offers reply) (sym h)
       (record { ok = tt; built = tt; in_range = tt; failures = refl; errors = (refl, inl refl) })
 
-  -- whether the index is in range, by the words that are wanted
+  -- the index is in range or not, by the words to complete
   range_wanted : (words : List (List ℕ)) (count index : ℕ) (within : Bool) → Wants words index
       → length words ≡ count → is_in_range after.node count index ≡ within
       → IsWanted Wants (λ words index. is_in_range after.node (length words) index ≡ within)
@@ -112,7 +112,7 @@ module _ {S : Type 0} (taken : S → List ℕ) (failed : S → Failures) (before
       written result old new words count index found wants e built range offers
       (subst (λ l. Writes taken failed result old new (reply l)) same w) h
 
-  -- ---- where what is wanted is fixed
+  -- ---- if the words and the index are fixed
 
   these_words : (words : List (List ℕ)) (number : ℕ) → Wants words number
       → (Holds : List (List ℕ) → ℕ → Type 0) → IsWanted (WantsThese words number) Holds

@@ -1,4 +1,4 @@
--- What the replies of safe adapters are read as.
+-- The replies of safe adapters read back.
 use Rattle.std.proofs.Common.{ℕ, List, Bool, true, false}
 use Rattle.cc_env.specs.Builtins.{builtin_spec}
 use Rattle.cc_env.specs.SafeShells.{ReplyReadsWhen, SafeReplyReads}

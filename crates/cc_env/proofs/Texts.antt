@@ -1,5 +1,5 @@
--- How making the text ends, outcome by outcome.
-use Rattle.std.proofs.Common.{◌≡◌, ◌≢◌, ◌==◌, ◌⊎◌, inl, inr, sym, ap, ◌∙◌, subst, ℕ, true, false, List, [], ◌∷◌, length, map, Result, Ok, Err, IfErr, IfOk}
+-- The ends of making the text, outcome by outcome.
+use Rattle.std.proofs.Common.{◌≡◌, ◌≢◌, ◌==◌, ◌⊎◌, inl, inr, sym, ap, ◌∙◌, subst, ℕ, true, false, List, [], ◌∷◌, length, map, Option, Result, Ok, Err, IfErr, IfOk}
 use Rattle.std.proofs.lemmas.Bool.{eqb-true, eq-eqb}
 use Rattle.std.proofs.lemmas.List.{length-map, nil_from_length}
 use Rattle.cc_env.specs.Builtins.{CompleterSpec}
@@ -12,7 +12,7 @@ use Rattle.cc_command.specs.Built.{built_tree}
 use Rattle.cc_command.specs.Tree.{Tree}
 use Rattle.cc_replies.specs.declared.environment.EnvValues.{EnvValues}
 use Rattle.cc_env.specs.Arguments.{after_dashes}
-use Rattle.cc_env.specs.Steps.{BuiltUnlessMemory, IsRegistration, MakesText, Names, RepliesAs, made_bytes}
+use Rattle.cc_env.specs.Steps.{BuiltUnlessMemory, IsRegistration, MakesText, Names, RepliesAs, made_bytes, names_of}
 use Rattle.cc_env.specs.Steps.{factory_failed, no_arguments, out_of_memory, registered, replied}
 
 abbrev Words : Type 0
@@ -56,7 +56,7 @@ module _ (Makes : Result Tree Error → Type 0) (shell : CompleterSpec)
       subst (λ e. MakesText Makes shell names env Offers (program ∷ rest) (Err e)) (sym memory)
       (out_of_memory (program ∷ rest))
 
-  -- where no words are wanted, the registration
+  -- without words to complete, the registration
   pub text_registered : {X : Type 0} (f : X → List ℕ) (arguments : List X) (program : X) (rest words : List X)
       (tree command : Tree) (path : List ℕ) (result : Result Collected Error)
       → Makes (Ok tree) → command ≡ built_tree tree → arguments ≡ program ∷ rest
@@ -92,7 +92,7 @@ module _ (Makes : Result Tree Error → Type 0) (shell : CompleterSpec)
       reply_over tree command after program rest kept (Err NoCompletion) makes is whole same some built replies
   reply_ends tree command after program rest kept (Err _) makes is whole same some built replies = absurd built
 
-  -- where some are, the reply to them
+  -- with such words, the reply to them
   pub text_replied : {X : Type 0} (f : X → List ℕ) (arguments : List X) (program : X) (rest words : List X)
       (kept : Words) (tree command after : Tree) (result : Result (List ℕ) Error)
       → Makes (Ok tree) → command ≡ built_tree tree → built_tree command ≡ command
@@ -103,3 +103,31 @@ module _ (Makes : Result Tree Error → Type 0) (shell : CompleterSpec)
       subst (λ a. MakesText Makes shell names env Offers (map f a) result) (sym split)
       (reply_ends tree command after (f program) (map f rest) kept result makes is whole same
       (some_words f words (after_dashes (map f rest)) wanted some) built replies)
+
+-- the text for a command that was made
+pub text_by : (Makes : Result Tree Error → Type 0) (shell : CompleterSpec) (names : List ℕ → Tree → Names)
+    (env : EnvValues) (Offers : Tree → Words → ℕ → List CompletionCandidate → Type 0) (command : Tree)
+    → Makes (Ok command) → {arguments : Words} {result : Result (List ℕ) Error}
+    → MakesText (λ made. made ≡ Ok command) shell names env Offers arguments result
+    → MakesText Makes shell names env Offers arguments result
+text_by Makes shell names env Offers command makes (factory_failed arguments error is) = absurd (cc is)
+text_by Makes shell names env Offers command makes (out_of_memory arguments) = out_of_memory arguments
+text_by Makes shell names env Offers command makes (no_arguments tree is) =
+    no_arguments tree (subst Makes (sym is) makes)
+text_by Makes shell names env Offers command makes (registered tree program rest text is none registration) =
+    registered tree program rest text (subst Makes (sym is) makes) none registration
+text_by Makes shell names env Offers command makes (replied tree program rest result is some replies) =
+    replied tree program rest result (subst Makes (sym is) makes) some replies
+
+-- the same under names that are known by other terms
+pub text_named : (Makes : Result Tree Error → Type 0) (shell : CompleterSpec) (env : EnvValues)
+    (Offers : Tree → Words → ℕ → List CompletionCandidate → Type 0) (variable : List ℕ)
+    (bin known_bin completer known_completer current : Option (List ℕ)) (command : Tree)
+    (arguments : Words) (result : Result (List ℕ) Error)
+    → bin ≡ known_bin → completer ≡ known_completer → Makes (Ok command)
+    → MakesText (λ made. made ≡ Ok command) shell (names_of variable bin completer current) env Offers arguments result
+    → MakesText Makes shell (names_of variable known_bin known_completer current) env Offers arguments result
+text_named Makes shell env Offers variable bin known_bin completer known_completer current command arguments result same_bin same_completer makes text =
+    text_by Makes shell (names_of variable known_bin known_completer current) env Offers command makes
+    (subst (λ b. MakesText (λ made. made ≡ Ok command) shell (names_of variable b known_completer current) env Offers arguments result) same_bin
+    (subst (λ c. MakesText (λ made. made ≡ Ok command) shell (names_of variable bin c current) env Offers arguments result) same_completer text))

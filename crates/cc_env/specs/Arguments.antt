@@ -1,4 +1,4 @@
--- What the arguments of a program hold: the words of a command line, and the path of the program.
+-- The contents of the arguments of a program: the words of a command line, and its path.
 use Rattle.std.specs.Prelude.{ℕ, Bool, true, false, List, [], ◌∷◌, Option, Some, None, codes, if◌then◌else◌}
 use Rattle.std.specs.List.{list_any}
 use Rattle.std.specs.Path.{path_join, trim_trailing}

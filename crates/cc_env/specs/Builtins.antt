@@ -31,7 +31,7 @@ pub record CompleterSpec : Type 1 where
   pub registration : List ℕ → List ℕ → List ℕ → List ℕ → List ℕ
   -- what it is read as
   pub Reads : List ℕ → List ℕ → List ℕ → List ℕ → Type 0
-  -- the words that are wanted, and the index of the one to complete
+  -- the words of the command line, and the index of the one to complete
   pub Wants : EnvValues → List (List ℕ) → List (List ℕ) → ℕ → Type 0
   -- the reply of some candidates
   pub reply : EnvValues → List CompletionCandidate → List ℕ

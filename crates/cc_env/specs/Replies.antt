@@ -1,4 +1,4 @@
--- What a call that replies to a shell does.
+-- The effects of a call that replies to a shell.
 use Rattle.std.specs.Prelude.{◌≡◌, ◌⊎◌, ◌++◌, ℕ, true, false, List, length, Result, OnOk, IfErr}
 use Rattle.cc_base.specs.Writes.{CountsWrite}
 use Rattle.cc_base.specs.declared.error.Error.{Error}
@@ -9,7 +9,7 @@ use Rattle.cc_command.specs.Built.{built_tree}
 use Rattle.cc_command.specs.Tree.{Tree}
 use Rattle.cc_engine.specs.Completion.{is_in_range}
 
--- words and an index that are wanted, and what holds of them
+-- words and an index to complete, and what holds of them
 pub record IsWanted (Wants : List (List ℕ) → ℕ → Type 0) (Holds : List (List ℕ) → ℕ → Type 0)
     : Type 0 where
   pub words : List (List ℕ)
@@ -17,7 +17,7 @@ pub record IsWanted (Wants : List (List ℕ) → ℕ → Type 0) (Holds : List (
   pub wants : Wants words index
   pub holds : Holds words index
 
--- the wanted index is in range
+-- the index to complete is in range
 abbrev pub WantsInRange : Tree → (List (List ℕ) → ℕ → Type 0) → Type 0
 WantsInRange tree Wants =
     IsWanted Wants (λ words index. is_in_range tree.node (length words) index ≡ true)
@@ -26,7 +26,7 @@ abbrev pub WantsOutOfRange : Tree → (List (List ℕ) → ℕ → Type 0) → T
 WantsOutOfRange tree Wants =
     IsWanted Wants (λ words index. is_in_range tree.node (length words) index ≡ false)
 
--- the text is the reply of candidates that may be offered for what is wanted
+-- the text is the reply of candidates that may be offered for the words and the index
 abbrev pub IsReply : (List (List ℕ) → ℕ → Type 0)
     → (List (List ℕ) → ℕ → List CompletionCandidate → Type 0)
     → (List CompletionCandidate → List ℕ) → List ℕ → Type 0
@@ -34,8 +34,8 @@ IsReply Wants Offers reply text = IsWanted Wants
     (λ words index.
     (found : List CompletionCandidate) × Offers words index found × (text ≡ reply found))
 
--- How the call fails: out of memory, with nothing taken and the tree as it was or built; with
--- nothing taken, as the wanted index is out of range; or a put failed.
+-- How the call fails: out of memory, with nothing taken and the tree as it was, or built; with
+-- nothing taken, because the index is out of range; or by a put that failed.
 abbrev pub FailsToReply : {S : Type 0} → S → S → Tree → Tree → (List (List ℕ) → ℕ → Type 0) → Error
     → Type 0
 FailsToReply old new before after Wants Memory =
@@ -46,8 +46,8 @@ FailsToReply old new before after Wants (Write _) =
     (after ≡ built_tree before) × WantsInRange after Wants
 FailsToReply old new before after Wants _ = ⊥
 
--- the reply is taken where the call returns `Ok`; then the tree is built and the wanted index
--- is in range; a failure is counted exactly where the call returns `Write`
+-- If the call returns `Ok`, the reply is taken, the tree is built and the index is in range. A
+-- failure is counted exactly if the call returns `Write`.
 pub record Replies {S : Type 0} (taken : S → List ℕ) (failed : S → Failures)
     (result : Result (Unit {0}) Error) (old new : S) (before after : Tree)
     (Wants : List (List ℕ) → ℕ → Type 0)

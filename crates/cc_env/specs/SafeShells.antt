@@ -68,18 +68,18 @@ SafeReplyReads Zsh kept quote found = SafeZshRead found
 
 -- ---- requests
 
--- The words and the index that are wanted: the last word, where a safe registration asks; else what
--- the built-in adapter wants, since its registration asks.
+-- The words and the index to complete: the last word, if a safe registration asks; otherwise those
+-- of the built-in adapter, because its registration asks.
 abbrev pub wanted_when : Bool → Builtin → EnvValues → List (List ℕ) → List (List ℕ) → ℕ → Type 0
 wanted_when true shell env words wanted index = WantsAtLast words wanted index
 wanted_when false shell env words wanted index = (builtin_spec shell).Wants env words wanted index
 
--- the reply, likewise
+-- the reply, by the same choice
 abbrev pub reply_when : Bool → Builtin → EnvValues → List CompletionCandidate → List ℕ
 reply_when true shell env found = safe_reply shell (kept_of env) (quote_of env) found
 reply_when false shell env found = (builtin_spec shell).reply env found
 
--- what the reply is read as, likewise
+-- what the reply is read as, by the same choice
 abbrev pub ReplyReadsWhen : Bool → Builtin → EnvValues → List CompletionCandidate → Type 0
 ReplyReadsWhen true shell env found = SafeReplyReads shell (kept_of env) (quote_of env) found
 ReplyReadsWhen false shell env found = (builtin_spec shell).ReplyReads env found

@@ -1,4 +1,4 @@
--- What a program does where its environment may want a completion.
+-- The steps of a program whose environment may request a completion.
 use Rattle.std.specs.Prelude.{◌≡◌, ◌≢◌, ◌++◌, ⊤, ℕ, Bool, true, false, List, [], ◌∷◌, map, Option, unwrap_or, Result, Ok, Err, IfErr, IfOk}
 use Rattle.std.specs.declared.io.ErrorKind.{ErrorKind}
 use Rattle.cc_env.specs.Builtins.{CompleterSpec}
@@ -19,7 +19,7 @@ use Rattle.cc_env.specs.Wanted.{Wanted, IsUnknownShell, wanted_of, known, nothin
 
 -- ---- the registration
 
--- what a registration is made of
+-- the names in a registration
 pub record Names : Type 0 where
   pub variable : List ℕ
   pub name : List ℕ
@@ -47,8 +47,8 @@ pub record IsRegistration (shell : CompleterSpec) (names : Names) (text : List �
 
 -- ---- the reply
 
--- How the reply ends, over a built tree: candidates that may be offered for what is wanted are
--- replied, the wanted index is in range, and what replies are read as holds; the index is out of
+-- How the reply ends, over a built tree. Either the index is in range, the text is the reply of
+-- candidates that may be offered there, and what replies are read as holds; or the index is out of
 -- range; or memory ran out.
 abbrev pub RepliesAs : CompleterSpec → EnvValues → List (List ℕ)
     → (List (List ℕ) → ℕ → List CompletionCandidate → Type 0) → Tree
@@ -62,8 +62,8 @@ RepliesAs shell env words Offers tree (Err NoCompletion) =
     WantsOutOfRange tree (shell.Wants env words)
 RepliesAs shell env words Offers tree (Err _) = ⊥
 
--- the tree is built, as a fact, where a text is made or the index is out of range; nothing is said
--- where memory ran out
+-- the tree is built, as a fact, if a text is made or the index is out of range; after memory ran out
+-- nothing is known
 abbrev pub BuiltUnlessMemory : Result (List ℕ) Error → Type 0 → Type 0
 BuiltUnlessMemory (Ok text) Built = Built
 BuiltUnlessMemory (Err Memory) Built = ⊤
@@ -72,9 +72,9 @@ BuiltUnlessMemory (Err _) Built = ⊥
 
 -- ---- the text
 
--- How making the text ends for a shell that is known. `Makes` says what the factory may return,
--- `names` what the registration of a program and a tree is made of, and `Offers` which candidates
--- may be offered over a tree.
+-- How making the text ends for a known shell. `Makes` is true of what the factory may return,
+-- `names` are those in the registration of a program and a tree, and `Offers` is true of the
+-- candidates that may be offered over a tree.
 pub data MakesText (Makes : Result Tree Error → Type 0) (shell : CompleterSpec)
     (names : List ℕ → Tree → Names) (env : EnvValues)
     (Offers : Tree → List (List ℕ) → ℕ → List CompletionCandidate → Type 0)
@@ -111,8 +111,8 @@ made_bytes (Err error) = Err error
 
 -- ---- the whole call
 
--- How the whole call ends for a shell that is known. The text is made first; nothing is written,
--- and no write failed, where that fails.
+-- How the whole call ends for a known shell. The text is made first. If that fails, nothing is
+-- written, and no write failed.
 pub data Ends {S : Type 0} (taken : S → List ℕ) (failed : S → Failures)
     (Makes : Result (List ℕ) Error → Type 0) (old new : S) : Result Bool Error → Type 0 where
   -- no text is made
@@ -126,7 +126,7 @@ pub data Ends {S : Type 0} (taken : S → List ℕ) (failed : S → Failures)
   text_written : (text : List ℕ) → Makes (Ok text) → taken new ≡ taken old ++ text
       → failed new ≡ failed old → Ends taken failed Makes old new (Ok true)
 
--- What the whole call does, by what is wanted: nothing, a shell that there is not, or a shell.
+-- How the whole call ends, by what is requested: nothing, an unknown shell, or a known one.
 abbrev pub EndsAs : {S C : Type 0} → (S → List ℕ) → (S → Failures) → List (List ℕ)
     → (C → Result (List ℕ) Error → Type 0) → Wanted C → S → S → Result Bool Error → Type 0
 EndsAs taken failed names Makes nothing old new result = (result ≡ Ok false) × (new ≡ old)
@@ -135,8 +135,8 @@ EndsAs taken failed names Makes (unknown name) old new result =
 EndsAs taken failed names Makes (known shell) old new result =
     Ends taken failed (Makes shell) old new result
 
--- The same of these shells, for the name that is wanted, where one is. `Makes` says how making
--- the text ends for a shell.
+-- The same of these shells, for the name that is requested, if one is. `Makes` is true of how
+-- making the text for a shell ends.
 abbrev pub Tries : {S C : Type 0} → (S → List ℕ) → (S → Failures) → (C → CompleterSpec) → List C
     → (C → Result (List ℕ) Error → Type 0) → Option (List ℕ) → S → S → Result Bool Error → Type 0
 Tries taken failed spec shells Makes name old new result =

@@ -1,4 +1,4 @@
--- What the environment wants, by the value of a variable.
+-- The shell that the environment requests, by the value of a variable.
 use Rattle.std.specs.Prelude.{find, ◌≡◌, ◌⊎◌, ◌||◌, ℕ, Bool, List, [], ◌++◌, Option, Some, None, map, codes, unwrap_or, if◌then◌else◌}
 use Rattle.std.specs.Path.{path_file_stem}
 use Rattle.std.specs.Str.{bytes_eq}
@@ -6,16 +6,16 @@ use Rattle.cc_base.specs.Joined.{joined}
 use Rattle.cc_base.specs.declared.error.Error.{Error}
 use Rattle.cc_base.specs.declared.error.Error.TheVariants.{Memory, UnknownShell}
 
--- a value that wants nothing: the empty text and `0`
+-- a value that requests nothing: the empty text and `0`
 abbrev pub wants_nothing : List ℕ → Bool
 wants_nothing value = bytes_eq value [] || bytes_eq value (codes "0")
 
--- the name of a shell in a value: the last piece of a path without its extension; the value where
--- it has no such piece
+-- the name of a shell in a value: the last piece of a path without its extension; the whole value
+-- if it has no such piece
 abbrev pub shell_name : List ℕ → List ℕ
 shell_name value = unwrap_or (path_file_stem value) value
 
--- the name of the shell that is wanted, where one is
+-- the name of the shell that is requested, if one is
 abbrev pub wanted_name : Option (List ℕ) → Option (List ℕ)
 wanted_name None = None
 wanted_name (Some value) = if wants_nothing value then None else Some (shell_name value)
@@ -40,7 +40,7 @@ wanted_of named shells (Some name) = elim (find (λ shell. named shell name) she
 abbrev pub quoted_name : List ℕ → List ℕ
 quoted_name name = codes "`" ++ name ++ codes "`"
 
--- the message that no shell has this name, with the names of those that there are
+-- the message that no shell has this name, with the names of the known shells
 abbrev pub unknown_shell : List (List ℕ) → List ℕ → List ℕ
 unknown_shell names name =
     codes "unknown shell `" ++ name ++ codes "`, expected one of "

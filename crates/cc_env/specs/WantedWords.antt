@@ -1,5 +1,5 @@
--- What adapters want of an environment and some words: words again, and the index of the one to
--- complete.
+-- What adapters complete, by an environment and some words: the words of a command line, and the
+-- index of one of them.
 use Rattle.std.specs.Prelude.{◌≡◌, ◌==◌, ◌-◌, ◌++◌, ℕ, List, [], ◌∷◌, length, if◌then◌else◌}
 use Rattle.cc_replies.specs.Environment.{IsIndex, index_name, value_of}
 use Rattle.cc_replies.specs.declared.environment.EnvValues.{EnvValues}
@@ -12,7 +12,7 @@ WantsThese words number wanted index = (index ≡ number) × (wanted ≡ words)
 abbrev pub WantsAtIndex : EnvValues → List (List ℕ) → List (List ℕ) → ℕ → Type 0
 WantsAtIndex env words wanted index = IsIndex (value_of index_name env) index × (wanted ≡ words)
 
--- the words, with an empty one after them where the index is their number
+-- the words, with an empty one after them if the index is their number
 abbrev pub with_next : List (List ℕ) → ℕ → List (List ℕ)
 with_next words index = if index == length words then words ++ [] ∷ [] else words
 

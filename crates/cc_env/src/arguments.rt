@@ -1,4 +1,4 @@
-//! The arguments of a program.
+//! The arguments of a program that a shell runs.
 
 ghost use Rattle.std.specs.Prelude.{◌≡◌, ◌≤◌, ◌-◌, drop, length, map, IfOk};
 ghost use Rattle.std.specs.Option.{option_copied};
@@ -9,7 +9,7 @@ use cc_base::Text;
 use cc_paths::{join, trim_trailing};
 use std::alloc::{AllocError, Global};
 
-/// The words after the first `--`; none without one.
+/// Returns the words after the first `--`; none without one.
 pub(crate) fn after_dashes(words: &[String]) -> &[String]
     ensures { map string_bytes result.now ≡ after_dashes (map string_bytes words.now) }
 {
@@ -23,7 +23,7 @@ pub(crate) fn after_dashes(words: &[String]) -> &[String]
     left
 }
 
-/// The last texts, as many as there are said to be.
+/// Returns the last `count` texts.
 pub(crate) fn keep_last(mut texts: Vec<String>, count: usize) -> Vec<String>
     requires { count ≤ length texts.items }
     ensures { result.items ≡ drop (length texts.items - count) texts.items }

@@ -9,13 +9,12 @@ use crate::fish::Fish;
 use crate::powershell::Powershell;
 use crate::zsh::Zsh;
 use cc_base::{Error, Sink};
-use cc_candidates::Completers;
 use cc_command::Command;
-use cc_paths::Folder;
+use cc_engine::Lookup;
 use cc_replies::EnvValues;
 use std::alloc::Global;
 
-/// The adapters of this library. As an adapter each does what the type of its name does.
+/// The adapters of this library. Each variant does what the type of its name does.
 #[derive(Clone, Copy, PartialEq, Eq, Debug)]
 pub enum Builtin {
     /// bash.
@@ -30,8 +29,7 @@ pub enum Builtin {
     Zsh,
 }
 
-// The shells in their order: each variant is named as its adapter. `$part!` makes of them what is
-// wanted.
+// Passes the shells in their order to `$part!`. Each variant has the name of its adapter.
 macro_rules! each_builtin {
     ($part:ident! $($wanted:tt)*) => {
         $part! {
@@ -41,14 +39,14 @@ macro_rules! each_builtin {
     };
 }
 
-// All of them.
+// Makes a slice of all variants.
 macro_rules! all {
     ([] $($variant:ident)*) => {
         &[$(Builtin::$variant),*]
     };
 }
 
-// A call of the adapter of a shell.
+// Calls the adapter of a shell.
 macro_rules! adapter {
     ([$shell:tt, $call:ident $arguments:tt] $($variant:ident)*) => {
         match $shell {
@@ -57,7 +55,7 @@ macro_rules! adapter {
     };
 }
 
-/// All of them, in the order of the type.
+/// All variants, in the order of the type.
 pub(crate) const BUILTINS: &[Builtin] = each_builtin!(all!);
 
 impl EnvCompleter for Builtin {
@@ -90,25 +88,21 @@ impl EnvCompleter for Builtin {
         ))
     }
 
-    fn write_complete<D: Folder, W: Sink>(
+    fn write_complete_from<L: Lookup, W: Sink>(
         &self,
         alloc: Global,
         command: &mut Command,
         words: Vec<String>,
-        current_dir: Option<&str>,
         env: &EnvValues,
-        folder: &D,
-        completers: &Completers,
+        lookup: &L,
         sink: &mut W,
     ) -> Result<(), Error> {
-        each_builtin!(adapter! self, write_complete(
+        each_builtin!(adapter! self, write_complete_from(
             alloc,
             command,
             words,
-            current_dir,
             env,
-            folder,
-            completers,
+            lookup,
             sink
         ))
     }

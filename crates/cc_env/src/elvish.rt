@@ -5,9 +5,8 @@ ghost use Rattle.cc_env.specs.Builtins.{elvish_spec};
 use crate::env_completer::EnvCompleter;
 use crate::reply::{Values, reply_at};
 use cc_base::{Error, Sink};
-use cc_candidates::Completers;
 use cc_command::Command;
-use cc_paths::Folder;
+use cc_engine::Lookup;
 use cc_registrations::write_elvish;
 use cc_replies::EnvValues;
 use std::alloc::Global;
@@ -43,28 +42,17 @@ impl EnvCompleter for Elvish {
     }
 
     #[tactic(auto, using(cc_replies::proofs::ReplyReadings::values_back))]
-    fn write_complete<D: Folder, W: Sink>(
+    fn write_complete_from<L: Lookup, W: Sink>(
         &self,
         alloc: Global,
         command: &mut Command,
         words: Vec<String>,
-        current_dir: Option<&str>,
         env: &EnvValues,
-        folder: &D,
-        completers: &Completers,
+        lookup: &L,
         sink: &mut W,
     ) -> Result<(), Error> {
         let index = env.index();
-        reply_at(
-            alloc,
-            command,
-            words,
-            index,
-            current_dir,
-            folder,
-            completers,
-            &Values(env.separator()),
-            sink,
-        )
+        let format = Values(env.separator());
+        reply_at(alloc, command, words, index, lookup, &format, sink)
     }
 }

@@ -1,5 +1,20 @@
 //! Live completion: what a program writes if its shell requests a registration or candidates, and
 //! for each shell its names, its registration and its reply.
+//!
+//! ```rattle
+//! fn answers<F: Fn(Global) -> Result<Command, Error> + Drop, L: Lookup, W: Sink>(
+//!     alloc: Global,
+//!     factory: F,
+//!     args: Vec<String>,
+//!     env: &EnvValues,
+//!     lookup: &L,
+//!     out: &mut W,
+//! ) -> Result<bool, Error>
+//!     requires { F.IsAlwaysCallable factory }
+//! {
+//!     CompleteEnv::safe(factory).try_complete_from(alloc, args, env, lookup, out)
+//! }
+//! ```
 #![tactic(auto)]
 
 mod arguments;
@@ -12,8 +27,8 @@ mod fish;
 mod powershell;
 mod reply;
 mod safe_shell;
+mod shell_program;
 mod shells;
-mod text;
 mod wanted;
 mod zsh;
 
@@ -26,6 +41,7 @@ pub use crate::env_completer::EnvCompleter;
 pub use crate::fish::Fish;
 pub use crate::powershell::Powershell;
 pub use crate::safe_shell::SafeShell;
+pub use crate::shell_program::ShellProgram;
 pub use crate::shells::{ShellNames, Shells};
 pub use crate::wanted::{known_shell, wanted_name};
 pub use crate::zsh::Zsh;

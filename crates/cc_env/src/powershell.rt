@@ -5,9 +5,8 @@ ghost use Rattle.cc_env.specs.Builtins.{powershell_spec};
 use crate::env_completer::EnvCompleter;
 use crate::reply::{Lines, last_index, reply_at};
 use cc_base::{Error, Sink};
-use cc_candidates::Completers;
 use cc_command::Command;
-use cc_paths::Folder;
+use cc_engine::Lookup;
 use cc_registrations::write_powershell;
 use cc_replies::EnvValues;
 use std::alloc::Global;
@@ -42,28 +41,16 @@ impl EnvCompleter for Powershell {
     }
 
     #[tactic(auto, using(cc_replies::proofs::ReplyReadings::lines_back))]
-    fn write_complete<D: Folder, W: Sink>(
+    fn write_complete_from<L: Lookup, W: Sink>(
         &self,
         alloc: Global,
         command: &mut Command,
         words: Vec<String>,
-        current_dir: Option<&str>,
         _env: &EnvValues,
-        folder: &D,
-        completers: &Completers,
+        lookup: &L,
         sink: &mut W,
     ) -> Result<(), Error> {
         let index = last_index(words.as_slice());
-        reply_at(
-            alloc,
-            command,
-            words,
-            index,
-            current_dir,
-            folder,
-            completers,
-            &Lines,
-            sink,
-        )
+        reply_at(alloc, command, words, index, lookup, &Lines, sink)
     }
 }

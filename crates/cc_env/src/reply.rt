@@ -1,23 +1,19 @@
-//! The candidates for a word, written as a shell reads them: what all adapters share.
+//! The candidates for a word, written as a shell reads them. All adapters share this.
 
 ghost use Rattle.std.specs.Prelude.{◌≡◌, ◌-◌, ℕ, IfErr, List, length, map, string_bytes};
-ghost use Rattle.std.specs.Option.{option_copied};
 ghost use Rattle.cc_env.specs.WantedWords.{WantsThese};
 ghost use Rattle.cc_env.specs.Replies.{Replies};
 ghost use Rattle.cc_env.specs.SafeShells.{safe_reply};
 ghost use Rattle.cc_base.specs.Writes.{IsWrite, Writes};
 ghost use Rattle.cc_candidates.specs.declared.candidate.CompletionCandidate.{CompletionCandidate};
 ghost use Rattle.cc_engine.specs.Completion.{Completes};
-ghost use Rattle.cc_engine.specs.Paths.{PathsOf};
 ghost use Rattle.cc_replies.specs.Reply.{lines_reply, values_reply, zsh_reply};
-ghost use Rattle.cc_gather.specs.Values.{returned_by};
 
 use crate::builtin::Builtin;
-use cc_base::{CandidateSources, Error, Sink};
-use cc_candidates::{Completers, CompletionCandidate};
+use cc_base::{Error, Sink};
+use cc_candidates::CompletionCandidate;
 use cc_command::Command;
-use cc_engine::complete;
-use cc_paths::Folder;
+use cc_engine::{Lookup, complete_from};
 use cc_replies::{
     OpenQuote, write_bash_words, write_lines, write_powershell_words, write_safe_lines,
     write_safe_values, write_safe_zsh_items, write_values, write_zsh_items,
@@ -29,14 +25,18 @@ pub(crate) trait ReplyFormat {
     // the text of some candidates
     ghost text: { Self → List CompletionCandidate → List ℕ };
 
-    /// Writes some candidates. Fails with `Write` alone, where the sink fails.
+    /// Writes some candidates.
+    ///
+    /// # Errors
+    ///
+    /// `Write` if the sink fails, and no other error.
     fn write<W: Sink>(&self, found: &[CompletionCandidate], sink: &mut W) -> Result<(), Error>
         ensures written { Writes W.taken W.failed result sink.old sink.new
             (text self.now found.now) }
         ensures write_only { IfErr result IsWrite };
 }
 
-/// The values, with this text between two.
+/// Writes the values, with this text between two.
 #[derive(Drop)]
 pub(crate) struct Values<'s>(pub &'s str);
 
@@ -48,7 +48,7 @@ impl ReplyFormat for Values<'_> {
     }
 }
 
-/// The values and their helps as zsh reads them, with this text between two.
+/// Writes the values and their help texts as zsh reads them, with this text between two.
 #[derive(Drop)]
 pub(crate) struct ZshItems<'s>(pub &'s str);
 
@@ -60,7 +60,7 @@ impl ReplyFormat for ZshItems<'_> {
     }
 }
 
-/// A line for each.
+/// Writes a line for each candidate.
 #[derive(Drop)]
 pub(crate) struct Lines;
 
@@ -72,12 +72,14 @@ impl ReplyFormat for Lines {
     }
 }
 
-/// What is inserted as the value that it stands for, in this shell. bash has kept this text of the
-/// word, and this quote is open there.
+/// Writes texts that the shell inserts as the values that they mean.
 #[derive(Drop)]
 pub(crate) struct SafeReply<'s> {
+    /// The shell.
     pub(crate) shell: Builtin,
+    /// The text that bash has kept of the word.
     pub(crate) kept: &'s str,
+    /// The quote that is open there.
     pub(crate) quote: OpenQuote,
 }
 
@@ -96,38 +98,29 @@ impl ReplyFormat for SafeReply<'_> {
     }
 }
 
-/// Writes the candidates for the word at the index in this format. Fails as
-/// `EnvCompleter::write_complete` does.
-pub(crate) fn reply_at<D: Folder, F: ReplyFormat, W: Sink>(
+/// Writes the candidates for the word at `index` in `format`.
+///
+/// # Errors
+///
+/// Those of `EnvCompleter::write_complete_from`.
+pub(crate) fn reply_at<L: Lookup, F: ReplyFormat, W: Sink>(
     alloc: Global,
     command: &mut Command,
     words: Vec<String>,
     index: usize,
-    current_dir: Option<&str>,
-    folder: &D,
-    completers: &Completers,
+    lookup: &L,
     format: &F,
     sink: &mut W,
 ) -> Result<(), Error>
     ensures { Replies W.taken W.failed result sink.old sink.new command.old command.new
-        (WantsThese (map string_bytes words.items) index) (Completes (returned_by
-        ⟦<Completers as CandidateSources>⟧.may_complete ⟦<Completers as CandidateSources>⟧.may_list
-        completers.now (PathsOf (D.facts folder.now) (option_copied current_dir.entry)))
+        (WantsThese (map string_bytes words.items) index) (Completes (L.may_return lookup.now)
         command.new) (F.text format.now) }
 {
-    let found = complete(
-        alloc,
-        command,
-        words,
-        index,
-        current_dir,
-        folder,
-        completers,
-    )?;
+    let found = complete_from(alloc, command, words, index, lookup)?;
     format.write(found.as_slice(), sink)
 }
 
-/// The index of the last word; 0 where there is none.
+/// Returns the index of the last word; 0 if there are no words.
 pub(crate) fn last_index(words: &[String]) -> usize
     ensures { result ≡ length (map string_bytes words.now) - 1 }
 {

@@ -1,24 +1,20 @@
 //! The safe adapters: nothing of a name, a candidate or a typed word is evaluated by the shell.
 
 ghost use Rattle.std.specs.Prelude.{◌≡◌, map, string_bytes};
-ghost use Rattle.std.specs.Option.{option_copied};
 ghost use Rattle.cc_env.specs.Replies.{Replies};
 ghost use Rattle.cc_env.specs.SafeShells.{SafeReads, safe_of, safe_registration, safe_reply};
 ghost use Rattle.cc_env.specs.SafeShells.{safe_spec};
 ghost use Rattle.cc_env.specs.WantedWords.{WantsAtLast};
 ghost use Rattle.cc_base.specs.Writes.{Writes};
 ghost use Rattle.cc_engine.specs.Completion.{Completes};
-ghost use Rattle.cc_engine.specs.Paths.{PathsOf};
-ghost use Rattle.cc_gather.specs.Values.{returned_by};
 ghost use Rattle.cc_replies.specs.Environment.{kept_of, quote_of};
 
 use crate::builtin::Builtin;
 use crate::env_completer::EnvCompleter;
 use crate::reply::{SafeReply, last_index, reply_at};
-use cc_base::{CandidateSources, Error, Sink};
-use cc_candidates::Completers;
+use cc_base::{Error, Sink};
 use cc_command::Command;
-use cc_paths::Folder;
+use cc_engine::Lookup;
 use cc_registrations::{
     write_safe_bash, write_safe_elvish, write_safe_fish, write_safe_powershell, write_safe_zsh,
 };
@@ -36,7 +32,7 @@ pub struct SafeShell {
     shell: Builtin,
 }
 
-/// All of them, in the order of the built-in ones.
+/// The safe adapters, in the order of the built-in ones.
 pub(crate) const SAFE_SHELLS: &[SafeShell] = &[
     SafeShell {
         shell: Builtin::Bash,
@@ -97,23 +93,18 @@ impl SafeShell {
         }
     }
 
-    // Writes the candidates for the last word as the shell inserts them.
-    fn reply_safely<D: Folder, W: Sink>(
+    // Writes the candidates for the last word as texts that the shell inserts.
+    fn reply_safely<L: Lookup, W: Sink>(
         &self,
         alloc: Global,
         command: &mut Command,
         words: Vec<String>,
-        current_dir: Option<&str>,
         env: &EnvValues,
-        folder: &D,
-        completers: &Completers,
+        lookup: &L,
         sink: &mut W,
     ) -> Result<(), Error>
         ensures { Replies W.taken W.failed result sink.old sink.new command.old command.new
-            (WantsAtLast (map string_bytes words.items)) (Completes (returned_by
-            ⟦<Completers as CandidateSources>⟧.may_complete
-            ⟦<Completers as CandidateSources>⟧.may_list completers.now
-            (PathsOf (D.facts folder.now) (option_copied current_dir.entry)))
+            (WantsAtLast (map string_bytes words.items)) (Completes (L.may_return lookup.now)
             command.new) (safe_reply self.now.shell (kept_of env.now) (quote_of env.now)) }
     {
         let index = last_index(&words);
@@ -122,17 +113,7 @@ impl SafeShell {
             kept: env.kept(),
             quote: env.open_quote(),
         };
-        reply_at(
-            alloc,
-            command,
-            words,
-            index,
-            current_dir,
-            folder,
-            completers,
-            &format,
-            sink,
-        )
+        reply_at(alloc, command, words, index, lookup, &format, sink)
     }
 }
 
@@ -160,38 +141,19 @@ impl EnvCompleter for SafeShell {
     }
 
     #[tactic(auto, using(crate::proofs::SafeReplying::back_when))]
-    fn write_complete<D: Folder, W: Sink>(
+    fn write_complete_from<L: Lookup, W: Sink>(
         &self,
         alloc: Global,
         command: &mut Command,
         words: Vec<String>,
-        current_dir: Option<&str>,
         env: &EnvValues,
-        folder: &D,
-        completers: &Completers,
+        lookup: &L,
         sink: &mut W,
     ) -> Result<(), Error> {
         if env.asks_safely() {
-            return self.reply_safely(
-                alloc,
-                command,
-                words,
-                current_dir,
-                env,
-                folder,
-                completers,
-                sink,
-            );
+            return self.reply_safely(alloc, command, words, env, lookup, sink);
         }
-        self.shell.write_complete(
-            alloc,
-            command,
-            words,
-            current_dir,
-            env,
-            folder,
-            completers,
-            sink,
-        )
+        self.shell
+            .write_complete_from(alloc, command, words, env, lookup, sink)
     }
 }

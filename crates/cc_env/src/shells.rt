@@ -1,4 +1,4 @@
-//! The shells that a caller offers.
+//! The shells that a program answers.
 
 ghost use Rattle.std.specs.Iterator.{YieldsFirstBy, item_count};
 ghost use Rattle.std.specs.Prelude.{◌≡◌, find, map, option_map};
@@ -12,12 +12,12 @@ use crate::env_completer::EnvCompleter;
 use crate::safe_shell::{SAFE_SHELLS, SafeShell};
 use std::slice;
 
-/// The shells that a caller offers, by their adapters.
+/// The shells that a program answers, by their adapters.
 #[derive(Drop)]
 pub struct Shells<'s, E>(pub &'s [E]);
 
 impl Shells<'static, Builtin> {
-    /// The shells of this library, in the order of their type.
+    /// Returns the shells of this library, in the order of their type.
     pub fn builtins() -> Shells<'static, Builtin>
         ensures { result.0.now ≡ all_builtins }
     {
@@ -26,8 +26,8 @@ impl Shells<'static, Builtin> {
 }
 
 impl Shells<'static, SafeShell> {
-    /// The shells of this library by their safe adapters, in the order of the built-in ones: what
-    /// they register evaluates nothing, and what they reply is inserted as it is meant.
+    /// Returns the shells of this library by their safe adapters, in the order of the built-in ones.
+    /// Their registrations evaluate nothing, and shells insert their replies as they are meant.
     pub fn safe() -> Shells<'static, SafeShell>
         ensures { result.0.now ≡ all_safe }
     {
@@ -36,7 +36,7 @@ impl Shells<'static, SafeShell> {
 }
 
 impl<'s, E: EnvCompleter> Shells<'s, E> {
-    /// The first shell that has this name.
+    /// Returns the first shell that has this name.
     pub fn completer(&self, name: &str) -> Option<&E>
         ensures { option_map (λ shell. shell.now) result
             ≡ find (λ shell. (E.spec shell).named name.now) self.now.0.now }
@@ -44,14 +44,14 @@ impl<'s, E: EnvCompleter> Shells<'s, E> {
         self.0.iter().find(|shell| shell.is(name))
     }
 
-    /// The names of the shells, one for each, in their order.
+    /// Returns the names of the shells, one for each, in their order.
     pub fn names(&self) -> ShellNames<'s, E>
         ensures { names_left E.spec result ≡ map (λ shell. (E.spec shell).name) self.now.0.now }
     {
         ShellNames { shells: self.0 }
     }
 
-    /// The shells, in their order.
+    /// Returns the shells, in their order.
     pub fn iter(&self) -> slice::Iter<'s, E>
         ensures { iter_rest result ≡ self.now.0.now }
     {
@@ -59,7 +59,7 @@ impl<'s, E: EnvCompleter> Shells<'s, E> {
     }
 }
 
-/// The names of some shells.
+/// An iterator over the names of shells.
 #[derive(Drop)]
 pub struct ShellNames<'s, E> {
     shells: &'s [E],

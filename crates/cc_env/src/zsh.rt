@@ -7,17 +7,16 @@ ghost use Rattle.cc_env.specs.Builtins.{zsh_spec};
 use crate::env_completer::EnvCompleter;
 use crate::reply::{ZshItems, reply_at};
 use cc_base::{Error, Sink};
-use cc_candidates::Completers;
 use cc_command::Command;
-use cc_paths::Folder;
+use cc_engine::Lookup;
 use cc_registrations::write_zsh;
 use cc_replies::EnvValues;
 use std::alloc::{AllocError, Global};
 
 /// The adapter for zsh.
 ///
-/// Completes the word at `_CLAP_COMPLETE_INDEX`, an empty one where that is one past the last, and
-/// replies with the values and their helps, joined by `_CLAP_IFS`.
+/// Completes the word at `_CLAP_COMPLETE_INDEX`, which may be an empty word after the last. Replies
+/// with the values and their help texts, joined by `_CLAP_IFS`.
 #[derive(Clone, Copy, PartialEq, Eq, Debug)]
 pub struct Zsh;
 
@@ -45,34 +44,23 @@ impl EnvCompleter for Zsh {
     }
 
     #[tactic(auto, using(cc_replies::proofs::ReplyReadings::zsh_back))]
-    fn write_complete<D: Folder, W: Sink>(
+    fn write_complete_from<L: Lookup, W: Sink>(
         &self,
         alloc: Global,
         command: &mut Command,
         words: Vec<String>,
-        current_dir: Option<&str>,
         env: &EnvValues,
-        folder: &D,
-        completers: &Completers,
+        lookup: &L,
         sink: &mut W,
     ) -> Result<(), Error> {
         let index = env.index();
         let words = with_next(alloc, words, index)?;
-        reply_at(
-            alloc,
-            command,
-            words,
-            index,
-            current_dir,
-            folder,
-            completers,
-            &ZshItems(env.separator()),
-            sink,
-        )
+        let format = ZshItems(env.separator());
+        reply_at(alloc, command, words, index, lookup, &format, sink)
     }
 }
 
-// The words, with an empty one after them where the index is their number.
+// Appends an empty word if `index` is the number of words.
 fn with_next(alloc: Global, mut words: Vec<String>, index: usize) -> Result<Vec<String>, AllocError>
     ensures { IfOk result (λ wanted.
         map string_bytes wanted.items ≡ with_next (map string_bytes words.items) index) }

@@ -10,7 +10,7 @@ use crate::parts::split_at_delimiter;
 use crate::possible::candidates_beginning;
 use cc_arg::{Arg, ValueHint, possible_values};
 use cc_base::CandidateSources;
-use cc_candidates::{Completers, CompletionCandidate, retain_beginning_with, sort_candidates};
+use cc_candidates::{CompletionCandidate, retain_beginning_with, sort_candidates};
 use std::alloc::{AllocError, Global};
 
 /// A source of paths: the file system that the program reads. It fails only if an allocation fails.
@@ -41,17 +41,16 @@ pub trait PathSource {
 /// # Errors
 ///
 /// `AllocError` if an allocation fails.
-pub fn arg_values<P: PathSource>(
+pub fn arg_values<C: CandidateSources<Candidate = CompletionCandidate>, P: PathSource>(
     alloc: Global,
     argument: &Arg,
     word: &str,
     number: usize,
-    completers: &Completers,
+    completers: &C,
     paths: &P,
 ) -> Result<Vec<CompletionCandidate>, AllocError>
-    ensures { IfOk result (λ found. ArgumentValues (returned_by
-        ⟦<Completers as CandidateSources>⟧.may_complete ⟦<Completers as CandidateSources>⟧.may_list
-        completers.now (P.finds paths.now))
+    ensures { IfOk result (λ found. ArgumentValues
+        (returned_by C.may_complete C.may_list completers.now (P.finds paths.now))
         argument.now word.now number found.items) }
 {
     let (before, part) = split_at_delimiter(word, argument.get_value_delimiter());
@@ -60,17 +59,16 @@ pub fn arg_values<P: PathSource>(
 }
 
 // Returns the candidates for a text without a delimiter.
-fn gather<P: PathSource>(
+fn gather<C: CandidateSources<Candidate = CompletionCandidate>, P: PathSource>(
     alloc: Global,
     argument: &Arg,
     part: &str,
     number: usize,
-    completers: &Completers,
+    completers: &C,
     paths: &P,
 ) -> Result<Vec<CompletionCandidate>, AllocError>
-    ensures { IfOk result (λ found. Gathers (returned_by
-        ⟦<Completers as CandidateSources>⟧.may_complete ⟦<Completers as CandidateSources>⟧.may_list
-        completers.now (P.finds paths.now))
+    ensures { IfOk result (λ found. Gathers
+        (returned_by C.may_complete C.may_list completers.now (P.finds paths.now))
         argument.now number part.now found.items) }
 {
     if let Some(completer) = argument.get_completer() {

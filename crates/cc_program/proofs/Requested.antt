@@ -1,4 +1,4 @@
--- What is completed for an environment.
+-- The completion that an environment requests.
 use Rattle.std.proofs.Common.{◌≡◌, ℕ, Bool, List, Option, None, Result, codes, subst}
 use Rattle.std.specs.declared.alloc.Global.{Global}
 use Rattle.cc_env.specs.SafeShells.{all_safe}

@@ -62,7 +62,7 @@ new_described id help = record {
   global = false;
 }
 
--- a name, where there is one
+-- a name, if there is one
 abbrev pub names_of : Option (Bor (List ℕ)) → List (List ℕ)
 names_of None = []
 names_of (Some name) = name.now ∷ []
@@ -118,7 +118,7 @@ MadeWith step (Ok value) result =
     MatchResult result (λ made. made ≡ step value) (λ error. error ≡ Memory)
 MadeWith step (Err error) result = result ≡ Err error
 
--- likewise of two; the failure of the first stays
+-- the same of two values; the failure of the first stays
 abbrev pub MadeOf : {A B : Type 0} → (A → B → A) → Result A Error → Result B Error → Result A Error
     → Type 0
 MadeOf step (Ok value) (Ok other) result =

@@ -1,4 +1,4 @@
--- What a shell asks for, by an environment that is not known beforehand.
+-- The requests of a shell, by an environment that is not known beforehand.
 use Rattle.std.specs.Prelude.{◌≡◌, ⊤, ℕ, Bool, List, Option, None, Result, Err, codes}
 use Rattle.std.specs.declared.alloc.Global.{Global}
 use Rattle.cc_env.specs.SafeShells.{all_safe}

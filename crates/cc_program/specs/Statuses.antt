@@ -65,7 +65,7 @@ IsOfWords _ = ⊥
 abbrev pub MakesBy : (Global → Result Tree Error → Type 0) → Result Tree Error → Type 0
 MakesBy Makes made = (alloc : Global) × Makes alloc made
 
--- How a program ends that parses its words by the tree that it makes.
+-- The ends of a program that parses its words by the tree that it makes.
 pub data ParsesMade {E : Type 0} (Makes : Result Tree Error → Type 0)
     (Does : ArgMatches → Result (Unit {0}) E → Type 0) : Result ExitCode (Failure E) → Type 0 where
   words_unread : (failure : Failure E) → IsOfWords failure → ParsesMade Makes Does (Err failure)
@@ -75,7 +75,7 @@ pub data ParsesMade {E : Type 0} (Makes : Result Tree Error → Type 0)
       → Makes (Ok tree) → ParsesTree Does (built_tree tree) words result
       → ParsesMade Makes Does result
 
--- How a program ends that completes its words, or else parses them by the tree that it makes.
+-- The ends of a program that completes its words, or else parses them by the tree that it makes.
 pub data Runs {E : Type 0} (Makes : Result Tree Error → Type 0)
     (Does : ArgMatches → Result (Unit {0}) E → Type 0) : Result ExitCode (Failure E) → Type 0 where
   unread : (failure : Failure E) → IsOfWords failure → Runs Makes Does (Err failure)

@@ -1,4 +1,4 @@
-//! Arguments, made of what is said of them.
+//! Arguments, from their descriptions.
 
 ghost use Rattle.std.specs.Prelude.{◌≡◌, IfErr, IfOk};
 ghost use Rattle.std.specs.Option.{option_map};
@@ -10,7 +10,11 @@ use cc_arg::{Arg, ArgParts, PossibleValue};
 use cc_base::{Error, Items, Text};
 use std::alloc::Global;
 
-/// The argument that is described. Fails with `Memory` alone.
+/// Returns the argument that `described` describes.
+///
+/// # Errors
+///
+/// `Memory` if an allocation fails.
 pub fn arg(alloc: Global, described: &ArgDescription<'_>) -> Result<Arg, Error>
     ensures ok { IfOk result (λ arg. arg ≡ arg_of described.now) }
     ensures memory { IfErr result (λ error. error ≡ Error.Memory) }
@@ -22,7 +26,7 @@ pub fn arg(alloc: Global, described: &ArgDescription<'_>) -> Result<Arg, Error>
     Ok(Arg::from(parts))
 }
 
-// Without its long, the names of its values and the values.
+// Returns the argument without its long, the names of its values and the values.
 fn said_parts(alloc: Global, described: &ArgDescription<'_>) -> Result<ArgParts, Error>
     ensures ok { IfOk result (λ parts. parts ≡ said_parts described.now) }
     ensures memory { IfErr result (λ error. error ≡ Error.Memory) }
@@ -65,7 +69,11 @@ fn some_values(
     }
 }
 
-/// Possible values, each a name and its help. Fails with `Memory` alone.
+/// Returns possible values, each from a name and its help text.
+///
+/// # Errors
+///
+/// `Memory` if an allocation fails.
 pub fn possible_values(
     alloc: Global,
     with_helps: &[(&str, &str)],

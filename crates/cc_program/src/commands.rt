@@ -12,8 +12,11 @@ use cc_base::Error;
 use cc_command::Command;
 use std::alloc::Global;
 
-/// A command with its name, what it says of itself, and these arguments in order. Fails with
-/// `Memory` alone.
+/// Returns a command with a name, an `about` text, and `args` in order.
+///
+/// # Errors
+///
+/// `Memory` if an allocation fails.
 pub fn command(
     alloc: Global,
     name: &str,
@@ -27,8 +30,11 @@ pub fn command(
     with_args(alloc, command, args)
 }
 
-/// A command that a subcommand has to follow, with its name, what it says of itself, and these
-/// arguments in order. Fails with `Memory` alone.
+/// Returns a command that needs a subcommand, with a name, an `about` text, and `args` in order.
+///
+/// # Errors
+///
+/// `Memory` if an allocation fails.
 pub fn group(
     alloc: Global,
     name: &str,
@@ -62,7 +68,11 @@ fn with_args(alloc: Global, command: Command, args: &[ArgDescription<'_>]) -> Re
     Ok(command)
 }
 
-/// The command with a further name that is shown. Fails as the command did, or with `Memory`.
+/// Returns the command with `alias` as a further visible name.
+///
+/// # Errors
+///
+/// The error of `command`, or `Memory` if an allocation fails.
 pub fn with_alias(
     alloc: Global,
     command: Result<Command, Error>,
@@ -74,8 +84,11 @@ pub fn with_alias(
     command.visible_alias(String::from_str(alloc, alias)?)
 }
 
-/// The command with a further argument, as `Command::arg` adds it. Fails as the command did, or as
-/// the argument did, or with `Memory`.
+/// Returns the command with a further argument, as `Command::arg` adds it.
+///
+/// # Errors
+///
+/// The error of `command` or of `argument`, or `Memory` if an allocation fails.
 pub fn with_arg(
     command: Result<Command, Error>,
     argument: Result<Arg, Error>,
@@ -86,8 +99,11 @@ pub fn with_arg(
     command?.arg(argument?)
 }
 
-/// The command with a further child, as `Command::subcommand` adds it. Fails as the command did, or
-/// as the child did, or with `Memory`.
+/// Returns the command with a further child, as `Command::subcommand` adds it.
+///
+/// # Errors
+///
+/// The error of `command` or of `child`, or `Memory` if an allocation fails.
 pub fn with_child(
     command: Result<Command, Error>,
     child: Result<Command, Error>,

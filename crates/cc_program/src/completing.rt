@@ -1,14 +1,13 @@
-//! Live completion, by what the environment says.
+//! Live completion as the environment requests it.
 
 ghost use Rattle.std.specs.Prelude.{map, string_bytes};
 ghost use Rattle.cc_env.specs.SafeShells.{safe_spec};
 ghost use Rattle.cc_engine.specs.Completion.{Completes};
-ghost use Rattle.cc_engine.specs.Paths.{PathsOf};
+ghost use Rattle.cc_engine.specs.Sources.{returned_from};
 ghost use Rattle.cc_env.specs.Steps.{MakesText, Tries, names_of};
 ghost use Rattle.cc_env.specs.Wanted.{wanted_name};
 ghost use Rattle.cc_program.specs.Requests.{TriesSome, system_facts};
 ghost use Rattle.cc_replies.specs.Environment.{value_of};
-ghost use Rattle.cc_gather.specs.Values.{returned_by};
 
 use cc_base::{CandidateSources, Error, Sink};
 use cc_candidates::Completers;
@@ -30,13 +29,16 @@ const VARIABLES: [&str; 6] = [
     "_CLAP_IFS",
 ];
 
-/// Writes what a shell asks for by the environment, through the safe adapters, and returns whether
-/// one asks: the program then has nothing else to do. `words` are those of the command line, the
-/// program's name first; the factory makes the command that is completed.
+/// Writes what a shell asks for by the environment to `out`, through the safe adapters, and returns
+/// whether one asks. If one does, the program has nothing else to do. `words` are those of the
+/// command line, the program's name first. `factory` makes the command that is completed, and
+/// `completers` are those that its arguments name.
 ///
-/// The environment, the current folder and the user's home folder are those of the system.
+/// The environment, the current directory and the user's home directory are those of the system.
 ///
-/// Fails as `CompleteEnv::try_complete` does.
+/// # Errors
+///
+/// Those of `CompleteEnv::try_complete`.
 pub fn completes<R, F, W>(
     rt: &R,
     words: Vec<String>,
@@ -52,10 +54,9 @@ where
     ensures { TriesSome out.old out.new result factory (λ alloc env current home made_by variable
         bin completer shells. Tries W.taken W.failed safe_spec shells (λ shell. MakesText
         (λ made. F.post made_by alloc made) (safe_spec shell)
-        (names_of variable bin completer current) env (Completes (returned_by
-        ⟦<Completers as CandidateSources>⟧.may_complete
-        ⟦<Completers as CandidateSources>⟧.may_list completers.now
-        (PathsOf (system_facts home) current))) (map string_bytes words.items))
+        (names_of variable bin completer current) env (Completes (returned_from
+        ⟦<Completers as CandidateSources>⟧ completers.now (system_facts home) current))
+        (map string_bytes words.items))
         (wanted_name (value_of variable env)) out.old out.new result) }
 {
     let alloc = rt.alloc();

@@ -1,4 +1,4 @@
-//! What a program says of an argument.
+//! The description of an argument.
 
 ghost use Rattle.std.specs.Prelude.{◌≡◌, Some, true};
 ghost use Rattle.cc_program.specs.Described.{arg_of, described_values, flag_of, new_described};
@@ -8,7 +8,7 @@ use cc_arg::{ArgAction, ValueHint, ValueRange};
 use cc_base::ArgValueCompleter;
 
 /// An argument as most programs have it, described by borrowed texts. It allocates nothing, and its
-/// methods return a changed copy; `command`, `group` and `arg` make the argument of it.
+/// methods return a changed copy. `command`, `group` and `arg` make the argument.
 #[derive(Clone, Copy)]
 pub struct ArgDescription<'a> {
     pub(crate) id: &'a str,
@@ -25,7 +25,7 @@ pub struct ArgDescription<'a> {
     pub(crate) global: bool,
 }
 
-/// The flag `--name`, used or not. Its id is the name.
+/// Returns the flag `--name` with a help text. Its id is the name.
 pub fn flag<'a>(name: &'a str, help: &'a str) -> ArgDescription<'a>
     ensures { arg_of result ≡ flag_of name.entry.now help.entry.now }
 {
@@ -35,7 +35,7 @@ pub fn flag<'a>(name: &'a str, help: &'a str) -> ArgDescription<'a>
     described
 }
 
-/// The option `--name VALUE`. Its id is the name.
+/// Returns the option `--name VALUE` with a help text. Its id is the name.
 pub fn option<'a>(name: &'a str, value_name: &'a str, help: &'a str) -> ArgDescription<'a>
     ensures { arg_of result ≡ option_of name.entry.now value_name.entry.now help.entry.now }
 {
@@ -44,7 +44,7 @@ pub fn option<'a>(name: &'a str, value_name: &'a str, help: &'a str) -> ArgDescr
     described
 }
 
-/// The positional `VALUE` with this id.
+/// Returns the positional `VALUE` with an id and a help text.
 pub fn positional<'a>(id: &'a str, value_name: &'a str, help: &'a str) -> ArgDescription<'a>
     ensures { arg_of result ≡ positional_of id.entry.now value_name.entry.now help.entry.now }
 {
@@ -53,7 +53,7 @@ pub fn positional<'a>(id: &'a str, value_name: &'a str, help: &'a str) -> ArgDes
     described
 }
 
-// An id and a help alone.
+// Returns a description with an id and a help text alone.
 fn described<'a>(id: &'a str, help: &'a str) -> ArgDescription<'a>
     ensures { result ≡ new_described id.entry help.entry }
 {
@@ -74,7 +74,7 @@ fn described<'a>(id: &'a str, help: &'a str) -> ArgDescription<'a>
 }
 
 impl<'a> ArgDescription<'a> {
-    /// With a short, the `c` of `-c`.
+    /// Sets the short, such as the `c` of `-c`.
     pub fn short(mut self, short: char) -> ArgDescription<'a>
         ensures { arg_of result ≡ record (arg_of self.entry) { short = Some short } }
     {
@@ -82,7 +82,7 @@ impl<'a> ArgDescription<'a> {
         self
     }
 
-    /// With possible values, each a name and its help.
+    /// Sets the possible values, each a name and its help text.
     pub fn values(mut self, with_helps: &'a [(&'a str, &'a str)]) -> ArgDescription<'a>
         ensures { arg_of result ≡ record (arg_of self.entry) {
           possible_values = Some (described_values with_helps.entry.now);
@@ -92,7 +92,7 @@ impl<'a> ArgDescription<'a> {
         self
     }
 
-    /// With what its values are.
+    /// Sets the value hint.
     pub fn value_hint(mut self, hint: ValueHint) -> ArgDescription<'a>
         ensures { arg_of result ≡ record (arg_of self.entry) { value_hint = hint } }
     {
@@ -100,7 +100,7 @@ impl<'a> ArgDescription<'a> {
         self
     }
 
-    /// With the completer of its values, by its number.
+    /// Sets the completer of its values, by its number.
     pub fn completer(mut self, completer: ArgValueCompleter) -> ArgDescription<'a>
         ensures { arg_of result ≡ record (arg_of self.entry) { completer = Some completer } }
     {
@@ -108,7 +108,7 @@ impl<'a> ArgDescription<'a> {
         self
     }
 
-    /// With one value or more in each use.
+    /// Makes it take one value or more in each use.
     pub fn many(mut self) -> ArgDescription<'a>
         ensures { arg_of result ≡ record (arg_of self.entry) { num_args = Some one_or_more } }
     {
@@ -116,7 +116,7 @@ impl<'a> ArgDescription<'a> {
         self
     }
 
-    /// One that has to be given.
+    /// Makes it required.
     pub fn required(mut self) -> ArgDescription<'a>
         ensures { arg_of result ≡ record (arg_of self.entry) { required = true } }
     {
@@ -124,7 +124,7 @@ impl<'a> ArgDescription<'a> {
         self
     }
 
-    /// One of this command and of all below it.
+    /// Makes it an argument of the command and of all commands below it.
     pub fn global(mut self) -> ArgDescription<'a>
         ensures { arg_of result ≡ record (arg_of self.entry) { global = true } }
     {

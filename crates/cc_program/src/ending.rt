@@ -1,4 +1,4 @@
-//! How a program ends.
+//! The end of a program.
 
 ghost use Rattle.std.specs.Prelude.{◌≡◌};
 ghost use Rattle.std.specs.Process.{exit_status};
@@ -7,8 +7,8 @@ ghost use Rattle.cc_program.specs.Statuses.{status_after};
 use std::fmt::Display;
 use std::process::ExitCode;
 
-/// The status that the program ends with. Where it failed that is 1, and the error is printed to
-/// the standard error, after the program's name and a colon; a print that fails is passed over.
+/// Returns the status with which the program ends: that of `ended`, or 1 if it failed. The error is
+/// then printed to standard error, after `name` and a colon. A print that fails is passed over.
 pub fn end<R: Eprint, E: Display + Drop>(rt: &R, name: &str, ended: Result<ExitCode, E>) -> ExitCode
     ensures { exit_status result ≡ status_after ended }
 {

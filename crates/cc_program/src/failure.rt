@@ -1,4 +1,4 @@
-//! Why a program fails.
+//! The failures of a program.
 
 ghost use Rattle.std.specs.Prelude.{◌≡◌};
 ghost use Rattle.cc_base.specs.declared.error.Error.TheVariants.{Memory};
@@ -8,14 +8,14 @@ use cc_base::Error;
 use std::alloc::{AllocError, AllocFailed};
 use std::{fmt, io};
 
-/// Why a program could not do what its words ask for, where its own work fails with `E`.
+/// The failure of a program whose own work fails with `E`.
 #[derive(Debug, Drop)]
 pub enum Failure<E> {
     /// The words could not be read: memory ran out, or one of them is not UTF-8.
     Words(io::Error),
     /// A call of this library failed.
     Library(Error),
-    /// A help, the version, or what is wrong with the words could not be printed.
+    /// A help text, the version, or a message about the words could not be printed.
     Print(io::Error),
     /// The program's own work failed.
     Own(E),

@@ -1,6 +1,16 @@
 //! A program that completes its words and parses them by the same tree, and short forms of
 //! describing a command line: arguments and commands as most programs have them, each with its
 //! help text, and steps that pass a failure on.
+//!
+//! ```rattle
+//! fn tree(alloc: Global) -> Result<Command, Error> {
+//!     let args = [
+//!         positional("package", "PACKAGE", "Names of packages").many(),
+//!         flag("dry-run", "Only say what would be done").short('n'),
+//!     ];
+//!     command(alloc, "install", "Install packages", &args)
+//! }
+//! ```
 #![tactic(auto)]
 
 mod arguments;

@@ -1,4 +1,4 @@
-//! What the words of a command line ask for.
+//! Parsing the words of a command line.
 
 ghost use Rattle.std.specs.Prelude.{◌≡◌, map, string_bytes};
 ghost use Rattle.std.specs.Fn.{FnOnceReturnsAt};
@@ -33,7 +33,7 @@ where
     }
 }
 
-// Carries out what the parsed words ask for.
+// Does the work of the parsed words.
 pub(crate) fn carried<C, E>(carry_out: C, matches: &ArgMatches<'_>) -> Result<ExitCode, Failure<E>>
 where
     C: FnOnce(&ArgMatches<'_>) -> Result<(), E>,
@@ -46,7 +46,7 @@ where
     }
 }
 
-// Prints a help, the version, or what is wrong with the words.
+// Prints a help text, the version, or a message about the words.
 pub(crate) fn explained<R: Print + Eprint, E>(
     rt: &R,
     error: &clap::Error,
@@ -59,7 +59,7 @@ pub(crate) fn explained<R: Print + Eprint, E>(
     }
 }
 
-// The exit status for words that are not carried out: 0 where a help or the version was wanted, and
+// Returns the exit status for words that are not carried out: 0 for a help text or the version, and
 // 2 for a mistake.
 fn status_of(kind: ErrorKind) -> u8
     ensures { result ≡ status_of kind }

@@ -20,17 +20,18 @@ use std::io;
 use std::process::ExitCode;
 use std::rt::Files;
 
-/// Completes the words of the command line where a shell asks for it, as `completes` does; else
-/// parses them by the tree that the factory makes, and calls `carry_out` with what they hold. Where
-/// they ask for a help or the version, or are no command line, that is printed in place of the
-/// call: a help and the version to the standard output, a mistake to the standard error.
+/// Completes the words of the command line if a shell asks for it, as `completes` does. Otherwise
+/// `run` parses them by the tree that `factory` makes, and calls `carry_out` with the matches. If
+/// the words ask for a help text or the version, or are wrong, `run` prints a message instead: a
+/// help text and the version to standard output, a mistake to standard error.
 ///
-/// The status is 0 where the words were completed or carried out, or ask for a help or the version,
-/// and 2 for a mistake.
+/// Returns status 0 if the words were completed or carried out, or ask for a help text or the
+/// version, and status 2 for a mistake.
 ///
-/// Fails with `Words` where the words can't be read; with `Library` as `completes` and the factory
-/// do, and where memory runs out; with `Print` where printing fails; and with `Own` as `carry_out`
-/// does.
+/// # Errors
+///
+/// `Words` if the words can't be read. `Library` with an error of `completes` or of `factory`, or if
+/// an allocation fails. `Print` if printing fails. `Own` with the error of `carry_out`.
 pub fn run<R, F, C, E>(
     rt: &R,
     factory: F,
@@ -94,7 +95,7 @@ where
     parse(rt, parser, words, carry_out)
 }
 
-// The words of the command line.
+// Returns the words of the command line.
 fn read_words<R: Env + AllocGlobal, E>(rt: &R) -> Result<Vec<String>, Failure<E>>
     ensures { IfErr result IsOfWords }
 {

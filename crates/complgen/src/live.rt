@@ -1,13 +1,12 @@
-//! Requests of shells: the registration of all programs that have a tree file, and the candidates
-//! for a word of one of them.
+//! Answers requests of shells: writes the registration of all programs that have a tree file, or
+//! the candidates for a word of one of them.
 
 use crate::contents;
 use crate::output::{buffered, flush};
 use cc_base::{Error, Sink};
 use cc_paths::{Folder, RealFolder};
 use cc_replies::{EnvValues, home, variables};
-use complgen_command_line::Refusal;
-use complgen_commands::error_refusal;
+use complgen_commands::{Refusal, error_refusal};
 use complgen_live::{
     OWN_TREE, command_name, known_names, reply, request_words, tree_folders, tree_paths,
     write_registrations,
@@ -17,7 +16,7 @@ use std::convert::AsStr;
 use std::env::{self, Env};
 use std::rt::Files;
 
-// The variables that shells set, and those that say where tree files lie.
+// The variables that shells set, and those that name the directories of tree files.
 const VARIABLES: [&str; 10] = [
     "COMPLETE",
     "_COMPLGEN_VALUES",
@@ -31,18 +30,22 @@ const VARIABLES: [&str; 10] = [
     "HOME",
 ];
 
-// What the path of the built-in tree is said to be.
+// The path that is printed for the built-in tree.
 const OWN_PATH: &str = "own tree";
 
-// A tree file, or none.
+// A tree file, and its bytes if there is one.
 #[derive(Drop)]
 struct TreeFile {
     path: String,
     bytes: Option<Vec<u8>>,
 }
 
-/// Writes what a shell requests. Where the program has no tree file nothing is written or printed,
-/// and the status is 1: the shell goes on without candidates.
+/// Writes what a shell requests. `words` are all words of the command line.
+///
+/// # Errors
+///
+/// A refusal with status 1. Its text is empty if the completed program has no tree file: then the
+/// shell goes on without candidates.
 pub(crate) fn complete<R: Env + Files + Print + Eprint + AllocGlobal>(
     rt: &R,
     env: &EnvValues,
@@ -53,7 +56,7 @@ pub(crate) fn complete<R: Env + Files + Print + Eprint + AllocGlobal>(
     print(rt, env, words, folders.as_slice(), &folder)
 }
 
-// The same over these folders.
+// Writes what a shell requests, over tree files in `folders` and paths in `folder`.
 fn print<R: Env + Files + Print + Eprint + AllocGlobal, D: Folder>(
     rt: &R,
     env: &EnvValues,
@@ -110,18 +113,18 @@ fn write_known<R: Eprint + AllocGlobal, D: Folder, W: Sink>(
     Ok(())
 }
 
-// Says how many tree files are passed over, as their names are not plain. The names are not
-// printed: they may hold what a terminal takes for a command.
+// Prints how many tree files are skipped because their names are not plain. Does not print the
+// names, since a terminal may take a part of them for a command.
 fn report_passed_over<R: Eprint>(rt: &R, count: usize) {
     if count > 0 {
         let _ = eprintln!(rt;
-            "complgen: tree files passed over, whose names are not plain: {count}"
+            "complgen: tree files skipped because their names are not plain: {count}"
         );
     }
 }
 
-// The first tree file that can be read of the program that a word calls; else the built-in tree,
-// where that is this program.
+// Returns the first readable tree file of the program that `word` calls, or the built-in tree if
+// that program is this one.
 fn tree_file<R: Files + AllocGlobal>(
     rt: &R,
     folders: &[String],
@@ -139,7 +142,7 @@ fn tree_file<R: Files + AllocGlobal>(
     built_in(alloc, word)
 }
 
-// The built-in tree, where a word calls this program.
+// Returns the built-in tree if `word` calls this program.
 fn built_in(alloc: Global, word: &str) -> Result<TreeFile, AllocError> {
     let path = String::from_str(alloc, OWN_PATH)?;
     let mut bytes = None;
@@ -149,7 +152,7 @@ fn built_in(alloc: Global, word: &str) -> Result<TreeFile, AllocError> {
     Ok(TreeFile { path, bytes })
 }
 
-/// The values of the variables that a request is read from.
+/// Returns the values of the variables that a request is read from.
 pub(crate) fn environment<R: Env + AllocGlobal>(rt: &R) -> Result<EnvValues, AllocError> {
     variables(rt, &VARIABLES)
 }

@@ -1,17 +1,14 @@
-//! `complgen`: completion scripts, registrations and candidates for a command that a JSON file
+//! `complgen`: completion scripts, registrations and candidates for a program that a tree file
 //! describes.
 #![tactic(auto)]
 
 mod live;
 mod output;
-mod tools;
+mod plans;
 
-use crate::output::{buffered, flush};
-use cc_paths::{Folder, RealFolder};
-use cc_replies::home;
-use complgen_command_line::{Plan, Refusal, WRITE_FAILED, names_tool, plan};
-use complgen_commands::run;
-use complgen_live::is_request;
+use crate::plans::carry_out_plan;
+use complgen_command_line::{is_shell_request, plan};
+use complgen_commands::{Refusal, WRITE_FAILED};
 use std::alloc::AllocError;
 use std::convert::AsStr;
 use std::env::{self, Env};
@@ -28,46 +25,19 @@ fn main(rt: HostRuntime) -> ExitCode {
     }
 }
 
-// Does what a shell requests, or what the words want of a tool or of the program, and returns the
-// exit status.
+// Replies to a shell, or carries out what the command line asks for. Returns the exit status.
 fn carry_out<R: Env + Files + Print + Eprint + AllocGlobal>(rt: &R) -> Result<u8, Refusal> {
     let words = words(rt)?;
     let env = live::environment(rt)?;
-    if is_request(&env, words.as_slice()) {
+    if is_shell_request(&env, words.as_slice()) {
         live::complete(rt, &env, words)?;
         return Ok(0);
     }
-    if names_tool(words.as_slice()) {
-        return tools::use_tool(rt, words.as_slice());
-    }
-    carry_out_plan(rt, words.as_slice())?;
-    Ok(0)
+    let plan = plan(rt.alloc(), words.as_slice())?;
+    carry_out_plan(rt, &plan)
 }
 
-// Does what the words want of the program.
-fn carry_out_plan<R: Env + Files + Print + AllocGlobal>(
-    rt: &R,
-    words: &[String],
-) -> Result<(), Refusal> {
-    let plan = plan(rt.alloc(), words)?;
-    let file = contents(rt, plan.tree())?;
-    let folder = RealFolder::new(rt, home(rt)?);
-    print(rt, &plan, file.as_ref().map(Vec::as_slice), &folder)
-}
-
-// Carries out a plan over the bytes of the tree file, and prints what it writes.
-fn print<R: Print + AllocGlobal, D: Folder>(
-    rt: &R,
-    plan: &Plan,
-    file: Option<&[u8]>,
-    folder: &D,
-) -> Result<(), Refusal> {
-    let mut out = buffered(rt)?;
-    run(rt.alloc(), plan, file, folder, &mut out)?;
-    flush(&mut out)
-}
-
-// The words of the command line; the first is the program's name.
+// Returns the words of the command line. The first is the program's name.
 fn words<R: Env + AllocGlobal>(rt: &R) -> Result<Vec<String>, Refusal> {
     match env::args(rt) {
         Ok(words) => Ok(words.collect(rt.alloc())?),
@@ -76,7 +46,7 @@ fn words<R: Env + AllocGlobal>(rt: &R) -> Result<Vec<String>, Refusal> {
     }
 }
 
-// The bytes of a file, or `None` where it can't be read.
+// Returns the bytes of the file at `path`, or `None` if it cannot be read.
 fn contents<R: Files + AllocGlobal>(rt: &R, path: &str) -> Result<Option<Vec<u8>>, Refusal> {
     match fs::read(rt, path) {
         Ok(bytes) => Ok(Some(bytes)),

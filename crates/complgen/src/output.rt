@@ -1,11 +1,15 @@
-//! The standard output, with a buffer.
+//! Writes to the standard output through a buffer.
 
 use cc_base::Counted;
-use complgen_command_line::{Refusal, WRITE_FAILED};
+use complgen_commands::{Refusal, WRITE_FAILED};
 use std::alloc::AllocError;
 use std::io::{self, BufWriter, Printer, Write};
 
-/// The standard output, with a buffer that `flush` empties. Fails where memory runs out.
+/// Returns the standard output with a buffer, which `flush` empties.
+///
+/// # Errors
+///
+/// `AllocError` if an allocation fails.
 pub(crate) fn buffered<R: Print + AllocGlobal>(
     rt: &R,
 ) -> Result<Counted<BufWriter<Printer<'_, R>>>, AllocError> {
@@ -15,7 +19,11 @@ pub(crate) fn buffered<R: Print + AllocGlobal>(
     }
 }
 
-/// Prints what the buffer holds. Fails with status 1 where it can't be printed.
+/// Prints what the buffer holds.
+///
+/// # Errors
+///
+/// A refusal with status 1 if printing fails.
 pub(crate) fn flush<W: Write>(out: &mut Counted<W>) -> Result<(), Refusal> {
     match out.flush() {
         Ok(()) => Ok(()),

@@ -4,7 +4,7 @@ use Rattle.cc_base.specs.Collected.{collected_bytes, collected_failures}
 use Rattle.cc_base.specs.Sink.{none_failed}
 use Rattle.cc_base.specs.declared.collected.Collected.{Collected}
 use Rattle.cc_shell.specs.declared.shell.Shell.{Shell}
-use Rattle.complgen_command_line.specs.declared.types.Refusal.{Refusal}
+use Rattle.complgen_commands.specs.declared.refusals.Refusal.{Refusal}
 use Rattle.complgen_commands.specs.ScriptEnds.{EndsScript, NamedScriptReads, known_shell, unknown_shell}
 use Rattle.complgen_commands.specs.Scripts.{IsScript, SharesLabel}
 use Rattle.complgen_commands.specs.Writing.{Finishes, Untouched, no_tree, no_text, out_of_memory}

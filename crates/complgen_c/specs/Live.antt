@@ -7,8 +7,8 @@ use Rattle.cc_engine.specs.Paths.{PathsOf}
 use Rattle.cc_paths.specs.Folders.{FolderFacts}
 use Rattle.cc_replies.specs.Environment.{value_of}
 use Rattle.cc_replies.specs.declared.environment.EnvValues.{EnvValues}
-use Rattle.complgen_command_line.specs.Refusals.{IsOutOfMemory, IsRefusal}
-use Rattle.complgen_command_line.specs.declared.types.Refusal.{Refusal}
+use Rattle.complgen_commands.specs.Refusals.{IsOutOfMemory, IsRefusal}
+use Rattle.complgen_commands.specs.declared.refusals.Refusal.{Refusal}
 use Rattle.complgen_live.specs.Replies.{EndsReply}
 use Rattle.complgen_commands.specs.Refusals.{Reports}
 use Rattle.complgen_c.specs.Listings.{Listing, facts_of}

@@ -13,8 +13,7 @@ use crate::outcome::Outcome;
 use crate::requests::{Request, read_request};
 use cc_base::{Collected, Error, Items, Text};
 use cc_replies::EnvValues;
-use complgen_command_line::Refusal;
-use complgen_commands::error_refusal;
+use complgen_commands::{Refusal, error_refusal};
 use complgen_live::reply;
 use std::alloc::{AllocError, Global};
 

@@ -7,8 +7,7 @@ ghost use Rattle.complgen_c.specs.Scripts.{MakesScript};
 
 use crate::outcome::Outcome;
 use cc_base::{Collected, Items, Sink};
-use complgen_command_line::Refusal;
-use complgen_commands::script;
+use complgen_commands::{Refusal, script};
 use std::alloc::{AllocError, Global};
 
 /// Makes the script for the shell of this name of the command in a tree file, under the bin name,

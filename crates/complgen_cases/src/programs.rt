@@ -8,9 +8,9 @@ use cc_env::{CompleteEnv, EnvCompleter};
 use cc_paths::MemoryFolder;
 use cc_quote::posix_word;
 use cc_replies::EnvValues;
-use complgen_check::check;
-use complgen_command_line::{Refusal, ToolPlan, names_tool, plan, plan_tool};
-use complgen_commands::run;
+use complgen_check::{Report, check};
+use complgen_command_line::plan;
+use complgen_commands::{Plan, Refusal, run, unreadable};
 use complgen_tree_file::read_tree;
 use std::alloc::{AllocError, Global};
 use std::convert::AsStr;
@@ -111,36 +111,30 @@ fn complgen(alloc: Global, document: &Document, words: &[String]) -> Result<Outc
     }
 }
 
-// Does what the words request, and returns the exit status.
+// Carries out what the words ask for, and returns the exit status. No case writes files.
 fn carry_out(
     alloc: Global,
     document: &Document,
     words: &[String],
     out: &mut Collected,
 ) -> Result<u8, Refusal> {
-    if names_tool(words) {
-        return checked(alloc, document, words, out);
-    }
     let plan = plan(alloc, words)?;
     let file = document.tree(plan.tree());
-    run(alloc, &plan, file, &folders(), out)?;
-    Ok(0)
-}
-
-// Checks a tree file. No case writes files.
-fn checked(
-    alloc: Global,
-    document: &Document,
-    words: &[String],
-    out: &mut Collected,
-) -> Result<u8, Refusal> {
-    match plan_tool(alloc, words)? {
-        ToolPlan::Check(bin, tree) => {
+    match &plan {
+        Plan::Check { bin, json, tree } => {
+            if file.is_none() {
+                return Err(unreadable(alloc, tree.as_str()));
+            }
             let bin = bin.as_ref().map(|bin| bin.as_str());
-            let is_clean = check(alloc, bin, document.tree(tree.as_str()), out)?;
+            let report = if *json { Report::Json } else { Report::Lines };
+            let is_clean = check(alloc, bin, report, file, out)?;
             Ok(u8::from(!is_clean))
         }
-        ToolPlan::Scripts(_, _, _) => Ok(3),
+        Plan::Scripts { .. } => Ok(3),
+        Plan::Script(..) | Plan::Register(..) | Plan::Candidates(..) => {
+            run(alloc, &plan, file, &folders(), out)?;
+            Ok(0)
+        }
     }
 }
 

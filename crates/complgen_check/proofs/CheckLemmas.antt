@@ -1,51 +1,53 @@
--- How a check of a tree file ends.
+-- The ends of a check of a tree file.
 use Rattle.std.proofs.Common.{◌≡◌, ◌++◌, ℕ, Bool, List, None, Option, Some, Ok, Err, Result, refl, subst, sym}
 use Rattle.cc_base.specs.Writes.{CountsWrite, IsMemoryOrWrite}
 use Rattle.cc_base.specs.declared.error.Error.{Error}
 use Rattle.cc_base.specs.declared.error.Error.TheVariants.{Memory, Write}
 use Rattle.cc_base.specs.declared.failures.Failures.{Failures}
-use Rattle.complgen_command_line.specs.declared.types.Refusal.{Refusal}
-use Rattle.complgen_command_line.specs.Refusals.{IsRefusal}
+use Rattle.complgen_commands.specs.declared.refusals.Refusal.{Refusal}
+use Rattle.complgen_commands.specs.Refusals.{IsRefusal}
 use Rattle.complgen_commands.specs.Refusals.{Reports, unreadable_line}
 use Rattle.complgen_tree_errors.specs.declared.finding.PlacedFinding.{PlacedFinding}
 use Rattle.complgen_check.specs.Checking.{EndsCheck, Finds, only_notes, out_of_memory, printed}
 use Rattle.complgen_check.specs.Checking.{unreadable, write_failed}
-use Rattle.complgen_check.specs.Lines.{finding_lines}
+use Rattle.complgen_check.specs.Report.{report_text}
+use Rattle.complgen_check.specs.declared.report.Report.{Report}
 
 -- not all lines are printed
 pub not_printed : {S : Type 0} (taken : S → List ℕ) (failed : S → Failures) (bin : Option (List ℕ))
-    (bytes : List ℕ) (old new : S) (error : Error) (refusal : Refusal) → IsMemoryOrWrite error
+    (report : Report) (bytes : List ℕ) (old new : S) (error : Error) (refusal : Refusal) → IsMemoryOrWrite error
     → Reports error refusal → CountsWrite {T = Unit {0}} (Err error) (failed old) (failed new)
-    → EndsCheck taken failed bin old new (Some bytes) (Err refusal)
-not_printed taken failed bin bytes old new Memory refusal is reported counted =
+    → EndsCheck taken failed bin report old new (Some bytes) (Err refusal)
+not_printed taken failed bin report bytes old new Memory refusal is reported counted =
     out_of_memory bytes refusal reported counted
-not_printed taken failed bin bytes old new (Write kind) refusal is reported counted =
+not_printed taken failed bin report bytes old new (Write kind) refusal is reported counted =
     write_failed bytes kind refusal reported counted
-not_printed taken failed bin bytes old new error refusal is reported counted = absurd is
+not_printed taken failed bin report bytes old new error refusal is reported counted = absurd is
 
--- all are printed, and it is told whether they are notes
+-- all findings are printed, and the result is whether they are notes
 pub all_printed : {S : Type 0} (taken : S → List ℕ) (failed : S → Failures) (bin : Option (List ℕ))
-    (bytes : List ℕ) (old new : S) (found : List PlacedFinding) (told : Bool)
+    (report : Report) (bytes : List ℕ) (old new : S) (found : List PlacedFinding) (told : Bool)
     → Finds bin bytes found → told ≡ only_notes found
-    → taken new ≡ taken old ++ finding_lines bytes found → failed new ≡ failed old
-    → EndsCheck taken failed bin old new (Some bytes) (Ok told)
-all_printed taken failed bin bytes old new found told finds is took same =
-    subst (λ (told : Bool). EndsCheck taken failed bin old new (Some bytes) (Ok told)) (sym is)
+    → taken new ≡ taken old ++ report_text report bytes found → failed new ≡ failed old
+    → EndsCheck taken failed bin report old new (Some bytes) (Ok told)
+all_printed taken failed bin report bytes old new found told finds is took same =
+    subst (λ (told : Bool). EndsCheck taken failed bin report old new (Some bytes) (Ok told)) (sym is)
     (printed bytes found finds took same)
 
-module _ {S : Type 0} (taken : S → List ℕ) (failed : S → Failures) (bin : Option (List ℕ)) where
+module _ {S : Type 0} (taken : S → List ℕ) (failed : S → Failures) (bin : Option (List ℕ))
+    (report : Report) where
   -- the file has these bytes
   pub of_file : (file : Option (List ℕ)) (bytes : List ℕ) (old new : S)
       (result : Result Bool Refusal) → file ≡ Some bytes
-      → EndsCheck taken failed bin old new (Some bytes) result
-      → EndsCheck taken failed bin old new file result
+      → EndsCheck taken failed bin report old new (Some bytes) result
+      → EndsCheck taken failed bin report old new file result
   of_file file bytes old new result is ends = subst
-      (λ (f : Option (List ℕ)). EndsCheck taken failed bin old new f result) (sym is) ends
+      (λ (f : Option (List ℕ)). EndsCheck taken failed bin report old new f result) (sym is) ends
 
   -- the file can't be read
   pub unread : (file : Option (List ℕ)) (refusal : Refusal) (state : S) → file ≡ None
       → IsRefusal unreadable_line refusal
-      → EndsCheck taken failed bin state state file (Err refusal)
+      → EndsCheck taken failed bin report state state file (Err refusal)
   unread file refusal state is refused = subst
-      (λ (f : Option (List ℕ)). EndsCheck taken failed bin state state f (Err refusal)) (sym is)
+      (λ (f : Option (List ℕ)). EndsCheck taken failed bin report state state f (Err refusal)) (sym is)
       (unreadable refusal refused (record { taken_same = refl; failed_same = refl }))

@@ -2,4 +2,5 @@ mod BuiltAgain
 mod CheckLemmas
 mod LineLemmas
 mod NoWarnings
+mod ObjectLemmas
 mod SoundLemmas

@@ -1,4 +1,4 @@
--- Where there are no warnings but notes, the premises hold.
+-- If there are only notes, the premises hold.
 use Rattle.std.proofs.Common.{◌≡◌, ◌∙◌, sym, ap, subst, refl, ℕ, Bool, true, false, ◌&&◌, IsTrue, List, [], ◌++◌, Option, Some, None, unwrap_or, inl, inr}
 use Rattle.std.specs.List.{list_all}
 use Rattle.std.proofs.lemmas.Bool.{and_parts}

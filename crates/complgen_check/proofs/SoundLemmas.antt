@@ -1,4 +1,4 @@
--- Where nothing is found in a tree file but notes, its scripts are written and read back.
+-- If nothing is found in a tree file but notes, its scripts are written and read back.
 use Rattle.std.proofs.Common.{◌≡◌, ◌∙◌, ◌++◌, ◌&&◌, Bool, IsTrue, List, None, Option, Some, [], ◌∷◌, ap, false, map, refl, subst, sym, true, ℕ}
 use Rattle.std.specs.List.{list_all}
 use Rattle.std.proofs.lemmas.Bool.{and_parts}
@@ -22,6 +22,7 @@ use Rattle.cc_shell.specs.declared.shell.Shell.TheVariants.{Bash, Elvish, Fish, 
 use Rattle.cc_tables.proofs.ElvishPlain.{elvish_plain_reads}
 use Rattle.cc_tables.proofs.NushellPlain.{nushell_plain_reads}
 use Rattle.cc_tables.proofs.PowershellFreeScripts.{powershell_plain_reads}
+use Rattle.complgen_tree_errors.specs.Checks.{hidden_list}
 use Rattle.complgen_tree_errors.specs.Findings.{AreErrors, IsError, Shown, shown_placed}
 use Rattle.complgen_tree_errors.specs.declared.finding.Level.{Level}
 use Rattle.complgen_tree_errors.specs.declared.finding.Level.TheVariants.{Error}
@@ -31,7 +32,7 @@ use Rattle.complgen_check.proofs.NoWarnings.{premises_hold}
 use Rattle.complgen_check.specs.Promises.{HoldPremises}
 use Rattle.complgen_check.specs.TreeWarnings.{built_as, called, warnings_of}
 use Rattle.cc_zsh.proofs.ReadsBack as zsh
-use Rattle.complgen_check.specs.Checking.{AreSound, Finds, IsSafeFor, Warns, described, errors}
+use Rattle.complgen_check.specs.Checking.{AreSound, Finds, IsSafeFor, described, errors}
 use Rattle.complgen_check.specs.Checking.{finding_level, is_note, only_notes, shown_warning}
 
 -- ---- scripts
@@ -67,12 +68,13 @@ scripts_safe bin tree holds shell = record {
 
 -- ---- findings that are notes
 
--- among errors there is none
+-- no error is a note
 no_notes : (found : List PlacedFinding) → AreErrors found → IsTrue (only_notes found) → ⊥
 no_notes [] are clean = let none : true ≡ false = are.some in cc
 no_notes (finding ∷ more) are clean =
     let first = (and_parts (is_note finding.level) (only_notes more) clean).0 in
-    let is : finding.level ≡ Error = All-head IsError finding more are.each in
+    let error = All-head IsError (shown_placed finding) (map shown_placed more) are.each in
+    let is : finding.level ≡ Error = error.level in
     let noted : false ≡ true = subst (λ (level : Level). IsTrue (is_note level)) is first in
     cc
 
@@ -98,29 +100,28 @@ warned_notes (warning ∷ more) =
     ap (λ note. note && notes_shown (map shown_warning more)) (kind_shown warning.kind)
     ∙ ap (λ notes. is_note_kind warning.kind && notes) (warned_notes more)
 
--- the last of some findings are notes, where all are
-last_notes : (first last : List PlacedFinding) → IsTrue (only_notes (first ++ last))
-    → IsTrue (only_notes last)
+-- the last of what is shown are notes if all are
+last_notes : (first last : List Shown) → IsTrue (notes_shown (first ++ last))
+    → IsTrue (notes_shown last)
+unfolding notes_shown
 last_notes [] last clean = clean
-last_notes (finding ∷ more) last clean =
-    last_notes more last (and_parts (is_note finding.level) (only_notes (more ++ last)) clean).1
+last_notes (shown ∷ more) last clean =
+    last_notes more last (and_parts (is_note shown.level) (notes_shown (more ++ last)) clean).1
 
 -- ---- the whole
 
-warned : (bin : Option (List ℕ)) (tree : Tree) (doubles found : List PlacedFinding)
-    → Warns bin tree doubles found → IsTrue (only_notes found)
-    → IsTrue (are_notes (warnings_of bin tree))
-warned bin tree doubles found warns clean =
-    let last : IsTrue (only_notes warns.warnings) = last_notes doubles warns.warnings
-    (subst (λ (found : List PlacedFinding). IsTrue (only_notes found)) warns.all clean) in
-    subst IsTrue (sym (placed_notes warns.warnings) ∙ ap notes_shown warns.each_warning
-    ∙ warned_notes (warnings_of bin tree)) last
+warned : (hidden : List Shown) (warnings : List Warning) (found : List PlacedFinding)
+    → map shown_placed found ≡ hidden ++ map shown_warning warnings → IsTrue (only_notes found)
+    → IsTrue (are_notes warnings)
+warned hidden warnings found is clean =
+    let all = subst IsTrue (sym (placed_notes found) ∙ ap notes_shown is) clean in
+    subst IsTrue (warned_notes warnings) (last_notes hidden (map shown_warning warnings) all)
 
 pub sound : (bin : Option (List ℕ)) (bytes : List ℕ) (found : List PlacedFinding)
     → Finds bin bytes found → IsTrue (only_notes found) → AreSound bin (Some bytes)
 sound bin bytes found (errors none are) clean = absurd (no_notes found are clean)
-sound bin bytes found (described tree doubles describes each warns) clean =
-    let holds = premises_hold bin tree (warned bin tree doubles found warns clean) in
+sound bin bytes found (described tree j describes spells is) clean =
+    let holds = premises_hold bin tree (warned (hidden_list j) (warnings_of bin tree) found is clean) in
     record {
       bytes = bytes;
       tree = tree;

@@ -1,7 +1,8 @@
--- What a check finds in a tree file, and how it ends.
-use Rattle.std.specs.Prelude.{◌≡◌, ◌++◌, ℕ, All, Bool, true, false, IsTrue, List, [], ◌∷◌, Option, Some, None, Result, Ok, Err, codes, map}
+-- The findings of a check of a tree file, and the ways in which it ends.
+use Rattle.std.specs.Prelude.{◌≡◌, ◌++◌, ℕ, Bool, true, false, IsTrue, List, [], ◌∷◌, Option, Some, None, Result, Ok, Err, codes, map}
 use Rattle.std.specs.List.{flat_map, list_all}
 use Rattle.std.specs.declared.io.ErrorKind.{ErrorKind}
+use Rattle.json.specs.Json.{Json}
 use Rattle.cc_base.specs.Sink.{add_failure}
 use Rattle.cc_base.specs.declared.error.Error.TheVariants.{Write}
 use Rattle.cc_base.specs.declared.failures.Failures.{Failures}
@@ -16,8 +17,9 @@ use Rattle.complgen_lints.specs.declared.warning.Warning.{Warning}
 use Rattle.cc_shell.specs.Shells.{shell_spec}
 use Rattle.cc_shell.specs.declared.shell.Shell.{Shell}
 use Rattle.cc_base.specs.Shown.{on_one_line}
-use Rattle.complgen_tree_errors.specs.Checks.{DescribesNone}
-use Rattle.complgen_tree_errors.specs.Findings.{AreErrors, IsDouble, Shown, shown_placed}
+use Rattle.complgen_json.specs.Reads.{SpellsJson}
+use Rattle.complgen_tree_errors.specs.Checks.{DescribesNone, hidden_list}
+use Rattle.complgen_tree_errors.specs.Findings.{AreErrors, Shown, shown_placed}
 use Rattle.complgen_tree_errors.specs.Places.{ShownStep, index, key, path_text}
 use Rattle.complgen_tree_errors.specs.declared.finding.Level.{Level}
 use Rattle.complgen_tree_errors.specs.declared.finding.Level.TheVariants as level
@@ -25,11 +27,12 @@ use Rattle.complgen_tree_errors.specs.declared.finding.PlacedFinding.{PlacedFind
 use Rattle.complgen_tree_file.specs.TreeFile.{Describes}
 use Rattle.complgen_check.specs.Promises.{HoldPremises}
 use Rattle.complgen_check.specs.TreeWarnings.{built_as, warnings_of}
-use Rattle.complgen_command_line.specs.Refusals.{IsOutOfMemory, IsRefusal}
-use Rattle.complgen_command_line.specs.declared.types.Refusal.{Refusal}
+use Rattle.complgen_commands.specs.Refusals.{IsOutOfMemory, IsRefusal}
+use Rattle.complgen_commands.specs.declared.refusals.Refusal.{Refusal}
 use Rattle.complgen_commands.specs.Refusals.{error_line, unreadable_line}
 use Rattle.complgen_commands.specs.Writing.{Untouched}
-use Rattle.complgen_check.specs.Lines.{finding_lines}
+use Rattle.complgen_check.specs.Report.{report_text}
+use Rattle.complgen_check.specs.declared.report.Report.{Report}
 
 -- ---- what is shown of a warning
 
@@ -70,21 +73,15 @@ shown_warning warning = record {
 
 -- ---- what is found
 
--- What is found in a file without errors: keys that stand twice, then each warning and note about
--- the command, with its place.
-pub record Warns (bin : Option (List ℕ)) (tree : Tree) (doubles found : List PlacedFinding)
-    : Type 0 where
-  pub warnings : List PlacedFinding
-  pub all : found ≡ doubles ++ warnings
-  pub each_warning : map shown_placed warnings ≡ map shown_warning (warnings_of bin tree)
-
--- What a check finds in the bytes of a tree file.
+-- The findings of a check of the bytes of a tree file.
 pub data Finds (bin : Option (List ℕ)) (bytes : List ℕ) (found : List PlacedFinding) : Type 0 where
   -- errors, at least one: the bytes describe no command
   errors : DescribesNone bytes → AreErrors found → Finds bin bytes found
-  -- the bytes describe a command, and it is said which keys stand twice
-  described : (tree : Tree) (doubles : List PlacedFinding) → Describes bytes (Some tree)
-      → All IsDouble doubles → Warns bin tree doubles found → Finds bin bytes found
+  -- the bytes describe a command: a warning for each duplicate key, then the warnings and notes
+  -- about the command, and nothing else
+  described : (tree : Tree) (j : Json) → Describes bytes (Some tree) → SpellsJson bytes j
+      → map shown_placed found ≡ hidden_list j ++ map shown_warning (warnings_of bin tree)
+      → Finds bin bytes found
 
 -- whether a finding is neither an error nor a warning
 abbrev pub is_note : Level → Bool
@@ -97,25 +94,26 @@ only_notes found = list_all (λ finding. is_note finding.level) found
 
 -- ---- how a check ends
 
--- How a check of a tree file ends, whose sink was so before and is so now.
+-- The ways in which a check of a tree file ends; its sink was `old` before and is `new` now.
 pub data EndsCheck {S : Type 0} (taken : S → List ℕ) (failed : S → Failures)
-    (bin : Option (List ℕ)) (old new : S) : Option (List ℕ) → Result Bool Refusal → Type 0 where
+    (bin : Option (List ℕ)) (report : Report) (old new : S)
+    : Option (List ℕ) → Result Bool Refusal → Type 0 where
   -- the file can't be read, and nothing is printed
   unreadable : (refusal : Refusal) → IsRefusal unreadable_line refusal
-      → Untouched taken failed old new → EndsCheck taken failed bin old new None (Err refusal)
+      → Untouched taken failed old new → EndsCheck taken failed bin report old new None (Err refusal)
   -- out of memory; some lines may be printed
   out_of_memory : (bytes : List ℕ) (refusal : Refusal) → IsOutOfMemory refusal
-      → failed new ≡ failed old → EndsCheck taken failed bin old new (Some bytes) (Err refusal)
+      → failed new ≡ failed old → EndsCheck taken failed bin report old new (Some bytes) (Err refusal)
   -- a write failed, which is counted with its kind; some lines may be printed
   write_failed : (bytes : List ℕ) (kind : ErrorKind) (refusal : Refusal)
       → IsRefusal (error_line (Write kind)) refusal → failed new ≡ add_failure kind (failed old)
-      → EndsCheck taken failed bin old new (Some bytes) (Err refusal)
-  -- each finding is printed, a line each, and it is told whether there are none but notes
+      → EndsCheck taken failed bin report old new (Some bytes) (Err refusal)
+  -- each finding is printed, and the result is whether there are none but notes
   printed : (bytes : List ℕ) (found : List PlacedFinding) → Finds bin bytes found
-      → taken new ≡ taken old ++ finding_lines bytes found → failed new ≡ failed old
-      → EndsCheck taken failed bin old new (Some bytes) (Ok (only_notes found))
+      → taken new ≡ taken old ++ report_text report bytes found → failed new ≡ failed old
+      → EndsCheck taken failed bin report old new (Some bytes) (Ok (only_notes found))
 
--- ---- what holds where nothing is found but notes
+-- ---- what holds if nothing is found but notes
 
 -- No two commands of the built tree share a label that the script of this shell needs, so that
 -- writing it fails out of memory or by the writer alone; and the script reads back.

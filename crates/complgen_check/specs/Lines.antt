@@ -1,6 +1,5 @@
--- Findings as lines.
+-- Findings as lines of text.
 use Rattle.std.specs.Prelude.{ℕ, List, ◌++◌, codes, decimal, string_bytes, take}
-use Rattle.std.specs.List.{flat_map}
 use Rattle.complgen_tree_errors.specs.Places.{column_after, line_after}
 use Rattle.complgen_tree_errors.specs.declared.finding.Level.{Level}
 use Rattle.complgen_tree_errors.specs.declared.finding.Level.TheVariants.{Error, Note, Warning}
@@ -22,7 +21,3 @@ finding_line bytes finding = place_text (take finding.offset bytes)
     ++ codes ": " ++ level_text finding.level
     ++ codes ": " ++ string_bytes finding.path
     ++ codes ": " ++ string_bytes finding.text ++ codes "\n"
-
--- findings, a line each
-abbrev pub finding_lines : List ℕ → List PlacedFinding → List ℕ
-finding_lines bytes found = flat_map (finding_line bytes) found

@@ -1,4 +1,4 @@
--- What holds of a tree that has no warnings.
+-- The premises of the promises about scripts.
 use Rattle.std.specs.Prelude.{◌≡◌, ℕ, List, Option, Some, None, IsTrue, Result, Ok, Err}
 use Rattle.cc_base.specs.Writes.{IsMemoryOrWrite}
 use Rattle.cc_base.specs.declared.error.Error.{Error}

@@ -16,7 +16,7 @@ called bin tree = unwrap_or bin (full_name tree.node)
 abbrev pub built_as : Option (List ℕ) → Tree → Tree
 built_as bin tree = built_under (Some (called bin tree)) tree
 
--- a label that two commands share, where there is one; it has no place of its own
+-- the warning about a label that two commands share, if there is one; its place is the root
 abbrev pub label_list : Option (List ℕ) → List Warning
 label_list None = []
 label_list (Some label) = record {

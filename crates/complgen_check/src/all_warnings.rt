@@ -1,4 +1,4 @@
-//! The warnings about a described command, that of two commands with one label of bash included.
+//! All warnings about a command, including that two commands share a label of bash.
 
 ghost use Rattle.std.specs.Prelude.{◌≡◌, ◌⊎◌, ◌++◌, IfOk, IsTrue, OnErr, OnOk, Some};
 ghost use Rattle.std.specs.Option.{option_copied};
@@ -16,16 +16,17 @@ use cc_command::{Command, build_as, full_name};
 use complgen_lints::{Kind, Place, Warning, command_warnings};
 use std::alloc::{AllocError, Global};
 
-/// The warnings and notes about a command that is called by this bin name: that of the call, else
-/// the command's own, else its name. First come those of `command_warnings`, last the one about two
-/// commands that share a label of the bash script, which stands at the root.
+/// Returns the warnings and notes about `command`, which is called by the name `bin`, by its own bin
+/// name if `bin` is `None`, or else by its name. The warnings of `command_warnings` come first. If
+/// two commands share a label of the bash script, the last warning says so. Its place is the root.
 ///
-/// Where there are none but notes, each premise of what scripts promise holds, and the script of
-/// each shell is written and reads back, but for memory that runs out and a failed write. The call
-/// leaves the command built under that name, as `generate` does. Where it fails, the command is
-/// built or as it was.
+/// If there are only notes, each premise of the promises about scripts holds. The script for each
+/// shell can then be written, unless memory runs out or a write fails, and it reads back. The call
+/// leaves the command built under that name, as `generate` does.
 ///
-/// Fails where memory runs out.
+/// # Errors
+///
+/// `AllocError` if an allocation fails. The command is then built, or unchanged.
 pub fn tree_warnings(
     alloc: Global,
     bin: Option<&str>,
@@ -34,7 +35,7 @@ pub fn tree_warnings(
     ensures list { IfOk result (λ found.
         found.items ≡ warnings_of (option_copied bin.entry) command.old) }
 
-    // Where there are none but notes, the premises hold.
+    // If there are only notes, the premises hold.
     ensures premises { IfOk result (λ found. IsTrue (are_notes found.items) →
         HoldPremises (option_copied bin.entry) command.old) }
     ensures built { OnOk result (command.new ≡ built_as (option_copied bin.entry) command.old) }
@@ -75,7 +76,7 @@ fn called_name(alloc: Global, bin: Option<&str>, command: &Command) -> Result<St
     }
 }
 
-// The label that two nodes of a built command share.
+// Appends a warning if two nodes of a built command share a label.
 fn push_label(found: &mut Vec<Warning>, alloc: Global, command: &Command) -> Result<(), AllocError>
     ensures { OnOk result (found.new.items
         ≡ found.old.items ++ label_list (shared_label command.now)) }

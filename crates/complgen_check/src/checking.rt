@@ -1,45 +1,49 @@
-//! What is wrong with a tree file, printed.
+//! Prints what is wrong with a tree file.
 
 ghost use Rattle.std.specs.Prelude.{◌≡◌, ◌++◌, [], ◌∷◌, IfOk, IsTrue, OnOk, map};
 ghost use Rattle.std.specs.Option.{option_copied};
 ghost use Rattle.complgen_tree_errors.specs.Findings.{shown, shown_placed};
 ghost use Rattle.complgen_tree_errors.specs.Places.{index, key, shown_step};
-ghost use Rattle.complgen_check.specs.Checking.{AreSound, EndsCheck, Finds, Warns};
+ghost use Rattle.complgen_check.specs.Checking.{AreSound, EndsCheck, Finds};
 ghost use Rattle.complgen_check.specs.Checking.{argument_steps, command_steps, finding_level};
 ghost use Rattle.complgen_check.specs.Checking.{is_note, item_steps, key_steps, only_notes};
 ghost use Rattle.complgen_check.specs.Checking.{place_steps, shown_warning};
+ghost use Rattle.complgen_check.specs.TreeWarnings.{warnings_of};
 
 use crate::all_warnings::tree_warnings;
-use crate::lines::put_findings;
+use crate::report::{Report, put_findings};
 use cc_base::{Sink, on_one_line};
 use cc_command::Command;
-use complgen_command_line::Refusal;
-use complgen_commands::{UNREADABLE, error_refusal};
+use complgen_commands::{Refusal, UNREADABLE, error_refusal};
 use complgen_lints::{self as warnings, Key, Place, Warning};
 use complgen_tree_errors::{
-    Checked, Finding, Level, PlacedFinding, Step, check_file, place_findings,
+    Checked, Finding, Level, PlacedFinding, Scratch, Source, Step, check_file, place_findings,
 };
 use std::alloc::{AllocError, Global};
 
-/// Prints a line for each error, warning and note about a tree file, and returns whether there are
-/// none but notes. There are no bytes where the file can't be read. The command is checked under
-/// this bin name, or under its own where there is none.
+/// Prints the errors in a tree file, or if there are none, the warnings and notes about the command
+/// that it describes. Returns whether there is nothing but notes.
 ///
-/// A line is `LINE:COLUMN: LEVEL: PATH: TEXT`. An error is printed exactly where the file describes
-/// no command; else a warning for each key that stands twice, then what `tree_warnings` lists.
-/// Where there are none but notes, each premise of what scripts promise holds for the command that
-/// the file describes: for each shell its script under that name is written, but for memory that
-/// runs out and a failed write, and reads back.
+/// `file` has the bytes of the tree file, or is `None` if it can't be read. The command is checked
+/// under the name `bin`, or under its own name if `bin` is `None`. `report` chooses what is printed
+/// for a finding: a line of text or a JSON object.
 ///
-/// Fails with status 1: where the file can't be read, where a line can't be printed, and where
-/// memory runs out.
+/// There is an error exactly if the file describes no command. Otherwise `check` prints a warning
+/// for each duplicate key, then what `tree_warnings` returns. If it returns true, each premise of
+/// the promises about scripts holds. So the script for each shell can be written under that name,
+/// unless memory runs out or a write fails, and it reads back.
+///
+/// # Errors
+///
+/// Status 1 if the file can't be read, if a write fails, or if an allocation fails.
 pub fn check<W: Sink>(
     alloc: Global,
     bin: Option<&str>,
+    report: Report,
     file: Option<&[u8]>,
     out: &mut W,
 ) -> Result<bool, Refusal>
-    ensures ends { EndsCheck W.taken W.failed (option_copied bin.entry) out.old out.new
+    ensures ends { EndsCheck W.taken W.failed (option_copied bin.entry) report out.old out.new
         (option_copied file.entry) result }
     ensures sound { IfOk result (λ clean. IsTrue clean
         → AreSound (option_copied bin.entry) (option_copied file.entry)) }
@@ -48,28 +52,28 @@ pub fn check<W: Sink>(
         return Err(Refusal::from_static(1, UNREADABLE));
     };
     let found = findings(alloc, bin, bytes)?;
-    match put_findings(out, alloc, bytes, found.as_slice()) {
+    match put_findings(out, alloc, report, bytes, found.as_slice()) {
         Ok(()) => Ok(only_notes(found.as_slice())),
         Err(error) => Err(error_refusal(alloc, &error)),
     }
 }
 
-// Whether nothing is found but notes.
+// Returns whether nothing is found but notes.
 fn only_notes(found: &[PlacedFinding]) -> bool
     ensures { result ≡ only_notes found.now }
 {
     found.iter().all(is_note)
 }
 
-// Whether a finding is neither an error nor a warning.
+// Returns whether a finding is neither an error nor a warning.
 fn is_note(finding: &PlacedFinding) -> bool
     ensures { result ≡ is_note finding.now.level }
 {
     matches!(finding.level, Level::Note)
 }
 
-// Errors; or, where there are none, keys that stand twice, and warnings and notes about the
-// command.
+// Returns the errors in a file; or if there are none, warnings about duplicate keys, then the
+// warnings and notes about the command.
 fn findings(
     alloc: Global,
     bin: Option<&str>,
@@ -77,52 +81,44 @@ fn findings(
 ) -> Result<Vec<PlacedFinding>, AllocError>
     ensures { IfOk result (λ found. Finds (option_copied bin.entry) bytes.now found.items) }
 {
-    match check_file(alloc, bytes)? {
+    let mut scratch = Scratch::new(alloc);
+    match check_file(alloc, bytes, &mut scratch)? {
         Checked::Errors(errors) => Ok(errors),
-        Checked::Tree(command, doubles) => with_warnings(alloc, bin, bytes, command, doubles),
+        Checked::Tree(command, doubles, source) => {
+            with_warnings(alloc, bin, &source, command, doubles)
+        }
     }
 }
 
-// Keys that stand twice, then the warnings and notes about the command.
+// Adds the warnings and notes about a command to `findings`, and finds the places of all.
 fn with_warnings(
     alloc: Global,
     bin: Option<&str>,
-    bytes: &[u8],
+    source: &Source<'_>,
     mut command: Command,
-    mut doubles: Vec<PlacedFinding>,
+    mut findings: Vec<Finding<'_>>,
 ) -> Result<Vec<PlacedFinding>, AllocError>
-    ensures { IfOk result (λ found. Warns (option_copied bin.entry) command doubles.items
-        found.items) }
+    ensures { IfOk result (λ placed. map shown_placed placed.items
+        ≡ map shown findings.items ++ map shown_warning (warnings_of (option_copied bin.entry)
+        command)) }
 {
     let warnings = tree_warnings(alloc, bin, &mut command)?;
-    let mut placed = placed_warnings(alloc, bytes, warnings.as_slice())?;
-    doubles.append(&mut placed)?;
-    Ok(doubles)
+    push_warnings(&mut findings, alloc, warnings.as_slice())?;
+    place_findings(alloc, source, findings)
 }
 
-// The warnings with their places in the file.
-fn placed_warnings(
+fn push_warnings(
+    findings: &mut Vec<Finding<'_>>,
     alloc: Global,
-    bytes: &[u8],
     warnings: &[Warning],
-) -> Result<Vec<PlacedFinding>, AllocError>
-    ensures { IfOk result (λ placed.
-        map shown_placed placed.items ≡ map shown_warning warnings.now) }
+) -> Result<(), AllocError>
+    ensures { OnOk result (map shown findings.new.items
+        ≡ map shown findings.old.items ++ map shown_warning warnings.now) }
 {
-    let findings = as_findings(alloc, warnings)?;
-    place_findings(alloc, bytes, findings)
-}
-
-// The warnings as findings, each with the steps to its place.
-fn as_findings(alloc: Global, warnings: &[Warning]) -> Result<Vec<Finding<'static>>, AllocError>
-    ensures { IfOk result (λ findings.
-        map shown findings.items ≡ map shown_warning warnings.now) }
-{
-    let mut findings = Vec::new(alloc);
     for warning in warnings {
         findings.push(as_finding(alloc, warning)?)?;
     }
-    Ok(findings)
+    Ok(())
 }
 
 fn as_finding(alloc: Global, warning: &Warning) -> Result<Finding<'static>, AllocError>
@@ -139,7 +135,7 @@ fn as_finding(alloc: Global, warning: &Warning) -> Result<Finding<'static>, Allo
     })
 }
 
-// The level of a warning, as that of a finding.
+// Converts the level of a warning to the level of a finding.
 fn as_level(level: warnings::Level) -> Level
     ensures { result ≡ finding_level level }
 {
@@ -149,7 +145,7 @@ fn as_level(level: warnings::Level) -> Level
     }
 }
 
-// The steps to a place in the tree, from the whole file.
+// Returns the steps from the whole file to a place in the tree.
 fn steps(alloc: Global, place: &Place) -> Result<Vec<Step<'static>>, AllocError>
     ensures { IfOk result (λ steps. map shown_step steps.items ≡ place_steps place.now) }
 {
@@ -180,7 +176,7 @@ fn push_argument(steps: &mut Vec<Step<'static>>, argument: Option<usize>) -> Res
     }
 }
 
-// The steps to the item of a list at a key.
+// Appends the steps to the item at `place` of the list at the key `list`.
 fn push_place(
     steps: &mut Vec<Step<'static>>,
     list: &'static str,

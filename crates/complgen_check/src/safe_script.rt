@@ -1,4 +1,4 @@
-//! A script that is written only where there are no warnings.
+//! Writes a script only if there are no warnings.
 
 ghost use Rattle.std.specs.Prelude.{◌≡◌, IfErr, IfOk, IsTrue, None, Some};
 ghost use Rattle.std.specs.String.{string_bytes};
@@ -17,11 +17,13 @@ use cc_shell::Shell;
 use complgen_lints::are_notes;
 use std::alloc::Global;
 
-/// Writes the script for a shell of a command that is called by this bin name, where
-/// `tree_warnings` finds none but notes, and returns whether it did: `Ok(false)` where it finds
-/// others, and then nothing is written. A script that is written reads back.
+/// Writes the script for `shell` of a command that is called `bin_name`, if `tree_warnings` finds
+/// only notes. Returns whether it did; if there are warnings, nothing is written. A script that is
+/// written reads back.
 ///
-/// Fails with `Memory` and `Write` alone, whatever the shell.
+/// # Errors
+///
+/// `Memory` if an allocation fails, `Write` if a write fails, and no others.
 pub fn write_shell_if_no_warnings<W: Sink>(
     alloc: Global,
     shell: Shell,
@@ -38,8 +40,8 @@ pub fn write_shell_if_no_warnings<W: Sink>(
     write_if_no_warnings(alloc, shell, command, bin_name, sink)
 }
 
-// The same for any generator, which fails with `Memory` and `Write` alone where it has no labels, or
-// those of the bash script.
+// Does the same for any generator. If it has no labels, or those of the bash script, it fails only
+// with `Memory` and `Write`.
 fn write_if_no_warnings<G: Generator + Drop, W: Sink>(
     alloc: Global,
     generator: G,

@@ -1,9 +1,9 @@
--- The command line that the program takes, what a parse of it gives, and how it fails.
+-- The command line: what a parse of it gives, and how it fails.
 use Rattle.std.proofs.Common.{◌≡◌, ◌⊎◌, ◌||◌, inl, inr, refl, subst, sym, true, false, not, Bool}
-use Rattle.std.proofs.Common.{List, drop}
+use Rattle.std.proofs.Common.{List, drop, ℕ}
 use Rattle.std.proofs.Common.{[], ◌∷◌, Option, Some, None, is_some, option_map}
 use Rattle.std.specs.Borrow.{Bor}
-use Rattle.std.specs.Prelude.{IsSome, codes, if◌then◌else◌}
+use Rattle.std.specs.Prelude.{IsSome, codes, find, if◌then◌else◌}
 use Rattle.std.specs.List.{list_all}
 use Rattle.std.specs.Option.{option_map_or}
 use Rattle.clap.specs.Faults.{check_fault, defaults_fault, entered_fault, level_fault, settle_fault}
@@ -21,13 +21,15 @@ use Rattle.clap.specs.declared.error.kind.ErrorKind.{ErrorKind}
 use Rattle.clap.specs.declared.error.kind.ErrorKind.TheVariants as kind
 use Rattle.clap.proofs.OnLiterals.{clap_on_literals}
 use Rattle.complgen_command_line.specs.CommandLine.{program_line}
-use Rattle.complgen_command_line.specs.Plans.{EntersOne, GivesNames, GivesWords}
-use Rattle.complgen_command_line.specs.Refusals.{IsOutOfMemory, Reports, ReportsKind}
-use Rattle.complgen_command_line.specs.declared.types.Refusal.{Refusal}
+use Rattle.complgen_command_line.specs.Plans.{Enters, EntersOne, GivesDirectory, GivesNames}
+use Rattle.complgen_command_line.specs.Plans.{GivesTree, GivesWords}
+use Rattle.complgen_command_line.specs.Refusals.{Reports, ReportsKind}
+use Rattle.complgen_commands.specs.Refusals.{IsOutOfMemory}
+use Rattle.complgen_commands.specs.declared.refusals.Refusal.{Refusal}
 use Rattle.complgen_command_line.proofs.GivenValues.{first_none, given_value, leaves_value, rows_kept}
 use Rattle.complgen_command_line.proofs.GivenValues.{second_none}
 
--- clap says what a parse of it gives
+-- clap states what a parse of it gives
 pub program_line_is_simple : is_simple program_line ≡ true
 unfolding clap_on_literals
 program_line_is_simple = refl
@@ -52,54 +54,58 @@ abbrev first_shape : List Shape → Shape
 first_shape [] = new_shape []
 first_shape (s ∷ subs) = s
 
--- the subcommands, as they are built
-abbrev script_shape : Shape
-script_shape = first_shape (built program_line).subs
-
-abbrev register_shape : Shape
-register_shape = first_shape (drop 1 (built program_line).subs)
-
-abbrev candidates_shape : Shape
-candidates_shape = first_shape (drop 2 (built program_line).subs)
+-- the command at a place, as it is built
+abbrev shape_at : ℕ → Shape
+shape_at place = first_shape (drop place (built program_line).subs)
 
 is_entered : (has : Bool) (rows : List Row) → check_fault (built program_line).top rows has ≡ []
     → has ≡ true
 is_entered true rows h = refl
 is_entered false rows h = cc
 
--- this subcommand was entered, with some words, and no step of it fails
+-- this command was entered, with some words, and no step of it fails
 abbrev EntersShape : Option (Text × List Row) → Shape → Type 0
 EntersShape entered s = (words : List Text)
     × (entered ≡ Some (s.name, rows_after s.rules [] words))
     × (level_fault s [] nothing_held words false [] ≡ [])
 
--- so was one of the three
-abbrev EntersShapes : Option (Text × List Row) → Type 0
-EntersShapes entered = EntersShape entered script_shape
-    ⊎ (EntersShape entered register_shape ⊎ EntersShape entered candidates_shape)
+-- so was one of these
+abbrev EntersAmong : Option (Text × List Row) → List Shape → Type 0
+EntersAmong entered [] = ⊥
+EntersAmong entered (s ∷ more) = EntersShape entered s ⊎ EntersAmong entered more
 
-abbrev which : (t u v : Bool) → Option Shape
-which t u v = if t then Some script_shape
-    else (if u then Some register_shape else (if v then Some candidates_shape else None))
+-- the command that a word names
+abbrev named : Text → List Shape → Option Shape
+named word subs = find (λ s. answers_to word (label_of s)) subs
 
--- what is entered is one of them
+-- what is entered is one of the commands
+entered_among : (subs : List Shape) (p : Text × List Text)
+    → is_some (option_map (λ s. rows_at s p.1) (named p.0 subs)) ≡ true
+    → option_map_or (λ s. level_fault s [] nothing_held p.1 false []) (named p.0 subs) [] ≡ []
+    → EntersAmong (option_map (λ s. rows_at s p.1) (named p.0 subs)) subs
+entered_among [] p has e = cc
+entered_among (s ∷ more) p has e =
+    go (answers_to p.0 (label_of s)) (named p.0 more) (entered_among more p) has e
+  where
+    go : (t : Bool) (other : Option Shape)
+        → (is_some (option_map (λ s. rows_at s p.1) other) ≡ true
+        → option_map_or (λ s. level_fault s [] nothing_held p.1 false []) other [] ≡ []
+        → EntersAmong (option_map (λ s. rows_at s p.1) other) more)
+        → is_some (option_map (λ s. rows_at s p.1) (if t then Some s else other)) ≡ true
+        → option_map_or (λ s. level_fault s [] nothing_held p.1 false [])
+        (if t then Some s else other) [] ≡ []
+        → EntersAmong (option_map (λ s. rows_at s p.1) (if t then Some s else other)) (s ∷ more)
+    go true other rest has e = inl (p.1, refl, e)
+    go false other rest has e = inr (rest has e)
+
 entered_one : (stop : Option (Text × List Text))
     → is_some (entered (built program_line) stop) ≡ true
     → entered_fault (built program_line) stop ≡ []
-    → EntersShapes (entered (built program_line) stop)
+    → EntersAmong (entered (built program_line) stop) (built program_line).subs
 entered_one None has e = cc
-entered_one (Some p) has e = go (answers_to p.0 (label_of script_shape))
-    (answers_to p.0 (label_of register_shape)) (answers_to p.0 (label_of candidates_shape)) has e
-  where
-    go : (t u v : Bool) → is_some (option_map (λ s. rows_at s p.1) (which t u v)) ≡ true
-        → option_map_or (λ s. level_fault s [] nothing_held p.1 false []) (which t u v) [] ≡ []
-        → EntersShapes (option_map (λ s. rows_at s p.1) (which t u v))
-    go true u v has e = inl (p.1, refl, e)
-    go false true v has e = inr (inl (p.1, refl, e))
-    go false false true has e = inr (inr (p.1, refl, e))
-    go false false false has e = cc
+entered_one (Some p) has e = entered_among (built program_line).subs p has e
 
--- three arguments that have to be there were given, and two
+-- three required arguments were given, two, and one
 pub three_given : (a b d : Bool)
     → (if not a || (not b || (not d || false)) then kind.MissingRequiredArgument ∷ [] else []) ≡ []
     → (a ≡ true) × (b ≡ true) × (d ≡ true)
@@ -114,6 +120,11 @@ two_given : (a b : Bool)
 two_given true true h = (refl, refl)
 two_given true false h = cc
 two_given false b h = cc
+
+one_given : (a : Bool) → (if not a || false then kind.MissingRequiredArgument ∷ [] else []) ≡ []
+    → a ≡ true
+one_given true h = refl
+one_given false h = cc
 
 module _ (s : Shape) (words : List Text)
     (e : level_fault s [] nothing_held words false [] ≡ []) where
@@ -148,6 +159,17 @@ module _ (s : Shape) (words : List Text)
     has_value (codes "tree") tree given.2,
   )
 
+  gives_directory : list_all (leaves_value (codes "bin")) s.rules ≡ true
+      → list_all (leaves_value (codes "out-dir")) s.rules ≡ true
+      → list_all (leaves_value (codes "tree")) s.rules ≡ true
+      → (is_given (codes "bin") rows ≡ true) × (is_given (codes "out-dir") rows ≡ true)
+      × (is_given (codes "tree") rows ≡ true) → GivesDirectory rows
+  gives_directory bin directory tree given = (
+    has_value (codes "bin") bin given.0,
+    has_value (codes "out-dir") directory given.1,
+    has_value (codes "tree") tree given.2,
+  )
+
   gives_words : list_all (leaves_value (codes "index")) s.rules ≡ true
       → list_all (leaves_value (codes "tree")) s.rules ≡ true
       → (is_given (codes "index") rows ≡ true) × (is_given (codes "tree") rows ≡ true)
@@ -171,7 +193,41 @@ entered_from words stop e =
     let checks = second_none (defaults_fault (settled top.rules end).rows top.rules) _ after_last in
     (is_entered _ (finished top.rules end) checks, first_none _ _ after_walk)
 
--- words of which no step fails enter a subcommand, with each argument that it has to have
+-- a command was entered that leaves rows of which something holds
+enters : (entered : Option (Text × List Row)) (s : Shape) (Has : List Row → Type 0)
+    → ((words : List Text) → level_fault s [] nothing_held words false [] ≡ []
+    → Has (rows_after s.rules [] words))
+    → EntersShape entered s → Enters s.name Has entered
+enters entered s Has gives found = record {
+  rows = rows_after s.rules [] found.0;
+  is_entered = found.1;
+  has = gives found.0 found.2;
+}
+
+either : {A B C D : Type 0} → (A → C) → (B → D) → A ⊎ B → C ⊎ D
+either f g (inl a) = inl (f a)
+either f g (inr b) = inr (g b)
+
+last : {A C : Type 0} → (A → C) → A ⊎ ⊥ → C
+last f (inl a) = f a
+last f (inr none) = absurd none
+
+-- each of the commands leaves its required arguments
+enters_its : (entered : Option (Text × List Row)) → EntersAmong entered (built program_line).subs
+    → EntersOne entered
+enters_its entered =
+    either (enters entered (shape_at 0) GivesNames (λ words e. gives_names (shape_at 0) words e refl refl
+    refl (three_given _ _ _ (checks_pass (shape_at 0) words e))))
+    (either (enters entered (shape_at 1) GivesDirectory (λ words e. gives_directory (shape_at 1) words e
+    refl refl refl (three_given _ _ _ (checks_pass (shape_at 1) words e))))
+    (either (enters entered (shape_at 2) GivesNames (λ words e. gives_names (shape_at 2) words e refl refl
+    refl (three_given _ _ _ (checks_pass (shape_at 2) words e))))
+    (either (enters entered (shape_at 3) GivesWords (λ words e. gives_words (shape_at 3) words e refl refl
+    (two_given _ _ (checks_pass (shape_at 3) words e))))
+    (last (enters entered (shape_at 4) GivesTree (λ words e. has_value (shape_at 4) words e (codes "tree")
+    refl (one_given _ (checks_pass (shape_at 4) words e))))))))
+
+-- words of which no step fails enter a command, with its required arguments
 pub enters_one : (words : List Text) → fault_of program_line words ≡ []
     → EntersOne (subcommand_of program_line words)
 enters_one words e =
@@ -179,28 +235,7 @@ enters_one words e =
     let line = built program_line in
     let stop = (walk line.top.rules (names_of line) nothing_held given).stopped in
     let here = entered_from given stop e in
-    elim (entered_one stop here.0 here.1) [
-      | inl l ↦ inl (record {
-        rows = rows_after script_shape.rules [] l.0;
-        is_entered = l.1;
-        has = gives_names script_shape l.0 l.2 refl refl refl
-            (three_given _ _ _ (checks_pass script_shape l.0 l.2));
-      })
-      | inr r ↦ elim r [
-        | inl l ↦ inr (inl (record {
-          rows = rows_after register_shape.rules [] l.0;
-          is_entered = l.1;
-          has = gives_names register_shape l.0 l.2 refl refl refl
-              (three_given _ _ _ (checks_pass register_shape l.0 l.2));
-        }))
-        | inr l ↦ inr (inr (record {
-          rows = rows_after candidates_shape.rules [] l.0;
-          is_entered = l.1;
-          has = gives_words candidates_shape l.0 l.2 refl refl
-              (two_given _ _ (checks_pass candidates_shape l.0 l.2));
-        }))
-      ]
-    ]
+    enters_its _ (entered_one stop here.0 here.1)
 
 pub reports_memory : (k : ErrorKind) (refusal : Refusal) → k ≡ kind.OutOfMemory
     → ReportsKind k refusal → IsOutOfMemory refusal

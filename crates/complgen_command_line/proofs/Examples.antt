@@ -1,10 +1,10 @@
--- Lines of words that the program takes, one for each subcommand, and lines that it doesn't take.
-use Rattle.std.proofs.Common.{◌≡◌, refl, true, false, List, [], ◌∷◌, Some, codes}
+-- Words that the command line accepts, for each command, and words that it rejects.
+use Rattle.std.proofs.Common.{◌≡◌, refl, true, false, List, [], ◌∷◌, None, Some, codes}
 use Rattle.std.specs.Prelude.{option_map}
-use Rattle.clap.specs.Words.{Text, subcommand_of, takes}
+use Rattle.clap.specs.Words.{Text, first_of, subcommand_of, takes}
 use Rattle.clap.proofs.OnLiterals.{clap_on_literals}
 use Rattle.complgen_command_line.specs.CommandLine.{program_line}
-use Rattle.complgen_command_line.specs.Plans.{words_of}
+use Rattle.complgen_command_line.specs.Plans.{is_set, words_of}
 
 -- the words after `script` and `register`
 abbrev values : List Text
@@ -33,7 +33,7 @@ words_of_candidates : option_map (λ entered. words_of entered.1) (subcommand_of
 unfolding clap_on_literals
 words_of_candidates = refl
 
--- a subcommand has to be there, and `--index`
+-- a command is required, and so is `--index`
 no_subcommand : takes program_line (codes "complgen" ∷ []) ≡ false
 unfolding clap_on_literals
 no_subcommand = refl
@@ -41,3 +41,52 @@ no_subcommand = refl
 no_index : takes program_line (codes "complgen" ∷ codes "candidates" ∷ codes "t.json" ∷ []) ≡ false
 unfolding clap_on_literals
 no_index = refl
+
+-- ---- `scripts` and `check`
+
+takes_scripts : takes program_line (codes "complgen" ∷ codes "scripts" ∷ codes "--bin=app"
+    ∷ codes "--out-dir" ∷ codes "." ∷ codes "t.json" ∷ []) ≡ true
+unfolding clap_on_literals
+takes_scripts = refl
+
+no_directory : takes program_line (codes "complgen" ∷ codes "scripts" ∷ codes "--bin" ∷ codes "app"
+    ∷ codes "t.json" ∷ []) ≡ false
+unfolding clap_on_literals
+no_directory = refl
+
+-- the words of `check` with the tree file alone, and with both options
+abbrev plain_check : List Text
+plain_check = codes "complgen" ∷ codes "check" ∷ codes "t.json" ∷ []
+
+abbrev full_check : List Text
+full_check = codes "complgen" ∷ codes "check" ∷ codes "--json" ∷ codes "--bin" ∷ codes "app"
+    ∷ codes "t.json" ∷ []
+
+takes_check : takes program_line plain_check ≡ true
+unfolding clap_on_literals
+takes_check = refl
+
+takes_full_check : takes program_line full_check ≡ true
+unfolding clap_on_literals
+takes_full_check = refl
+
+-- the flag is set only if it is given
+not_json : option_map (λ entered. is_set (codes "json") entered.1)
+    (subcommand_of program_line plain_check) ≡ Some false
+unfolding clap_on_literals
+not_json = refl
+
+json : option_map (λ entered. is_set (codes "json") entered.1)
+    (subcommand_of program_line full_check) ≡ Some true
+unfolding clap_on_literals
+json = refl
+
+-- `check` alone works without a name
+no_bin : option_map (λ entered. first_of (codes "bin") entered.1)
+    (subcommand_of program_line plain_check) ≡ Some None
+unfolding clap_on_literals
+no_bin = refl
+
+no_tree : takes program_line (codes "complgen" ∷ codes "check" ∷ []) ≡ false
+unfolding clap_on_literals
+no_tree = refl

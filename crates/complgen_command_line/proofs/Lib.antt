@@ -1,5 +1,4 @@
 mod CommandLineLemmas
-mod Entered
 mod Examples
 mod GivenValues
-mod ToolExamples
+mod Untaken

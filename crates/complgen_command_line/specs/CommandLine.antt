@@ -1,16 +1,25 @@
--- The command lines that the program takes.
+-- The command line: the words that the program accepts.
 use Rattle.std.specs.Prelude.{Some, true, codes}
 use Rattle.clap.specs.Lexer.{usize_max}
 use Rattle.clap.specs.Simple.{on_top}
 use Rattle.clap.specs.Words.{App, Rule, Text, new_app, new_rule, with_rule, with_subcommand}
+use Rattle.clap.specs.declared.builder.action.ArgAction.TheVariants.{SetTrue}
 
--- `--NAME VALUE`, which has to be there
+-- `--NAME VALUE`, which is required
 abbrev pub option_rule : Text → Rule
 option_rule name = record (new_rule name) { long = Some name; value_names = 1; required = true }
 
--- `TREE`, which has to be there
+-- `TREE`, which is required
 abbrev pub tree_rule : Rule
 tree_rule = record (new_rule (codes "tree")) { value_names = 1; required = true }
+
+-- `--bin NAME`, which is not required
+abbrev pub bin_rule : Rule
+bin_rule = record (new_rule (codes "bin")) { long = Some (codes "bin"); value_names = 1 }
+
+-- the flag `--json`
+abbrev pub json_rule : Rule
+json_rule = record (new_rule (codes "json")) { long = Some (codes "json"); action = Some SetTrue }
 
 -- `WORDS`, any number of them
 abbrev pub words_rule : Rule
@@ -24,12 +33,22 @@ abbrev pub shell_line : Text → App
 shell_line name = with_rule (with_rule (with_rule (new_app name)
     (option_rule (codes "shell"))) (option_rule (codes "bin"))) tree_rule
 
+-- `scripts --bin NAME --out-dir DIR TREE`
+abbrev pub scripts_line : App
+scripts_line = with_rule (with_rule (with_rule (new_app (codes "scripts"))
+    (option_rule (codes "bin"))) (option_rule (codes "out-dir"))) tree_rule
+
 -- `candidates --index I TREE WORDS..`
 abbrev pub candidates_line : App
 candidates_line = with_rule (with_rule (with_rule (new_app (codes "candidates"))
     (option_rule (codes "index"))) tree_rule) words_rule
 
--- a version, and a subcommand has to be there
+-- `check [--bin NAME] [--json] TREE`
+abbrev pub check_line : App
+check_line =
+    with_rule (with_rule (with_rule (new_app (codes "check")) bin_rule) json_rule) tree_rule
+
+-- a command is required, and there is a version
 abbrev pub top_line : App
 top_line = on_top (λ s. record s {
   has_version = true;
@@ -37,7 +56,11 @@ top_line = on_top (λ s. record s {
   disable_help_subcommand = true;
 }) (new_app (codes "complgen"))
 
+-- the commands that write scripts and registrations
+abbrev pub writing_line : App
+writing_line = with_subcommand (with_subcommand (with_subcommand top_line
+    (shell_line (codes "script")).top) scripts_line.top) (shell_line (codes "register")).top
+
 -- the whole command line
 abbrev pub program_line : App
-program_line = with_subcommand (with_subcommand (with_subcommand top_line
-    (shell_line (codes "script")).top) (shell_line (codes "register")).top) candidates_line.top
+program_line = with_subcommand (with_subcommand writing_line candidates_line.top) check_line.top

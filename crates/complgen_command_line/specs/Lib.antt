@@ -1,5 +1,3 @@
 pub mod CommandLine
 pub mod Plans
 pub mod Refusals
-pub mod ToolLine
-pub mod ToolPlans

@@ -1,18 +1,14 @@
--- What a plan says, and which words ask for it.
-use Rattle.std.specs.Prelude.{◌≡◌, ◌<◌, ◌^◌, ◌⊎◌, ℕ, List, [], IsSome, Option, Some, codes, map}
-use Rattle.std.specs.Prelude.{string_bytes, unwrap_or}
+-- The words that ask for a plan.
+use Rattle.std.specs.Prelude.{◌≡◌, ◌<◌, ◌^◌, ◌⊎◌, ℕ, Bool, false, List, [], IsSome, None, Option, Some}
+use Rattle.std.specs.Prelude.{codes, map, option_map, string_bytes, unwrap_or}
+use Rattle.std.specs.Str.{bytes_eq}
 use Rattle.std.specs.Str.Parse.{IsNumeral, digits_value, without_leading_plus}
 use Rattle.clap.specs.Words.{Row, Text, all_of, first_of}
-use Rattle.complgen_command_line.specs.declared.types.Plan.{Plan}
-use Rattle.complgen_command_line.specs.declared.types.Plan.TheVariants.{Candidates, Register, Script}
+use Rattle.complgen_commands.specs.declared.plans.Plan.{Plan}
+use Rattle.complgen_commands.specs.declared.plans.Plan.TheVariants.{Candidates, Check, Register}
+use Rattle.complgen_commands.specs.declared.plans.Plan.TheVariants.{Script, Scripts}
 
--- the path of the file that holds the tree
-abbrev pub tree_of : Plan → List ℕ
-tree_of (Script shell bin tree) = string_bytes tree
-tree_of (Register shell bin tree) = string_bytes tree
-tree_of (Candidates index tree words) = string_bytes tree
-
--- the subcommand of this name was entered, and this holds of its rows
+-- the command of this name was entered, and its rows have this property
 pub record Enters (name : Text) (Has : List Row → Type 0) (entered : Option (Text × List Row))
     : Type 0 where
   pub rows : List Row
@@ -27,7 +23,28 @@ pub record HasNames (shell bin tree : Text) (rows : List Row) : Type 0 where
   pub has_bin : first_of (codes "bin") rows ≡ Some bin
   pub has_tree : first_of (codes "tree") rows ≡ Some tree
 
--- digits, with one `+` before them at most, that write this `usize`
+-- of `--bin`, `--out-dir` and `TREE`
+pub record HasDirectory (bin directory tree : Text) (rows : List Row) : Type 0 where
+  pub has_bin : first_of (codes "bin") rows ≡ Some bin
+  pub has_directory : first_of (codes "out-dir") rows ≡ Some directory
+  pub has_tree : first_of (codes "tree") rows ≡ Some tree
+
+-- the value of a flag that is set
+abbrev pub is_true : Option Text → Bool
+is_true None = false
+is_true (Some value) = bytes_eq value (codes "true")
+
+-- the flag of this name is set
+abbrev pub is_set : Text → List Row → Bool
+is_set name rows = is_true (first_of name rows)
+
+-- of `--bin`, which may be left out, `--json` and `TREE`
+pub record HasReport (bin : Option Text) (json : Bool) (tree : Text) (rows : List Row) : Type 0 where
+  pub has_bin : first_of (codes "bin") rows ≡ bin
+  pub has_json : json ≡ is_set (codes "json") rows
+  pub has_tree : first_of (codes "tree") rows ≡ Some tree
+
+-- the text is digits, after at most one `+`, and spells this `usize`
 pub record Writes (text : Text) (number : ℕ) : Type 0 where
   pub is_numeral : IsNumeral 10 (without_leading_plus text)
   pub fits : digits_value 10 (without_leading_plus text) < 2 ^ 64
@@ -39,13 +56,13 @@ pub record HasIndex (index : ℕ) (rows : List Row) : Type 0 where
   pub has_text : first_of (codes "index") rows ≡ Some text
   pub writes : Writes text index
 
--- a text of `--index` that writes no `usize`
+-- a text of `--index` that spells no `usize`
 pub record HasBadIndex (rows : List Row) : Type 0 where
   pub text : Text
   pub has_text : first_of (codes "index") rows ≡ Some text
   pub writes_none : (index : ℕ) → Writes text index → ⊥
 
--- of `WORDS`, which may be none
+-- of `WORDS`; there may be none
 abbrev pub words_of : List Row → List Text
 words_of rows = unwrap_or (all_of (codes "words") rows) []
 
@@ -57,7 +74,7 @@ pub record HasWords (index : ℕ) (tree : Text) (words : List Text) (rows : List
 
 -- ---- what words ask for
 
--- the subcommand that was entered asks for what the plan says
+-- the command that was entered asks for this plan
 abbrev pub AsksFor : Option (Text × List Row) → Plan → Type 0
 AsksFor entered (Script shell bin tree) = Enters (codes "script")
     (HasNames (string_bytes shell) (string_bytes bin) (string_bytes tree)) entered
@@ -65,18 +82,32 @@ AsksFor entered (Register shell bin tree) = Enters (codes "register")
     (HasNames (string_bytes shell) (string_bytes bin) (string_bytes tree)) entered
 AsksFor entered (Candidates index tree words) = Enters (codes "candidates")
     (HasWords index (string_bytes tree) (map string_bytes words.items)) entered
+AsksFor entered (Check bin json tree) = Enters (codes "check")
+    (HasReport (option_map string_bytes bin) json (string_bytes tree)) entered
+AsksFor entered (Scripts bin out_dir tree) = Enters (codes "scripts")
+    (HasDirectory (string_bytes bin) (string_bytes out_dir) (string_bytes tree)) entered
 
--- each argument that has to be there has a value
+-- the required arguments of `script` and `register` have values
 abbrev pub GivesNames : List Row → Type 0
 GivesNames rows = IsSome (first_of (codes "shell") rows) × IsSome (first_of (codes "bin") rows)
     × IsSome (first_of (codes "tree") rows)
 
--- the same of `candidates`
+-- those of `scripts`
+abbrev pub GivesDirectory : List Row → Type 0
+GivesDirectory rows = IsSome (first_of (codes "bin") rows) × IsSome (first_of (codes "out-dir") rows)
+    × IsSome (first_of (codes "tree") rows)
+
+-- those of `candidates`
 abbrev pub GivesWords : List Row → Type 0
 GivesWords rows = IsSome (first_of (codes "index") rows) × IsSome (first_of (codes "tree") rows)
 
--- a subcommand was entered, with each argument that it has to have
+-- that of `check`
+abbrev pub GivesTree : List Row → Type 0
+GivesTree rows = IsSome (first_of (codes "tree") rows)
+
+-- a command was entered, with its required arguments
 abbrev pub EntersOne : Option (Text × List Row) → Type 0
 EntersOne entered = Enters (codes "script") GivesNames entered
+    ⊎ (Enters (codes "scripts") GivesDirectory entered
     ⊎ (Enters (codes "register") GivesNames entered
-    ⊎ Enters (codes "candidates") GivesWords entered)
+    ⊎ (Enters (codes "candidates") GivesWords entered ⊎ Enters (codes "check") GivesTree entered)))

@@ -1,18 +1,15 @@
-//! Arguments of several subcommands.
+//! The arguments of the commands.
 
 ghost use Rattle.std.specs.Prelude.{◌≡◌, false};
 ghost use Rattle.clap.specs.Words.{rule_of};
-ghost use Rattle.complgen_command_line.specs.CommandLine.{option_rule, tree_rule};
+ghost use Rattle.complgen_command_line.specs.CommandLine.{bin_rule, json_rule, option_rule};
+ghost use Rattle.complgen_command_line.specs.CommandLine.{tree_rule, words_rule};
 
-use clap::Arg;
+use crate::texts::{CHECK_BIN_HELP, JSON_HELP, TREE_HELP, WORDS_HELP};
+use clap::{Arg, ArgAction};
 use std::alloc::Global;
 
-/// The help of `--bin`.
-pub const BIN_HELP: &str = "The name by which the shell calls the program";
-
-const TREE_HELP: &str = "A JSON file that describes a command, with its arguments and subcommands";
-
-/// `--NAME VALUE`, which has to be there.
+/// Returns the required option `--NAME VALUE`.
 pub fn option<'a>(
     alloc: Global,
     name: &'static str,
@@ -29,7 +26,29 @@ pub fn option<'a>(
         .help(help)
 }
 
-/// `TREE`, which has to be there.
+/// Returns the option `--bin NAME` of `check`, which is not required.
+pub fn optional_bin<'a>(alloc: Global) -> Arg<'a>
+    ensures rule { rule_of result ≡ bin_rule }
+    ensures local { result.global ≡ false }
+{
+    Arg::new(alloc, "bin")
+        .long("bin")
+        .value_name("NAME")
+        .help(CHECK_BIN_HELP)
+}
+
+/// Returns the flag `--json`.
+pub fn json<'a>(alloc: Global) -> Arg<'a>
+    ensures rule { rule_of result ≡ json_rule }
+    ensures local { result.global ≡ false }
+{
+    Arg::new(alloc, "json")
+        .long("json")
+        .action(ArgAction::SetTrue)
+        .help(JSON_HELP)
+}
+
+/// Returns the required argument `TREE`.
 pub fn tree<'a>(alloc: Global) -> Arg<'a>
     ensures rule { rule_of result ≡ tree_rule }
     ensures local { result.global ≡ false }
@@ -38,4 +57,15 @@ pub fn tree<'a>(alloc: Global) -> Arg<'a>
         .value_name("TREE")
         .required(true)
         .help(TREE_HELP)
+}
+
+/// Returns the argument `WORDS`, which takes any number of words.
+pub fn words<'a>(alloc: Global) -> Arg<'a>
+    ensures rule { rule_of result ≡ words_rule }
+    ensures local { result.global ≡ false }
+{
+    Arg::new(alloc, "words")
+        .value_name("WORDS")
+        .num_args(0..)
+        .help(WORDS_HELP)
 }

@@ -1,26 +1,34 @@
-//! What the words of the command line ask for.
+//! Makes the plan that the words of the command line ask for.
 
-ghost use Rattle.std.specs.Prelude.{◌≡◌, ◌⊎◌, [], IfOk, IfErr, IsSome, Some, codes, map, true};
+ghost use Rattle.std.specs.Prelude.{◌≡◌, ◌⊎◌, [], IfOk, IfErr, IsSome, codes, map, option_map, true};
 ghost use Rattle.std.specs.Prelude.{string_bytes};
 ghost use Rattle.clap.specs.Words.{fault_of, first_of, found_of, rows_of, subcommand_of};
 ghost use Rattle.clap.specs.Words.{subcommand_rows_of, takes};
 ghost use Rattle.complgen_command_line.specs.CommandLine.{program_line};
-ghost use Rattle.complgen_command_line.specs.Plans.{AsksFor, EntersOne, GivesNames, GivesWords};
-ghost use Rattle.complgen_command_line.specs.Plans.{HasBadIndex, HasIndex, HasNames, HasWords, words_of};
-ghost use Rattle.complgen_command_line.specs.Refusals.{IsBadIndex, IsOutOfMemory, Reports};
+ghost use Rattle.complgen_command_line.specs.Plans.{AsksFor, EntersOne, GivesDirectory, GivesNames};
+ghost use Rattle.complgen_command_line.specs.Plans.{GivesTree, GivesWords, HasBadIndex, HasDirectory};
+ghost use Rattle.complgen_command_line.specs.Plans.{HasIndex, HasNames, HasReport, HasWords, words_of};
+ghost use Rattle.complgen_command_line.specs.Refusals.{IsBadIndex, Reports};
+ghost use Rattle.complgen_commands.specs.Refusals.{IsOutOfMemory};
 
 use crate::command_line::command_line;
-use crate::parse::{refusal_of, text, value};
-use crate::types::{Plan, Refusal};
+use crate::parse::{flag, optional, refusal_of, text, value};
 use clap::ArgMatches;
+use complgen_commands::{Plan, Refusal};
 use std::alloc::{AllocError, Global};
 
 const BAD_INDEX: &str = "index: bad number\n";
 
-/// Returns what the words ask for; the first is the program's name. Fails with status 2 where the
-/// command line doesn't take the words, or the index among them is no number that fits a `usize`;
-/// with status 0 and the text that they ask for, a help or the version; and with status 1 where
-/// memory runs out.
+/// Returns the plan that `words` ask for. The first word is the program's name.
+///
+/// # Errors
+///
+/// A refusal with
+///
+/// - status 2 if the command line does not accept the words, or the index among them is not a number
+///   that fits a `usize`;
+/// - status 0 and the text that they ask for: a help text or the version;
+/// - status 1 if an allocation fails.
 pub fn plan(alloc: Global, words: &[String]) -> Result<Plan, Refusal>
     ensures ok { IfOk result (AsksFor (subcommand_of program_line (map string_bytes words.now))) }
     ensures fits { IfOk result (λ _. fault_of program_line (map string_bytes words.now) ≡ []) }
@@ -41,7 +49,7 @@ pub fn plan(alloc: Global, words: &[String]) -> Result<Plan, Refusal>
     }
 }
 
-// The plan of a parse.
+// Makes the plan of a parse.
 fn plan_of(alloc: Global, matches: &ArgMatches<'_>) -> Result<Plan, Refusal>
     requires { EntersOne (subcommand_rows_of matches.now) }
     ensures ok { IfOk result (AsksFor (subcommand_rows_of matches.now)) }
@@ -52,6 +60,10 @@ fn plan_of(alloc: Global, matches: &ArgMatches<'_>) -> Result<Plan, Refusal>
             let (shell, bin, tree) = names(alloc, values)?;
             Ok(Plan::Script(shell, bin, tree))
         }
+        Some(("scripts", values)) => {
+            let (bin, out_dir, tree) = directory(alloc, values)?;
+            Ok(Plan::Scripts { bin, out_dir, tree })
+        }
         Some(("register", values)) => {
             let (shell, bin, tree) = names(alloc, values)?;
             Ok(Plan::Register(shell, bin, tree))
@@ -60,11 +72,15 @@ fn plan_of(alloc: Global, matches: &ArgMatches<'_>) -> Result<Plan, Refusal>
             let (index, tree, words) = line(alloc, values)?;
             Ok(Plan::Candidates(index, tree, words))
         }
+        Some(("check", values)) => {
+            let (bin, json, tree) = report(alloc, values)?;
+            Ok(Plan::Check { bin, json, tree })
+        }
         _ => unreachable!(),
     }
 }
 
-// The values of `--shell`, `--bin` and `TREE`.
+// Reads the values of `--shell`, `--bin` and `TREE`.
 fn names(alloc: Global, values: &ArgMatches<'_>) -> Result<(String, String, String), AllocError>
     requires { GivesNames (rows_of (found_of values.now)) }
     ensures { IfOk result (λ names. HasNames (string_bytes names.0) (string_bytes names.1)
@@ -76,7 +92,33 @@ fn names(alloc: Global, values: &ArgMatches<'_>) -> Result<(String, String, Stri
     Ok((shell, bin, tree))
 }
 
-// The values of `--index`, `TREE` and `WORDS`.
+// Reads the values of `--bin`, `--out-dir` and `TREE`.
+fn directory(alloc: Global, values: &ArgMatches<'_>) -> Result<(String, String, String), AllocError>
+    requires { GivesDirectory (rows_of (found_of values.now)) }
+    ensures { IfOk result (λ texts. HasDirectory (string_bytes texts.0) (string_bytes texts.1)
+        (string_bytes texts.2) (rows_of (found_of values.now))) }
+{
+    let bin = value(alloc, values, "bin")?;
+    let out_dir = value(alloc, values, "out-dir")?;
+    let tree = value(alloc, values, "tree")?;
+    Ok((bin, out_dir, tree))
+}
+
+// Reads the values of `--bin`, which may be left out, `--json` and `TREE`.
+fn report(
+    alloc: Global,
+    values: &ArgMatches<'_>,
+) -> Result<(Option<String>, bool, String), AllocError>
+    requires { GivesTree (rows_of (found_of values.now)) }
+    ensures { IfOk result (λ report. HasReport (option_map string_bytes report.0) report.1
+        (string_bytes report.2) (rows_of (found_of values.now))) }
+{
+    let bin = optional(alloc, values, "bin")?;
+    let tree = value(alloc, values, "tree")?;
+    Ok((bin, flag(values, "json"), tree))
+}
+
+// Reads the values of `--index`, `TREE` and `WORDS`.
 fn line(alloc: Global, values: &ArgMatches<'_>) -> Result<(usize, String, Vec<String>), Refusal>
     requires { GivesWords (rows_of (found_of values.now)) }
     ensures ok { IfOk result (λ line. HasWords line.0 (string_bytes line.1)
@@ -90,7 +132,7 @@ fn line(alloc: Global, values: &ArgMatches<'_>) -> Result<(usize, String, Vec<St
     Ok((index, tree, words))
 }
 
-// The value of `--index`.
+// Reads the value of `--index`.
 fn index(values: &ArgMatches<'_>) -> Result<usize, Refusal>
     requires { IsSome (first_of (codes "index") (rows_of (found_of values.now))) }
     ensures ok { IfOk result (λ index. HasIndex index (rows_of (found_of values.now))) }
@@ -103,7 +145,7 @@ fn index(values: &ArgMatches<'_>) -> Result<usize, Refusal>
     }
 }
 
-// The values of `WORDS`.
+// Reads the values of `WORDS`.
 fn words(alloc: Global, values: &ArgMatches<'_>) -> Result<Vec<String>, AllocError>
     ensures { IfOk result (λ words.
         map string_bytes words.items ≡ words_of (rows_of (found_of values.now))) }

@@ -19,9 +19,9 @@ use Rattle.cc_shell.specs.declared.shell.Shell.{Shell}
 use Rattle.cc_shell.specs.declared.shell.Shell.TheVariants.{Bash, Elvish, Fish, Nushell, PowerShell, Zsh}
 use Rattle.complgen_tree_file.specs.TreeFile.{HoldsTree}
 use Rattle.complgen_tree_file.specs.declared.error.TreeError.TheVariants as tree_error
-use Rattle.complgen_command_line.specs.Refusals.{IsOutOfMemory}
-use Rattle.complgen_command_line.specs.declared.types.Refusal.{Refusal}
-use Rattle.complgen_commands.specs.TreeFiles.{ReportsFile as ReportsTreeFile, bad_form, not_json, unreadable}
+use Rattle.complgen_commands.specs.Refusals.{IsOutOfMemory}
+use Rattle.complgen_commands.specs.declared.refusals.Refusal.{Refusal}
+use Rattle.complgen_commands.specs.TreeFiles.{ReportsFileAt}
 use Rattle.complgen_commands.specs.Scripts.{ScriptReads}
 use Rattle.complgen_commands.specs.Writing.{Untouched}
 use Rattle.complgen_commands.specs.AllScripts.{EndsFile, EndsFiles, EndsScripts, PrintsLine, ReadsBack}
@@ -92,18 +92,16 @@ module _ {S : Type 0} (taken : S → List ℕ) (failed : S → Failures) (folder
 
 -- ---- all scripts
 
-module _ {S : Type 0} (taken : S → List ℕ) (failed : S → Failures) (bin folder : List ℕ) where
+module _ {S : Type 0} (taken : S → List ℕ) (failed : S → Failures) (bin folder path : List ℕ) where
   pub scripts_unread : (state : S) (file : Option (List ℕ)) (refusal : Refusal)
-      → ReportsTreeFile file refusal
-      → EndsScripts taken failed bin folder state state file (Err refusal)
+      → ReportsFileAt path file refusal
+      → EndsScripts taken failed bin folder path state state file (Err refusal)
   scripts_unread state None refusal reported =
-      no_tree None refusal (unreadable refusal reported) (same taken failed folder state)
+      no_tree None refusal reported (same taken failed folder state)
   scripts_unread state (Some bytes) refusal (tree_error.NotJson, reported, reads) =
-      no_tree (Some bytes) refusal (not_json bytes refusal reads reported)
-      (same taken failed folder state)
+      no_tree (Some bytes) refusal (inl (reads, reported)) (same taken failed folder state)
   scripts_unread state (Some bytes) refusal (tree_error.BadForm, reported, reads) =
-      no_tree (Some bytes) refusal (bad_form bytes refusal reads reported)
-      (same taken failed folder state)
+      no_tree (Some bytes) refusal (inr (reads, reported)) (same taken failed folder state)
   scripts_unread state (Some bytes) refusal (tree_error.Memory, reported, reads) =
       no_memory (Some bytes) refusal reported (same taken failed folder state)
 
@@ -112,7 +110,7 @@ module _ {S : Type 0} (taken : S → List ℕ) (failed : S → Failures) (bin fo
       (refusal : Refusal) → (shell_spec Bash).clash (built_under (Some bin) tree) ≡ clash
       → HoldsTree file tree
       → EndsFile taken failed clash folder (path_line bin folder Bash) old new (Err refusal)
-      → EndsScripts taken failed bin folder old new file (Err refusal)
+      → EndsScripts taken failed bin folder path old new file (Err refusal)
   first_failed None old new file tree refusal is held ends = files file tree (Err refusal) held
       (files_failed taken failed folder (path_line bin folder Bash) _ old old new refusal ends refl)
   first_failed (Some label) old new file tree refusal is held (made, untouched) =
@@ -124,7 +122,7 @@ module _ {S : Type 0} (taken : S → List ℕ) (failed : S → Failures) (bin fo
       (result : Result (Unit {0}) Refusal) → HoldsTree file tree
       → EndsFile taken failed clash folder (path_line bin folder Bash) old mid (Ok tt)
       → EndsFiles taken failed folder (path_lines bin folder other_shells) mid new result
-      → EndsScripts taken failed bin folder old new file result
+      → EndsScripts taken failed bin folder path old new file result
   others_follow None old mid new file tree (Err refusal) held (written took before) ends =
       files file tree (Err refusal) held
       (files_failed taken failed folder (path_lines bin folder other_shells) _ old mid new refusal ends before)

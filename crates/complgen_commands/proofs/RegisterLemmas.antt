@@ -2,8 +2,8 @@
 use Rattle.std.proofs.Common.{◌≡◌, ap, refl, subst, sym, ℕ, List, Option, None, Some}
 use Rattle.std.proofs.Common.{true, Result, Ok, Err}
 use Rattle.std.specs.Prelude.{option_map}
-use Rattle.complgen_command_line.specs.Refusals.{IsRefusal}
-use Rattle.complgen_command_line.specs.declared.types.Refusal.{Refusal}
+use Rattle.complgen_commands.specs.Refusals.{IsRefusal}
+use Rattle.complgen_commands.specs.declared.refusals.Refusal.{Refusal}
 use Rattle.cc_env.specs.declared.builtin.Builtin.{Builtin}
 use Rattle.cc_base.specs.declared.error.Error.{Error}
 use Rattle.cc_base.specs.declared.error.Error.TheVariants as error

@@ -3,9 +3,9 @@ use Rattle.std.proofs.Common.{◌≡◌, ◌∙◌, ap, refl, subst, sym, ℕ, L
 use Rattle.std.proofs.Common.{Global, String, Vec, [], false, true, length, map, IfOk, OnOk}
 use Rattle.std.proofs.lemmas.List.{length-map}
 use Rattle.std.specs.String.{string_bytes}
-use Rattle.complgen_command_line.specs.declared.types.Plan.{Plan}
-use Rattle.complgen_command_line.specs.declared.types.Plan.TheVariants.{Candidates}
-use Rattle.complgen_command_line.specs.declared.types.Refusal.{Refusal}
+use Rattle.complgen_commands.specs.declared.plans.Plan.{Plan}
+use Rattle.complgen_commands.specs.declared.plans.Plan.TheVariants.{Candidates}
+use Rattle.complgen_commands.specs.declared.refusals.Refusal.{Refusal}
 use Rattle.cc_gather.specs.Values.{MayReturn}
 use Rattle.cc_command.specs.Built.{built_tree}
 use Rattle.cc_candidates.specs.Sources.{ReturnsAt}

@@ -1,8 +1,8 @@
 -- How writing a text for the command of a tree file ends, outcome by outcome.
 use Rattle.std.proofs.Common.{◌≡◌, ◌++◌, refl, ℕ, Bool, List, Option, None, Some, Result, Ok, Err}
 use Rattle.std.specs.Prelude.{IsTrue}
-use Rattle.complgen_command_line.specs.Refusals.{IsOutOfMemory}
-use Rattle.complgen_command_line.specs.declared.types.Refusal.{Refusal}
+use Rattle.complgen_commands.specs.Refusals.{IsOutOfMemory}
+use Rattle.complgen_commands.specs.declared.refusals.Refusal.{Refusal}
 use Rattle.cc_base.specs.declared.error.Error.{Error}
 use Rattle.cc_base.specs.declared.error.Error.TheVariants as error
 use Rattle.cc_base.specs.declared.failures.Failures.{Failures}

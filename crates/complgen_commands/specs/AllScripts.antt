@@ -15,11 +15,11 @@ use Rattle.cc_shell.specs.declared.shell.Shell.{Shell}
 use Rattle.cc_shell.specs.declared.shell.Shell.TheVariants.{Bash, Elvish, Fish, Nushell, PowerShell, Zsh}
 use Rattle.cc_base.specs.Shown.{on_one_line}
 use Rattle.complgen_tree_file.specs.TreeFile.{HoldsTree}
-use Rattle.complgen_command_line.specs.Refusals.{IsOutOfMemory, IsRefusal}
-use Rattle.complgen_command_line.specs.declared.types.Refusal.{Refusal}
+use Rattle.complgen_commands.specs.Refusals.{IsOutOfMemory, IsRefusal}
+use Rattle.complgen_commands.specs.declared.refusals.Refusal.{Refusal}
 use Rattle.complgen_commands.specs.Refusals.{IsMade, Reports, as_line, error_line, shown_line}
 use Rattle.complgen_commands.specs.Scripts.{SharesLabel}
-use Rattle.complgen_commands.specs.TreeFiles.{HoldsNoTree}
+use Rattle.complgen_commands.specs.TreeFiles.{HoldsNoTreeAt}
 use Rattle.complgen_commands.specs.Writing.{Untouched}
 
 -- the path of the script for a shell, as a line, each control character as `?`
@@ -76,26 +76,27 @@ EndsFile taken failed (Some label) folder line old new (Ok tt) = ⊥
 EndsFile taken failed (Some label) folder line old new (Err refusal) =
     IsMade (shown_line (LabelClash label)) refusal × Untouched taken failed old new
 
--- How the writing of all scripts of a tree file ends.
+-- How the writing of all scripts of the tree file at a path ends.
 pub data EndsScripts {S : Type 0} (taken : S → List ℕ) (failed : S → Failures)
-    (bin folder : List ℕ) (old new : S) : Option (List ℕ) → Result (Unit {0}) Refusal → Type 0 where
+    (bin folder path : List ℕ) (old new : S)
+    : Option (List ℕ) → Result (Unit {0}) Refusal → Type 0 where
   -- the file holds no tree, and nothing is printed
-  no_tree : (file : Option (List ℕ)) (refusal : Refusal) → HoldsNoTree file refusal
+  no_tree : (file : Option (List ℕ)) (refusal : Refusal) → HoldsNoTreeAt path file refusal
       → Untouched taken failed old new
-      → EndsScripts taken failed bin folder old new file (Err refusal)
+      → EndsScripts taken failed bin folder path old new file (Err refusal)
   -- out of memory, and nothing is printed
   no_memory : (file : Option (List ℕ)) (refusal : Refusal) → IsOutOfMemory refusal
       → Untouched taken failed old new
-      → EndsScripts taken failed bin folder old new file (Err refusal)
+      → EndsScripts taken failed bin folder path old new file (Err refusal)
   -- two commands share a label of the bash script, and nothing is printed
   shared_label : (file : Option (List ℕ)) (tree : Tree) (refusal : Refusal) → HoldsTree file tree
       → SharesLabel Bash bin tree refusal → Untouched taken failed old new
-      → EndsScripts taken failed bin folder old new file (Err refusal)
+      → EndsScripts taken failed bin folder path old new file (Err refusal)
   -- the scripts of the tree that the file describes are written to their files
   files : (file : Option (List ℕ)) (tree : Tree) (result : Result (Unit {0}) Refusal)
       → HoldsTree file tree
       → EndsFiles taken failed folder (path_lines bin folder all_shells) old new result
-      → EndsScripts taken failed bin folder old new file result
+      → EndsScripts taken failed bin folder path old new file result
 
 -- the shells but bash
 abbrev pub other_shells : List Shell

@@ -1,5 +1,6 @@
 pub mod AllScripts
 pub mod Ends
+pub mod Plans
 pub mod Refusals
 pub mod Registrations
 pub mod Replies

@@ -1,4 +1,4 @@
--- The registration for the command of a tree file, by which a shell asks a program for candidates.
+-- The registration for the command of a tree file, with which a shell asks a program for candidates.
 use Rattle.std.specs.Prelude.{◌≡◌, ℕ, true, List, Option, Some, None, Result, Err, codes, find, map, option_map}
 use Rattle.cc_env.specs.declared.builtin.Builtin.{Builtin}
 use Rattle.cc_env.specs.Builtins.{all_builtins, builtin_spec}
@@ -8,12 +8,12 @@ use Rattle.cc_env.specs.Wanted.{unknown_shell}
 use Rattle.cc_shell.specs.declared.shell.Shell.{Shell}
 use Rattle.cc_shell.specs.Shells.{shell_text}
 use Rattle.cc_command.specs.Tree.{Tree}
-use Rattle.complgen_command_line.specs.Refusals.{IsRefusal}
-use Rattle.complgen_command_line.specs.declared.types.Refusal.{Refusal}
+use Rattle.complgen_commands.specs.Refusals.{IsRefusal}
+use Rattle.complgen_commands.specs.declared.refusals.Refusal.{Refusal}
 use Rattle.complgen_commands.specs.Refusals.{error_line}
 use Rattle.complgen_commands.specs.Writing.{Finishes, Untouched}
 
--- the variable by which a shell asks
+-- the variable that makes a program reply to a shell
 abbrev pub variable : List ℕ
 variable = codes "COMPLETE"
 
@@ -30,11 +30,11 @@ registration_by adapter name bin = (builtin_spec adapter).registration variable 
 abbrev pub RegistrationReadsBy : Builtin → List ℕ → List ℕ → Type 0
 RegistrationReadsBy adapter name bin = (builtin_spec adapter).Reads variable name bin bin
 
--- the registration for a shell; without an adapter there is none
+-- the registration for a shell, if it has an adapter
 abbrev pub registration_for : Shell → Option (List ℕ → List ℕ → List ℕ)
 registration_for shell = option_map registration_by (adapter_for shell)
 
--- what the registration by an adapter is read as; without one none is read
+-- what the registration of an adapter is read as; nothing is read if there is no adapter
 abbrev pub AdapterReads : Option Builtin → List ℕ → List ℕ → Type 0
 AdapterReads None name bin = ⊥
 AdapterReads (Some adapter) name bin = RegistrationReadsBy adapter name bin
@@ -42,7 +42,7 @@ AdapterReads (Some adapter) name bin = RegistrationReadsBy adapter name bin
 abbrev pub RegistrationReads : Shell → List ℕ → List ℕ → Type 0
 RegistrationReads shell = AdapterReads (adapter_for shell)
 
--- the message that there is none for a shell
+-- the message for a shell without a registration
 abbrev pub no_registration_text : Shell → List ℕ
 no_registration_text shell =
     unknown_shell (map (λ adapter. (builtin_spec adapter).name) all_builtins) (shell_text shell)
@@ -53,8 +53,8 @@ pub record IsRegistration (registration : List ℕ → List ℕ → List ℕ)
   pub is : text ≡ registration tree.node.name bin
   pub read_back : Reads tree.node.name bin
 
--- How writing the registration for a shell ends, where it has this one or none, and one that it has
--- is read so. That there is none is reported, by this message, before the file is looked at.
+-- The outcomes of writing the registration for a shell, by the registration that it has, if any. If
+-- it has none, the message is printed before the file is parsed.
 pub data Registers {S : Type 0} (taken : S → List ℕ) (failed : S → Failures)
     (Reads : List ℕ → List ℕ → Type 0) (message bin : List ℕ) (file : Option (List ℕ)) (old new : S)
     : Option (List ℕ → List ℕ → List ℕ) → Result (Unit {0}) Refusal → Type 0 where

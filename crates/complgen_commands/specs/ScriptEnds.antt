@@ -3,7 +3,7 @@ use Rattle.std.specs.Prelude.{◌≡◌, ℕ, true, List, Option, Result, Ok, Er
 use Rattle.cc_base.specs.declared.failures.Failures.{Failures}
 use Rattle.cc_shell.specs.declared.shell.Shell.{Shell}
 use Rattle.cc_shell.specs.Shells.{shell_text}
-use Rattle.complgen_command_line.specs.declared.types.Refusal.{Refusal}
+use Rattle.complgen_commands.specs.declared.refusals.Refusal.{Refusal}
 use Rattle.complgen_commands.specs.Refusals.{FindsShell}
 use Rattle.complgen_commands.specs.Scripts.{IsScript, ScriptReads, SharesLabel}
 use Rattle.complgen_commands.specs.Writing.{Finishes, Untouched}

@@ -7,7 +7,7 @@ use Rattle.cc_base.specs.PlainName.{is_plain_name}
 use Rattle.cc_shell.specs.declared.shell.Shell.{Shell}
 use Rattle.cc_shell.specs.Shells.{shell_spec}
 use Rattle.cc_command.specs.Tree.{Tree}
-use Rattle.complgen_command_line.specs.declared.types.Refusal.{Refusal}
+use Rattle.complgen_commands.specs.declared.refusals.Refusal.{Refusal}
 use Rattle.complgen_commands.specs.Refusals.{IsMade, shown_line}
 use Rattle.complgen_tree_file.specs.TreeFile.{HoldsTree}
 

@@ -1,9 +1,11 @@
--- What reading a tree file gives, and how one that gives no command is reported.
-use Rattle.std.specs.Prelude.{ℕ, List, Option, None, Some, Result, Ok, Err}
+-- The result of parsing a tree file, and the report of a file that holds no tree.
+use Rattle.std.specs.Prelude.{◌⊎◌, ℕ, List, Option, None, Some, Result, Ok, Err}
 use Rattle.cc_command.specs.Tree.{Tree}
-use Rattle.complgen_command_line.specs.Refusals.{IsRefusal}
-use Rattle.complgen_command_line.specs.declared.types.Refusal.{Refusal}
-use Rattle.complgen_commands.specs.Refusals.{ReportsTree, bad_form_line, not_json_line, unreadable_line}
+use Rattle.complgen_commands.specs.Refusals.{IsRefusal}
+use Rattle.complgen_commands.specs.declared.refusals.Refusal.{Refusal}
+use Rattle.complgen_commands.specs.Refusals.{IsMade, ReportsTree, ReportsTreeAt, bad_form_at}
+use Rattle.complgen_commands.specs.Refusals.{bad_form_line, not_json_at, not_json_line}
+use Rattle.complgen_commands.specs.Refusals.{unreadable_at, unreadable_line}
 use Rattle.complgen_tree_file.specs.TreeFile.{Describes, HoldsTree, ReadsTree, SpellsNone}
 use Rattle.complgen_tree_file.specs.declared.error.TreeError.{TreeError}
 
@@ -28,3 +30,22 @@ ReportsFile (Some bytes) refusal =
 abbrev pub ReadsFile : Option (List ℕ) → Result Tree Refusal → Type 0
 ReadsFile file (Ok command) = HoldsTree file command
 ReadsFile file (Err refusal) = ReportsFile file refusal
+
+-- ---- the same of the file at a path, which is named
+
+-- the file holds no tree, and that is reported
+abbrev pub HoldsNoTreeAt : List ℕ → Option (List ℕ) → Refusal → Type 0
+HoldsNoTreeAt path None refusal = IsMade (unreadable_at path) refusal
+HoldsNoTreeAt path (Some bytes) refusal = (SpellsNone bytes × IsMade (not_json_at path) refusal)
+    ⊎ (Describes bytes None × IsMade (bad_form_at path) refusal)
+
+-- how a file from which no command is read is reported
+abbrev pub ReportsFileAt : List ℕ → Option (List ℕ) → Refusal → Type 0
+ReportsFileAt path None refusal = IsMade (unreadable_at path) refusal
+ReportsFileAt path (Some bytes) refusal =
+    (error : TreeError) × ReportsTreeAt path error refusal × ReadsTree bytes (Err error)
+
+-- what parsing it gives
+abbrev pub ReadsFileAt : List ℕ → Option (List ℕ) → Result Tree Refusal → Type 0
+ReadsFileAt path file (Ok command) = HoldsTree file command
+ReadsFileAt path file (Err refusal) = ReportsFileAt path file refusal

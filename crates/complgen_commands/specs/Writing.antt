@@ -5,8 +5,8 @@ use Rattle.cc_base.specs.declared.error.Error.TheVariants.{Write}
 use Rattle.cc_base.specs.declared.failures.Failures.{Failures}
 use Rattle.cc_base.specs.Sink.{add_failure}
 use Rattle.cc_command.specs.Tree.{Tree}
-use Rattle.complgen_command_line.specs.Refusals.{IsOutOfMemory, IsRefusal}
-use Rattle.complgen_command_line.specs.declared.types.Refusal.{Refusal}
+use Rattle.complgen_commands.specs.Refusals.{IsOutOfMemory, IsRefusal}
+use Rattle.complgen_commands.specs.declared.refusals.Refusal.{Refusal}
 use Rattle.complgen_commands.specs.Refusals.{error_line}
 use Rattle.complgen_commands.specs.TreeFiles.{HoldsNoTree}
 use Rattle.complgen_tree_file.specs.TreeFile.{Describes}

@@ -15,37 +15,42 @@ ghost use Rattle.complgen_commands.specs.AllScripts.{PrintsLine, ReadsBack, Repo
 ghost use Rattle.complgen_commands.specs.AllScripts.{folder_line, path_line, path_lines};
 ghost use Rattle.complgen_commands.specs.Refusals.{as_line};
 
-use crate::refusals::{as_line, error_refusal, text_refusal};
-use crate::tree_files::tree;
+use crate::refusals::{Refusal, WRITE_FAILED, as_line, error_refusal, text_refusal};
+use crate::tree_files::{TreeFile, named_tree};
 use cc_base::{Error, Sink, on_one_line, put_piece};
 use cc_command::Command;
 use cc_shell::{Shell, generate_to};
-use complgen_command_line::{Refusal, WRITE_FAILED};
 use std::alloc::{AllocError, Global};
 use std::rt::Files;
 
-/// Writes the scripts of all shells for a tree file, each to the file that its shell looks for, in
-/// a folder, and prints the paths of these files, one a line, each control character as `?`. There
-/// are no bytes where the tree file can't be read.
+/// Writes the scripts of all shells for the tree in `file`, under the name `bin`. Each goes to the
+/// file in `folder` that its shell looks for. Prints the paths of these files, one on each line, with
+/// `?` for each control character.
 ///
-/// Fails with status 1: where the tree file holds no tree, or two of its commands share a label of
-/// the bash script, before any file is made; where a file can't be made or written, as in a folder
-/// that isn't there; where a path can't be printed; and where memory runs out.
+/// # Errors
+///
+/// A refusal with status 1
+///
+/// - before any file is made, if the tree file holds no tree, which names that file, or if two of
+///   its commands share a label of the bash script;
+/// - if a file cannot be made or written, for example because the folder does not exist;
+/// - if a path cannot be printed, or an allocation fails.
 pub fn scripts<R: Files, W: Sink>(
     files: &R,
     alloc: Global,
     bin: &str,
     folder: &str,
-    file: Option<&[u8]>,
+    file: TreeFile<'_>,
     out: &mut W,
 ) -> Result<(), Refusal>
-    ensures ends { EndsScripts W.taken W.failed bin.now folder.now out.old out.new
-        (option_copied file.entry) result }
+    ensures ends { EndsScripts W.taken W.failed bin.now folder.now file.entry.path.now out.old out.new
+        (option_copied file.entry.bytes) result }
     ensures read_back { OnOk result
-        ((shell : Shell) → ScriptReads shell bin.now (option_copied file.entry)) }
+        ((shell : Shell) → ScriptReads shell bin.now (option_copied file.entry.bytes)) }
 {
-    let mut command = tree(alloc, file)?;
-    // In that of bash alone two commands may share a label: it comes before any file is made.
+    let mut command = named_tree(alloc, file)?;
+    // Only the bash script has labels that two commands may share. It is written first, so that this
+    // is reported before any file is made.
     write_one(files, alloc, Shell::Bash, &mut command, bin, folder, out)?;
     write_each(files, alloc, OTHERS, &mut command, bin, folder, out)
 }

@@ -1,5 +1,5 @@
-//! Carries out what the command line asks for: reads a tree file, and writes a script, the scripts
-//! of all shells, a registration or candidates; and what is printed of an error.
+//! Carries out what the command line asks for: parses a tree file, and writes a script, the scripts
+//! of all shells, a registration or candidates. Also has the text that is printed for each error.
 #![tactic(auto)]
 
 mod all_scripts;
@@ -13,7 +13,7 @@ mod tree_files;
 
 pub use crate::all_scripts::scripts;
 pub use crate::one_script::script;
-pub use crate::plans::run;
-pub use crate::refusals::{UNREADABLE, error_refusal};
+pub use crate::plans::{Plan, run};
+pub use crate::refusals::{Refusal, UNREADABLE, WRITE_FAILED, error_refusal};
 pub use crate::shells::shell_of;
-pub use crate::tree_files::tree;
+pub use crate::tree_files::{TreeFile, named_tree, tree, unreadable};

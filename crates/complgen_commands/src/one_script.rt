@@ -6,13 +6,12 @@ ghost use Rattle.complgen_commands.specs.ScriptEnds.{EndsScript, NamedScriptRead
 ghost use Rattle.complgen_commands.specs.Scripts.{IsScript, ScriptReads, SharesLabel};
 ghost use Rattle.complgen_commands.specs.Writing.{Finishes};
 
-use crate::refusals::error_refusal;
+use crate::refusals::{Refusal, error_refusal};
 use crate::shells::shell_of;
 use crate::tree_files::tree;
 use cc_base::Sink;
 use cc_generator::generate;
 use cc_shell::Shell;
-use complgen_command_line::Refusal;
 use std::alloc::Global;
 
 /// Writes the script for the shell of this name.

@@ -1,23 +1,75 @@
-//! Carries out a plan.
+//! The plans that the command line makes, and how one is carried out.
 
 ghost use Rattle.std.specs.Prelude.{OnOk, Some, codes};
 ghost use Rattle.std.specs.Option.{option_copied};
 ghost use Rattle.cc_engine.specs.Paths.{PathsOf};
 ghost use Rattle.complgen_commands.specs.Ends.{Ends, ReadsBack};
+ghost use Rattle.complgen_commands.specs.Plans.{IsForRun};
 
 use crate::one_script::script;
+use crate::refusals::Refusal;
 use crate::registrations::register;
 use crate::replies::reply;
 use cc_base::Sink;
 use cc_paths::Folder;
-use complgen_command_line::{Plan, Refusal};
 use std::alloc::Global;
 
-/// Carries out the plan, over the bytes of its tree file, or `None` where that file can't be read.
-/// What is written goes to `out`. A shell is looked up before the tree is read. Paths of value
-/// hints are completed from the folder, where the current folder is `.`.
+/// A task that the command line asks for.
+#[derive(Debug, Drop)]
+pub enum Plan {
+    /// Write a completion script: the name of the shell, the name by which users call the program,
+    /// and the path of the tree file.
+    Script(String, String, String),
+    /// Write a registration: the same three.
+    Register(String, String, String),
+    /// Write candidates: the index of the word, the path of the tree file, and the words.
+    Candidates(usize, String, Vec<String>),
+    /// Report what is wrong with a tree file.
+    Check {
+        /// The name by which users call the program, if it is not the one in the tree file.
+        bin: Option<String>,
+        /// Set if the report is JSON, with one object on each line.
+        json: bool,
+        /// The path of the tree file.
+        tree: String,
+    },
+    /// Write the scripts of all shells to files.
+    Scripts {
+        /// The name by which users call the program.
+        bin: String,
+        /// The directory of the files.
+        out_dir: String,
+        /// The path of the tree file.
+        tree: String,
+    },
+}
+
+impl Plan {
+    ghost use Rattle.std.specs.Prelude.{◌≡◌};
+    ghost use Rattle.complgen_commands.specs.Plans.{tree_of};
+
+    /// Returns the path of the tree file.
+    pub fn tree(&self) -> &str
+        ensures { result.now ≡ tree_of self.now }
+    {
+        match self {
+            Plan::Script(_, _, tree) => tree.as_str(),
+            Plan::Register(_, _, tree) => tree.as_str(),
+            Plan::Candidates(_, tree, _) => tree.as_str(),
+            Plan::Check { tree, .. } => tree.as_str(),
+            Plan::Scripts { tree, .. } => tree.as_str(),
+        }
+    }
+}
+
+/// Carries out a plan of `script`, `register` or `candidates` over the bytes of its tree file, or
+/// `None` if that file cannot be read, and writes to `out`. Looks up the shell before it parses the
+/// tree. Completes paths from `folder`, in which the current directory is `.`. The plans of `check`
+/// and `scripts` have functions of their own.
 ///
-/// Fails with status 1 and the text of the error.
+/// # Errors
+///
+/// A refusal with status 1 and the text of the error.
 pub fn run<D: Folder, W: Sink>(
     alloc: Global,
     plan: &Plan,
@@ -25,6 +77,7 @@ pub fn run<D: Folder, W: Sink>(
     folder: &D,
     out: &mut W,
 ) -> Result<(), Refusal>
+    requires { IsForRun plan.now }
     ensures ends { Ends W.taken W.failed (PathsOf (D.facts folder.now) (Some (codes "."))) plan.now
         (option_copied file.entry) out.old out.new result }
     ensures read_back { OnOk result (ReadsBack plan.now (option_copied file.entry)) }
@@ -35,5 +88,6 @@ pub fn run<D: Folder, W: Sink>(
         Plan::Candidates(index, _, words) => {
             reply(alloc, words.as_slice(), *index, file, folder, out)
         }
+        Plan::Check { .. } | Plan::Scripts { .. } => unreachable!(),
     }
 }

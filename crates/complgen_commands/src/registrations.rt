@@ -1,4 +1,4 @@
-//! Writes a registration, by which a shell asks a program for candidates.
+//! Writes a registration, with which a shell asks a program for candidates.
 
 ghost use Rattle.std.specs.Prelude.{◌≡◌, find, true};
 ghost use Rattle.std.specs.Option.{option_copied};
@@ -12,19 +12,18 @@ ghost use Rattle.complgen_commands.specs.Registrations.{registration_for};
 ghost use Rattle.complgen_commands.specs.Refusals.{error_line};
 ghost use Rattle.complgen_commands.specs.Writing.{Finishes};
 
-use crate::refusals::error_refusal;
+use crate::refusals::{Refusal, error_refusal};
 use crate::shells::shell_of;
 use crate::tree_files::tree;
 use cc_base::Sink;
 use cc_env::{Builtin, EnvCompleter, Shells};
 use cc_shell::{Shell, each_shell};
-use complgen_command_line::Refusal;
 use std::alloc::Global;
 
-// The variable by which a shell asks.
+// The variable that makes a program reply to a shell.
 const VARIABLE: &str = "COMPLETE";
 
-// What is printed of a shell that has no registration, with the names of those that have one.
+// Returns the line for a shell without a registration. It names the shells that have one.
 macro_rules! no_registration {
     ([$shell:tt] $($variant:ident $text:literal $programs:tt,)*) => {
         match $shell {
@@ -36,7 +35,13 @@ macro_rules! no_registration {
     };
 }
 
-/// Writes the registration for the shell of this name.
+/// Writes the registration for the shell `name`, of the tree in `file`, for a program that users call
+/// `bin`.
+///
+/// # Errors
+///
+/// A refusal with status 1 and the text of the error. A shell without a registration is reported
+/// before the tree is parsed.
 pub(crate) fn register<W: Sink>(
     alloc: Global,
     name: &str,
@@ -51,7 +56,7 @@ pub(crate) fn register<W: Sink>(
     register_named(alloc, shell, name, bin, file, out)
 }
 
-// Writes the registration for this shell, which has this text, of a tree file, where it has one.
+// Writes the registration for `shell`, whose name is `name`, if it has one.
 fn register_named<W: Sink>(
     alloc: Global,
     shell: Shell,
@@ -70,7 +75,7 @@ fn register_named<W: Sink>(
     }
 }
 
-// The adapter of this name.
+// Returns the adapter called `name`, if there is one.
 fn adapter_of(name: &str) -> Option<Builtin>
     ensures { result ≡ find (λ adapter. (builtin_spec adapter).named name.now) all_builtins }
 {
@@ -78,7 +83,7 @@ fn adapter_of(name: &str) -> Option<Builtin>
     shells.completer(name).copied()
 }
 
-// Writes the registration by this adapter of a tree file.
+// Writes the registration of `adapter` for the tree in `file`.
 fn register_by<W: Sink>(
     alloc: Global,
     adapter: Builtin,
@@ -98,7 +103,7 @@ fn register_by<W: Sink>(
     }
 }
 
-// What is printed where a registration is wanted and this shell has none.
+// Returns the line for a shell without a registration.
 fn no_registration(shell: Shell) -> &'static str
     ensures { result.now ≡ error_line (UnknownShell (no_registration_text shell)) }
 {

@@ -6,7 +6,7 @@ ghost use Rattle.cc_engine.specs.Paths.{PathsOf};
 ghost use Rattle.complgen_commands.specs.Ends.{EndsReply};
 ghost use Rattle.complgen_commands.specs.Replies.{AreFound, FindsNone};
 
-use crate::refusals::error_refusal;
+use crate::refusals::{Refusal, error_refusal};
 use crate::tree_files::tree;
 use cc_base::{Error, Sink};
 use cc_candidates::{Completers, CompletionCandidate};
@@ -14,7 +14,6 @@ use cc_command::Command;
 use cc_engine::complete;
 use cc_paths::Folder;
 use cc_replies::write_lines;
-use complgen_command_line::Refusal;
 use std::alloc::{AllocError, Global};
 
 // The folder that relative paths start from.

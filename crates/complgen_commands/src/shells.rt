@@ -2,9 +2,8 @@
 
 ghost use Rattle.complgen_commands.specs.Refusals.{FindsShell};
 
-use crate::refusals::error_refusal;
+use crate::refusals::{Refusal, error_refusal};
 use cc_shell::Shell;
-use complgen_command_line::Refusal;
 use std::alloc::Global;
 
 /// The shell of this name. Fails with status 1 and the text of the error where no shell has it, and

@@ -1,4 +1,4 @@
--- What is found in a value is what is found in the value that is seen.
+-- The same is found in a value and in its view.
 use Rattle.std.proofs.Common.{◌≡◌, ◌∙◌, ◌&&◌, ◌||◌, ◌^◌, ℕ, Bool, true, false, List, [], ◌∷◌, Option, Some, None}
 use Rattle.std.proofs.Common.{Bor, Global, Ordering, Less, Equal, Greater, ap, ap₂, bytes_eq, cond}
 use Rattle.std.proofs.Common.{if◌then◌else◌, is_eq, is_some, map, nat_cmp, refl, subst, sym, true≢false}

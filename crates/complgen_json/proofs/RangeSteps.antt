@@ -1,4 +1,4 @@
--- Whether each of a list is in range, one more taken from those that are left.
+-- One more number of a list is in range, or not.
 use Rattle.std.proofs.Common.{◌≡◌, ◌∙◌, ◌+◌, ◌<◌, ◌&&◌, ◌∷◌, ℕ, Bool, List, ap, drop, get_or, length, sym}
 use Rattle.std.proofs.lemmas.List.{drop_more}
 

@@ -1,5 +1,5 @@
--- What `serde_json` reads is the value that is seen, where the numbers are in range.
-use Rattle.std.proofs.Common.{◌≡◌, ◌∙◌, ◌&&◌, Bool, true, false, List, Option, Some, None}
+-- If the numbers are in range, `serde_json` reads the view of a value.
+use Rattle.std.proofs.Common.{◌≡◌, ◌∙◌, ◌&&◌, Bool, true, false, List, [], Option, Some, None}
 use Rattle.std.proofs.Common.{ap, if◌then◌else◌, is_some, refl, sym, true≢false}
 use Rattle.std.specs.Prelude.{option_and_then, option_map}
 use Rattle.json.specs.Json as borrowed
@@ -82,6 +82,11 @@ module _ (o : Option (borrowed.Json × List Token)) (j : borrowed.Json) (rest ne
   pub goes_on : (t : Option token.Token) → Yields rest t new → is_some t ≡ true → whole o ≡ None
   goes_on None y some = absurd (true≢false (sym some))
   goes_on (Some t) y some = ap whole (is ∙ ap (λ ts. Some (j, ts)) y)
+
+  pub nothing_left : (t : Option token.Token) → Yields rest t new → is_some t ≡ false
+      → o ≡ Some (j, [])
+  nothing_left None y none = is ∙ ap (λ ts. Some (j, ts)) y.0
+  nothing_left (Some t) y none = absurd (true≢false none)
 
   at_end : (t : Option token.Token) → Yields rest t new → is_some t ≡ false
       → whole o ≡ (if is_in_range j then Some (data_of j) else None)

@@ -1,7 +1,8 @@
--- What reading a text returns.
-use Rattle.std.specs.Prelude.{◌≡◌, ⊤, ℕ, List, Some, None, Result, Ok, Err}
+-- The results of reading a text.
+use Rattle.std.specs.Prelude.{◌≡◌, ⊤, ℕ, List, [], Some, None, Result, Ok, Err}
 use Rattle.std.specs.declared.alloc.Global.{Global}
-use Rattle.json.specs.Json.{value}
+use Rattle.json.specs.Json.{Json, value}
+use Rattle.json.specs.Lex.{tokens}
 use Rattle.json.specs.Token.{Token}
 use Rattle.json.specs.Value.{value_view}
 use Rattle.json.specs.declared.value.Value.{Value}
@@ -22,3 +23,7 @@ abbrev pub ReadsFirst : List Token → Result (Value Global) JsonError → List 
 ReadsFirst old (Ok v) new = value serde.max_depth old ≡ Some (value_view v, new)
 ReadsFirst old (Err NotJson) new = value serde.max_depth old ≡ None
 ReadsFirst old (Err Memory) new = ⊤
+
+-- the text spells this JSON, in which each object has all its members, also those of one key
+abbrev pub SpellsJson : List ℕ → Json → Type 0
+SpellsJson text j = value serde.max_depth (tokens text) ≡ Some (j, [])

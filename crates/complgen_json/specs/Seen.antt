@@ -1,4 +1,4 @@
--- What a value of `json`, which borrows its text, is as a value of `serde_json`.
+-- A value of `json`, which borrows its text, as a value of `serde_json`.
 use Rattle.std.specs.Prelude.{ℕ, ◌&&◌, List, Bool, true, Option, Some, None}
 use Rattle.std.specs.Prelude.{is_some, negsuc}
 use Rattle.std.specs.Borrow.{Bor}
@@ -11,12 +11,12 @@ use Rattle.serde_json.specs.Data.{Data, null, boolean, number, string, array, ob
 use Rattle.serde_json.specs.Data.{Items, no_items, item, Members, no_members, put}
 use Rattle.serde_json.specs.Read.{number_of}
 
--- the number; where it is out of range -1, which fits no field either
+-- the number; -1 if it is out of range, which fits no field either
 abbrev pub number_seen : Option Num → Data
 number_seen None = number (negative (negsuc 0))
 number_seen (Some n) = number n
 
--- the value, where its numbers are in range; of a key that comes twice the last value stays
+-- the value, if its numbers are in range; the last value of a key stays
 abbrev mutual
   pub data_of : borrowed.Json → Data
   data_of borrowed.null = null

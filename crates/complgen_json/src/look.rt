@@ -1,4 +1,4 @@
-//! Looks into a value.
+//! Looks into a JSON value.
 
 ghost use Rattle.std.specs.Prelude.{◌≡◌, is_some, map, option_and_then};
 ghost use Rattle.std.specs.List.{list_all, list_any};
@@ -13,28 +13,28 @@ ghost use Rattle.serde_json.specs.Find.{as_array, as_bool, as_null, as_number, a
 use crate::number::whole;
 use json::Value;
 
-/// Whether a value is `null`.
+/// Returns whether `value` is `null`.
 pub fn is_null(value: &Value<'_>) -> bool
     ensures { result ≡ is_some (as_null (view value.now)) }
 {
     value.is_null()
 }
 
-/// The text that the value is; `None` where it is none.
+/// Returns the text of a string, or `None` for any other value.
 pub fn text<'t>(value: &Value<'t>) -> Option<&'t str>
     ensures { option_map (λ text. text.now) result ≡ as_str (view value.now) }
 {
     value.as_str()
 }
 
-/// The `true` or `false` that the value is; `None` where it is neither.
+/// Returns the value of `true` or `false`, or `None` for any other value.
 pub fn boolean(value: &Value<'_>) -> Option<bool>
     ensures { result ≡ as_bool (view value.now) }
 {
     value.as_bool()
 }
 
-/// The whole number of at most 64 bits that the value is; `None` where it is none.
+/// Returns the value of a whole number that fits in 64 bits, or `None` for any other value.
 #[tactic(auto, using(crate::proofs::Found::whole_seen))]
 pub fn whole_number(value: &Value<'_>) -> Option<u64>
     ensures { result ≡ option_and_then as_u64 (as_number (view value.now)) }
@@ -42,7 +42,7 @@ pub fn whole_number(value: &Value<'_>) -> Option<u64>
     whole(value.as_number()?)
 }
 
-/// The items of the list that the value is; `None` where it is none.
+/// Returns the items of a list, or `None` for any other value.
 pub fn items<'v, 't>(value: &'v Value<'t>) -> Option<&'v Vec<Value<'t>>>
     ensures { option_map (λ items. items_view items.now.items) result
         ≡ as_array (view value.now) }
@@ -53,8 +53,8 @@ pub fn items<'v, 't>(value: &'v Value<'t>) -> Option<&'v Vec<Value<'t>>>
     }
 }
 
-/// The value at a key of an object, the last one of several. `None` where it has no such key, or
-/// the value is no object.
+/// Returns the value at `key` of an object, the last one if there are several. Returns `None` if the
+/// object has no such key, or `value` is not an object.
 pub fn member<'v, 't>(value: &'v Value<'t>, key: &str) -> Option<&'v Value<'t>>
     ensures { option_map (λ found. view found.now) result ≡ get key.now (view value.now) }
 {
@@ -64,7 +64,7 @@ pub fn member<'v, 't>(value: &'v Value<'t>, key: &str) -> Option<&'v Value<'t>>
     }
 }
 
-// The value of the last member with that key.
+// Returns the value of the last member with the key.
 fn last_member<'v, 't>(members: &'v Vec<(&'t str, Value<'t>)>, key: &str) -> Option<&'v Value<'t>>
     ensures { option_map (λ found. value_view found.now) result
         ≡ get_member key.now (members_view members.now.items) }
@@ -80,7 +80,7 @@ fn last_member<'v, 't>(members: &'v Vec<(&'t str, Value<'t>)>, key: &str) -> Opt
     None
 }
 
-/// Whether the value is an object with no key but these.
+/// Returns whether `value` is an object that has only keys of the list `keys`.
 pub fn has_only_keys(value: &Value<'_>, keys: &[&str]) -> bool
     ensures { result ≡ has_only (map (λ key. key.now) keys.now) (view value.now) }
 {

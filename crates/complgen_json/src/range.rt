@@ -1,4 +1,4 @@
-//! Whether the numbers of a value are in range.
+//! Checks that the numbers of a value are in range.
 
 ghost use Rattle.std.specs.Prelude.{◌≡◌};
 ghost use Rattle.complgen_json.specs.Seen.{are_in_range, is_in_range as in_range, members_are_in_range};
@@ -7,7 +7,7 @@ ghost use Rattle.json.specs.Value.{items_view, members_view, value_view};
 use crate::number::is_in_range;
 use json::Value;
 
-/// Whether each number of a value is in range.
+/// Returns whether each number of `value` is in range.
 #[cycle(range)]
 pub fn has_range(value: &Value<'_>) -> bool
     ensures { result ≡ in_range (value_view value.now) }

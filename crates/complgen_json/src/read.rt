@@ -1,30 +1,39 @@
-//! Reads a value.
+//! Reads a JSON value.
 
-ghost use Rattle.complgen_json.specs.Reads.{ReadsFirst, ReadsJson};
+ghost use Rattle.std.specs.Prelude.{IfOk};
+ghost use Rattle.json.specs.Value.{value_view};
+ghost use Rattle.complgen_json.specs.Reads.{ReadsFirst, ReadsJson, SpellsJson};
 
 use crate::range::has_range;
 use json::{Reader, Scratch, Value};
 use std::alloc::Global;
 
-/// Why no value was read.
+/// The reason why no value was read.
 #[derive(Debug, Drop)]
 pub enum JsonError {
-    /// The text is no JSON, is nested too deep, or has a number out of range.
+    /// The text is not JSON, is nested too deeply, or has a number out of range.
     NotJson,
-    /// Out of memory.
+    /// An allocation failed.
     Memory,
 }
 
 const MAX_DEPTH: usize = 127;
 
-/// Returns the value that a text spells. Fails with `NotJson` where it spells none, and with
-/// `Memory`.
+/// Returns the value that `text` spells. It borrows from `text` and, if a string has escapes, from
+/// `scratch`.
+///
+/// # Errors
+///
+/// `NotJson` if `text` spells no value, `Memory` if an allocation fails.
 pub fn read_value<'t>(
     alloc: Global,
     text: &'t str,
     scratch: &'t mut Scratch,
 ) -> Result<Value<'t>, JsonError>
-    ensures { ReadsJson text.now result }
+    ensures reads { ReadsJson text.now result }
+
+    // All members of an object are kept, also those of one key.
+    ensures spells { IfOk result (λ value. SpellsJson text.now (value_view value)) }
 {
     let Ok(mut reader) = Reader::new(text, scratch) else {
         return Err(JsonError::Memory);
@@ -39,7 +48,7 @@ pub fn read_value<'t>(
     Ok(value)
 }
 
-// The first value of the reader.
+// Reads the first value of the reader.
 fn first<'t>(alloc: Global, reader: &mut Reader<'t>) -> Result<Value<'t>, JsonError>
     ensures { ReadsFirst reader.old result reader.new }
 {

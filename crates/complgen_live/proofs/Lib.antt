@@ -3,4 +3,3 @@ mod Names
 mod PlainKnown
 mod ReplyLemmas
 mod Stems
-mod Untaken

@@ -1,4 +1,4 @@
--- The registration of programs, by which a shell runs this program for their candidates.
+-- The registration of programs, with which a shell runs this program for their candidates.
 use Rattle.std.specs.Prelude.{◌≡◌, ℕ, IsTrue, List, Result, Ok, IfErr, IfOk, OnOk}
 use Rattle.std.specs.List.{AllByRecursion}
 use Rattle.cc_env.specs.SafeShells.{SafeReads, safe_registration}
@@ -15,17 +15,16 @@ use Rattle.complgen_live.specs.Replies.{shell_names, variable}
 abbrev pub ArePlain : List (List ℕ) → Type 0
 ArePlain names = AllByRecursion (λ name. IsTrue (is_plain_name name)) names
 
--- the registration of some programs, with this completer; its function is named after this program
+-- the registration of some programs, with a completer; its function is named after this program
 abbrev pub registration_of : SafeShell → List ℕ → List (List ℕ) → List ℕ
 registration_of safe completer names =
     safe_registration safe.shell variable own_name names completer
 
--- what it is read as: its variable, its completer, and the names, where they are plain
+-- what it is read as: its variable, its completer, and the names, if they are plain
 abbrev pub RegistrationReads : SafeShell → List ℕ → List (List ℕ) → Type 0
 RegistrationReads safe completer names = SafeReads safe.shell variable own_name names completer
 
--- the registration of these programs is written; then what it is read as holds, and the names are
--- plain
+-- the registration is written; it then reads back, and the names are plain
 pub record WritesAll {S : Type 0} (taken : S → List ℕ) (failed : S → Failures)
     (completer : List ℕ) (names : List (List ℕ)) (safe : SafeShell) (old new : S)
     (result : Result (Unit {0}) Error) : Type 0 where
@@ -33,8 +32,8 @@ pub record WritesAll {S : Type 0} (taken : S → List ℕ) (failed : S → Failu
   pub read_back : OnOk result (RegistrationReads safe completer names)
   pub plain : OnOk result (ArePlain names)
 
--- How writing it ends, by what is requested. If no shell is requested, nothing is written; if no
--- shell has the name, that is reported.
+-- The outcomes of writing it, by what is requested. If no shell is requested, nothing is written. If
+-- no shell has the name, that is reported.
 abbrev pub RegistersAll : {S : Type 0} → (S → List ℕ) → (S → Failures) → List ℕ → List (List ℕ)
     → Wanted SafeShell → S → S → Result (Unit {0}) Error → Type 0
 RegistersAll taken failed completer names nothing old new result =

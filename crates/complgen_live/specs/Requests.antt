@@ -1,4 +1,4 @@
--- When the words of the command line are a request of a shell.
+-- When a shell requests something of the program.
 use Rattle.std.specs.Prelude.{ℕ, Bool, true, false, not, ◌&&◌, List, [], ◌∷◌, Option, None, Some, codes, if◌then◌else◌}
 use Rattle.std.specs.Str.{bytes_eq}
 
@@ -13,11 +13,11 @@ begins_request [] = true
 begins_request (program ∷ []) = true
 begins_request (program ∷ (word ∷ words)) = bytes_eq word (codes "--")
 
--- by the value of the variable and the words it is a request
+-- a request, by the value of the variable and the words
 abbrev pub is_request : Option (List ℕ) → List (List ℕ) → Bool
 is_request value words = names_shell value && begins_request words
 
--- the words after the `--` that follows the program's name; none where another word follows it
+-- the words after the `--` that follows the program's name, if it does
 abbrev pub request_words : List (List ℕ) → Option (List (List ℕ))
 request_words [] = None
 request_words (program ∷ []) = None

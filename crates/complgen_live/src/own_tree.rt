@@ -1,15 +1,16 @@
 //! The tree of this program's own command line.
 
-/// The tree file of `complgen`, which `examples/complgen.json` is too.
+/// The tree file of `complgen`, with the same text as `examples/complgen.json`. Its version says only
+/// that the flag `--version` exists.
 pub const OWN_TREE: &str = r#"{
   "name": "complgen",
-  "version": "4.6.11",
-  "about": "Writes shell completions for a command that a JSON file describes",
+  "version": "complgen --version prints it",
+  "about": "Writes shell completions for a program that a tree file describes",
   "disable_help_subcommand": true,
   "subcommands": [
     {
       "name": "script",
-      "about": "Writes a completion script to the standard output",
+      "about": "Writes the completion script for one shell",
       "args": [
         {
           "id": "shell",
@@ -30,14 +31,43 @@ pub const OWN_TREE: &str = r#"{
           "id": "bin",
           "long": "bin",
           "value_names": ["NAME"],
-          "help": "The name by which the shell calls the program",
+          "help": "The name by which users call the program",
           "required": true,
           "value_hint": "CommandName"
         },
         {
           "id": "tree",
           "value_names": ["TREE"],
-          "help": "A JSON file that describes a command, with its arguments and subcommands",
+          "help": "The tree file, a description of the program in JSON",
+          "required": true,
+          "value_hint": "FilePath"
+        }
+      ]
+    },
+    {
+      "name": "scripts",
+      "about": "Writes the completion scripts for all shells to files",
+      "args": [
+        {
+          "id": "bin",
+          "long": "bin",
+          "value_names": ["NAME"],
+          "help": "The name by which users call the program",
+          "required": true,
+          "value_hint": "CommandName"
+        },
+        {
+          "id": "out-dir",
+          "long": "out-dir",
+          "value_names": ["DIR"],
+          "help": "The directory for the scripts, which must exist",
+          "required": true,
+          "value_hint": "DirPath"
+        },
+        {
+          "id": "tree",
+          "value_names": ["TREE"],
+          "help": "The tree file, a description of the program in JSON",
           "required": true,
           "value_hint": "FilePath"
         }
@@ -45,7 +75,7 @@ pub const OWN_TREE: &str = r#"{
     },
     {
       "name": "register",
-      "about": "Writes a script that has the shell ask the program itself for candidates",
+      "about": "Writes a registration, which makes the shell ask the program itself for candidates",
       "args": [
         {
           "id": "shell",
@@ -65,14 +95,14 @@ pub const OWN_TREE: &str = r#"{
           "id": "bin",
           "long": "bin",
           "value_names": ["NAME"],
-          "help": "The name by which the shell calls the program",
+          "help": "The name by which users call the program",
           "required": true,
           "value_hint": "CommandName"
         },
         {
           "id": "tree",
           "value_names": ["TREE"],
-          "help": "A JSON file that describes a command, with its arguments and subcommands",
+          "help": "The tree file, a description of the program in JSON",
           "required": true,
           "value_hint": "FilePath"
         }
@@ -80,74 +110,51 @@ pub const OWN_TREE: &str = r#"{
     },
     {
       "name": "candidates",
-      "about": "Writes the candidates for a word to the standard output",
+      "about": "Writes the candidates for one word of a command line",
       "args": [
         {
           "id": "index",
           "long": "index",
           "value_names": ["INDEX"],
-          "help": "The index of the word to complete, from 0",
+          "help": "The index of the word to complete, where 0 is the program's name",
           "required": true
         },
         {
           "id": "tree",
           "value_names": ["TREE"],
-          "help": "A JSON file that describes a command, with its arguments and subcommands",
+          "help": "The tree file, a description of the program in JSON",
           "required": true,
           "value_hint": "FilePath"
         },
         {
           "id": "words",
           "value_names": ["WORDS"],
-          "help": "The words of a command line, the program's name first; after -- they may begin with -",
+          "help": "The command line, starting with the program's name; after --, words may begin with -",
           "num_args": [0, null]
         }
       ]
     },
     {
       "name": "check",
-      "about": "Says what is wrong with a tree file, and where",
+      "about": "Reports what is wrong with a tree file, and where",
       "args": [
         {
           "id": "bin",
           "long": "bin",
           "value_names": ["NAME"],
-          "help": "The name by which the shell calls the program, where it is not the tree's own",
+          "help": "The name by which users call the program, if the tree file has another",
           "value_hint": "CommandName"
+        },
+        {
+          "id": "json",
+          "long": "json",
+          "action": "SetTrue",
+          "help": "Prints JSON for editors and scripts, with one object on each line"
         },
         {
           "id": "tree",
           "value_names": ["TREE"],
-          "help": "A JSON file that describes a command, with its arguments and subcommands",
-          "required": true,
-          "value_hint": "FilePath"
-        }
-      ]
-    },
-    {
-      "name": "scripts",
-      "about": "Writes the scripts of all shells to files",
-      "args": [
-        {
-          "id": "bin",
-          "long": "bin",
-          "value_names": ["NAME"],
-          "help": "The name by which the shell calls the program",
-          "required": true,
-          "value_hint": "CommandName"
-        },
-        {
-          "id": "out-dir",
-          "long": "out-dir",
-          "value_names": ["FOLDER"],
-          "help": "The folder where the scripts go, which has to be there",
-          "required": true,
-          "value_hint": "DirPath"
-        },
-        {
-          "id": "tree",
-          "value_names": ["TREE"],
-          "help": "A JSON file that describes a command, with its arguments and subcommands",
+          "help": "The tree file, a description of the program in JSON",
           "required": true,
           "value_hint": "FilePath"
         }

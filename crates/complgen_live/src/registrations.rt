@@ -1,4 +1,4 @@
-//! The registration of programs, by which a shell runs this program for their candidates.
+//! Writes the registration of programs, with which a shell runs this program for their candidates.
 
 ghost use Rattle.std.specs.Prelude.{◌≡◌, [], ◌∷◌, ◌++◌, IfOk, OnOk, map};
 ghost use Rattle.std.specs.Option.{option_copied};
@@ -13,16 +13,16 @@ use cc_env::{SafeShell, Shells, known_shell, program_path, wanted_name};
 use cc_replies::EnvValues;
 use std::alloc::{AllocError, Global};
 
-// The variable that requests a registration or a reply, by the name of a shell.
+// The variable that requests a registration or a reply. Its value is the name of a shell.
 const VARIABLE: &str = "COMPLETE";
 
 // The name of this program.
 const OWN_NAME: &str = "complgen";
 
-/// Writes one registration for the programs of these names and for this program itself, for the
-/// shell that the environment requests. It has the shell run this program, which was called by
-/// `program`, for their candidates; a relative path begins at `current_dir`. Writes nothing if no
-/// shell is requested.
+/// Writes one registration for the programs `names` and for this program itself, for the shell that
+/// `env` requests. It makes the shell run this program, which was called by `program`, for their
+/// candidates. If that is a relative path, it starts at `current_dir`. Writes nothing if no shell is
+/// requested.
 ///
 /// # Errors
 ///
@@ -48,7 +48,7 @@ pub fn write_registrations<W: Sink>(
     write_for(alloc, shell, program, current_dir, names, out)
 }
 
-// Writes the registration for a shell.
+// Writes the registration for `shell`.
 fn write_for<W: Sink>(
     alloc: Global,
     shell: &SafeShell,
@@ -73,7 +73,7 @@ fn write_for<W: Sink>(
     )
 }
 
-// The names, and then that of this program.
+// Returns `names`, then the name of this program.
 #[tactic(auto, using(crate::proofs::PlainKnown::with_own))]
 fn with_own_name<'n>(alloc: Global, names: &'n PlainNames) -> Result<Vec<&'n str>, AllocError>
     ensures all { IfOk result (λ all. map (λ name. name.now) all.items ≡ names.now ++ own_name ∷ []) }

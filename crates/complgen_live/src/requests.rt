@@ -1,25 +1,20 @@
-//! Whether the words of the command line are a request of a shell.
+//! Tells requests of shells from command lines.
 
-ghost use Rattle.std.specs.Prelude.{◌≡◌, codes, false, map, option_map, string_bytes, true};
+ghost use Rattle.std.specs.Prelude.{◌≡◌, codes, map, option_map, string_bytes};
 ghost use Rattle.std.specs.Option.{option_copied};
-ghost use Rattle.clap.specs.Words.{takes};
 ghost use Rattle.cc_replies.specs.Environment.{value_of};
-ghost use Rattle.complgen_command_line.specs.CommandLine.{program_line};
 ghost use Rattle.complgen_live.specs.Requests.{begins_request, is_request, names_shell};
 ghost use Rattle.complgen_live.specs.Requests.{request_words};
 
 use cc_replies::EnvValues;
 
-/// Whether the words are a request of a shell, for registrations or for candidates: the variable
-/// `COMPLETE` is set, not empty and not `0`, and the words are the program's name alone or go on
-/// with `--`. The first word is the program's name. The command line takes no such words, so no
-/// command line that works is taken for a request.
-#[tactic(auto, using(crate::proofs::Untaken::untaken_request))]
+/// Returns whether a shell requests registrations or candidates: the variable `COMPLETE` of `env` is
+/// set, is neither empty nor `0`, and the first of `words`, the program's name, stands alone or has
+/// `--` after it. `is_shell_request` of `complgen_command_line` states that the command line accepts
+/// no such words.
 pub fn is_request(env: &EnvValues, words: &[String]) -> bool
-    ensures value { result
+    ensures { result
         ≡ is_request (value_of (codes "COMPLETE") env.now) (map string_bytes words.now) }
-    ensures untaken { result ≡ true
-        → takes program_line (map string_bytes words.now) ≡ false }
 {
     names_shell(env.get("COMPLETE")) && begins_request(words)
 }
@@ -42,8 +37,8 @@ fn begins_request(words: &[String]) -> bool
     }
 }
 
-/// The words after the `--` of a request for candidates, the first of which calls the program that
-/// is completed. `None` where no `--` follows the program's name.
+/// Returns the words after the `--` of a request for candidates, or `None` if no `--` follows the
+/// program's name. The first of them calls the program that is completed.
 pub fn request_words(words: &[String]) -> Option<&[String]>
     ensures { option_map (λ after. map string_bytes after.now) result
         ≡ request_words (map string_bytes words.now) }

@@ -1,14 +1,14 @@
 //! Runs the subcommands `script` and `check` of `complgen` for `./complgen`, which compiles this
-//! program without a proof. So this program uses few crates, and no live completion.
+//! program without a proof.
 //!
 //! The first word is the directory of the caller, where a relative path of a tree file begins. The
 //! other words are those of `complgen`.
 #![tactic(auto)]
 
 use cc_base::Counted;
-use complgen_check::check;
-use complgen_command_line::{Plan, Refusal, ToolPlan, names_tool, plan, plan_tool};
-use complgen_commands::script;
+use complgen_check::{Report, check};
+use complgen_command_line::plan;
+use complgen_commands::{Plan, Refusal, script, unreadable};
 use std::alloc::AllocError;
 use std::convert::AsStr;
 use std::env::{self, Env};
@@ -34,46 +34,47 @@ fn carry_out<R: Env + Files + Print + AllocGlobal>(rt: &R) -> Result<u8, Refusal
         return Err(Refusal::from_static(2, NOT_UTF8));
     };
     let words: Vec<String> = words.collect(rt.alloc())?;
-    // In the place of the directory `plan` and `plan_tool` expect the name of the program.
-    match words.as_slice() {
-        [_, words @ ..] if names_tool(words) => print_findings(rt, words),
-        [_, words @ ..] => print_script(rt, words),
-        [] => Err(Refusal::from_static(2, NEEDS_PROOF)),
-    }
+    // In the place of the directory `plan` expects the name of the program.
+    let [_, words @ ..] = words.as_slice() else {
+        return Err(Refusal::from_static(2, NEEDS_PROOF));
+    };
+    let plan = plan(rt.alloc(), words)?;
+    carry_out_plan(rt, words, &plan)
 }
 
-// Prints the script that the words request.
-fn print_script<R: Files + Print + AllocGlobal>(rt: &R, words: &[String]) -> Result<u8, Refusal> {
-    match plan(rt.alloc(), words)? {
-        Plan::Script(shell, bin, tree) => {
-            let file = contents(rt, words, tree.as_str())?;
-            let file = file.as_ref().map(Vec::as_slice);
-            let mut out = Counted::new(io::writer(rt));
-            script(rt.alloc(), shell.as_str(), bin.as_str(), file, &mut out)?;
+// Prints the script or the findings that the plan asks for. Returns the exit status, which is 1 if
+// one of the findings is an error or a warning.
+fn carry_out_plan<R: Files + Print + AllocGlobal>(
+    rt: &R,
+    words: &[String],
+    plan: &Plan,
+) -> Result<u8, Refusal> {
+    let alloc = rt.alloc();
+    let file = contents(rt, words, plan.tree())?;
+    let file = file.as_ref().map(Vec::as_slice);
+    let mut out = Counted::new(io::writer(rt));
+    match plan {
+        Plan::Script(shell, bin, _) => {
+            script(alloc, shell.as_str(), bin.as_str(), file, &mut out)?;
             Ok(0)
         }
-        _ => Err(Refusal::from_static(1, NEEDS_PROOF)),
-    }
-}
-
-// Prints the findings about the tree file that the words name. The status is 1 if one of them is an
-// error or a warning.
-fn print_findings<R: Files + Print + AllocGlobal>(rt: &R, words: &[String]) -> Result<u8, Refusal> {
-    match plan_tool(rt.alloc(), words)? {
-        ToolPlan::Check(bin, tree) => {
-            let file = contents(rt, words, tree.as_str())?;
-            let file = file.as_ref().map(Vec::as_slice);
+        Plan::Check { bin, json, tree } => {
+            if file.is_none() {
+                return Err(unreadable(alloc, tree.as_str()));
+            }
+            let report = if *json { Report::Json } else { Report::Lines };
             let bin = bin.as_ref().map(|bin| bin.as_str());
-            let mut out = Counted::new(io::writer(rt));
-            let is_clean = check(rt.alloc(), bin, file, &mut out)?;
+            let is_clean = check(alloc, bin, report, file, &mut out)?;
             Ok(u8::from(!is_clean))
         }
-        _ => Err(Refusal::from_static(1, NEEDS_PROOF)),
+        Plan::Register(..) | Plan::Candidates(..) | Plan::Scripts { .. } => {
+            Err(Refusal::from_static(1, NEEDS_PROOF))
+        }
     }
 }
 
-// The bytes of the file at a path from the directory that the first word names, or `None` if the
-// file cannot be read.
+// Returns the bytes of the file at a path from the directory that the first word names, or `None` if
+// the file cannot be read.
 fn contents<R: Files + AllocGlobal>(
     rt: &R,
     words: &[String],

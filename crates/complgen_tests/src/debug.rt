@@ -2,7 +2,7 @@
 
 use crate::checks::is;
 use crate::runs::{candidates, script};
-use complgen_command_line::Refusal;
+use complgen_commands::Refusal;
 use std::alloc::AllocError;
 
 #[test]

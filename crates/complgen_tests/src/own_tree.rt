@@ -1,21 +1,22 @@
-//! The built-in tree has exactly the subcommands and the arguments of the command line.
+//! Compares the built-in tree with the command line: it has the same commands and arguments.
 
 use cc_arg::Arg;
 use cc_command::Command;
 use cc_fixtures::words::to_strings;
-use complgen_command_line::{Refusal, names_tool, plan, plan_tool};
+use complgen_command_line::plan;
+use complgen_commands::Refusal;
 use complgen_live::OWN_TREE;
 use complgen_tree_file::read_tree;
 use std::alloc::Global;
 use std::convert::AsStr;
 use std::process::Abort;
 
-// Returns the number of lines of the text with this beginning.
+// Counts the lines of `text` that begin with `start`.
 fn lines_with(text: &str, start: &str) -> usize {
     text.lines().filter(|line| line.starts_with(start)).count()
 }
 
-// Fails unless the help text has a line with this beginning and end.
+// Fails unless a line of `help` begins with `start` and ends with `end`.
 fn has_line(rt: &impl Abort, help: &str, start: &str, end: &str) {
     let found = help
         .lines()
@@ -23,7 +24,7 @@ fn has_line(rt: &impl Abort, help: &str, start: &str, end: &str) {
     assert!(rt; found, "no line {start:?} .. {end:?} in {help}");
 }
 
-// Fails unless the help text of a subcommand has a line for this argument of the tree.
+// Fails unless the help text of a command has a line for `argument`.
 fn has_argument(rt: &impl Abort, alloc: Global, help: &str, argument: &Arg) {
     let about = argument.get_help().unwrap_or("");
     let value = argument
@@ -40,11 +41,14 @@ fn has_argument(rt: &impl Abort, alloc: Global, help: &str, argument: &Arg) {
         };
         return has_line(rt, help, start, about);
     };
-    let start = format!(in alloc; "      --{long} <{value}> ").expect(rt, "no text");
-    has_line(rt, help, start.as_str(), about);
+    let start = match value {
+        "" => format!(in alloc; "      --{long} "),
+        value => format!(in alloc; "      --{long} <{value}> "),
+    };
+    has_line(rt, help, start.expect(rt, "no text").as_str(), about);
 }
 
-// Fails unless the help text of a subcommand has exactly the arguments of the tree.
+// Fails unless the help text of a command lists the arguments of `child` and no others.
 fn has_arguments(rt: &impl Abort, alloc: Global, help: &str, child: &Command) {
     let mut longs = 0;
     let mut positionals = 0;
@@ -61,23 +65,10 @@ fn has_arguments(rt: &impl Abort, alloc: Global, help: &str, child: &Command) {
     assert!(rt; shown == positionals, "values of {help}");
 }
 
-// Returns the refusal of these words. Fails if there is a plan.
+// Returns the refusal for `words`. Fails if they get a plan.
 fn refusal_of(rt: &impl Abort, alloc: Global, words: &[&str]) -> Refusal {
     let words = to_strings(alloc, words).expect(rt, "no words");
     match plan(alloc, words.as_slice()) {
-        Ok(_) => panic!(rt; "a plan"),
-        Err(refusal) => refusal,
-    }
-}
-
-// Returns the help text of a subcommand, from the one of two command lines that has it.
-fn help_of(rt: &impl Abort, alloc: Global, name: &str) -> Refusal {
-    let words = ["complgen", name, "-h"];
-    let tool = to_strings(alloc, words.as_slice()).expect(rt, "no words");
-    if !names_tool(tool.as_slice()) {
-        return refusal_of(rt, alloc, words.as_slice());
-    }
-    match plan_tool(alloc, tool.as_slice()) {
         Ok(_) => panic!(rt; "a plan"),
         Err(refusal) => refusal,
     }
@@ -101,7 +92,7 @@ fn is_the_command_line(rt: HostRuntime) {
             start.as_str(),
             child.get_about().unwrap_or("none"),
         );
-        let own = help_of(&rt, rt.alloc(), child.get_name());
+        let own = refusal_of(&rt, rt.alloc(), &["complgen", child.get_name(), "-h"]);
         has_arguments(&rt, rt.alloc(), own.text.as_str(), child);
     }
 }

@@ -1,11 +1,10 @@
 //! The output of the plan of a script, and its failures.
 
 use crate::checks::{has, same};
-use crate::runs::{fails, output_of, script};
+use crate::runs::{carried_out, fails, output_of, script};
 use cc_base::Collected;
 use cc_paths::MemoryFolder;
-use complgen_command_line::Refusal;
-use complgen_commands::run;
+use complgen_commands::Refusal;
 use std::alloc::{AllocError, Global};
 use std::convert::AsStr;
 
@@ -25,7 +24,7 @@ fn writes_nothing_without_memory(rt: HostRuntime) {
     let plan = script(rt.alloc(), "elvish").expect(&rt, "no plan");
     let mut out = Collected::new(rt.alloc());
     let folder = MemoryFolder::new(&[], &[]);
-    match run(
+    match carried_out(
         rt.alloc(),
         &plan,
         Some(PARENT.as_bytes()),

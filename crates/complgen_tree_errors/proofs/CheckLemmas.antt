@@ -1,12 +1,15 @@
--- What a check of a value says of the bytes that spell it.
-use Rattle.std.proofs.Common.{◌≡◌, ◌∙◌, ℕ, List, [], ◌∷◌, Some, None, false, ap, length, refl}
+-- A check of a value is a check of the bytes that spell it.
+use Rattle.std.proofs.Common.{◌≡◌, ◌∙◌, ℕ, List, [], ◌∷◌, Some, None, ap, length, refl}
 use Rattle.std.specs.Str.{IsUtf8}
+use Rattle.json.specs.Json.{Json}
 use Rattle.serde_json.specs.Data.{Data}
 use Rattle.serde_json.specs.Read.{read}
+use Rattle.complgen_json.specs.Reads.{SpellsJson}
+use Rattle.complgen_json.specs.Seen.{data_of}
 use Rattle.complgen_tree_file.specs.CommandForm.{command_of}
 use Rattle.complgen_tree_file.specs.Faults.{is_nil}
 use Rattle.complgen_tree_file.specs.TreeFile.{Spells}
-use Rattle.complgen_tree_errors.specs.Checks.{Checks, ChecksValue, DescribesNone, FindsErrors}
+use Rattle.complgen_tree_errors.specs.Checks.{Checks, ChecksValue, DescribesNone}
 use Rattle.complgen_tree_errors.specs.declared.checking.Checked.{Checked}
 use Rattle.complgen_tree_errors.specs.declared.checking.Checked.TheVariants.{Errors, Tree as Reads}
 
@@ -38,12 +41,9 @@ no_command bytes d spelled none command described =
     cc
 
 -- a check of the value that bytes spell is one of the bytes
-pub checks_bytes : (bytes : List ℕ) (d : Data) (checked : Checked) → Spells bytes d
-    → ChecksValue d checked → Checks bytes checked
-checks_bytes bytes d (Reads command doubles) spelled is = ((d, spelled, is.0), is.1)
-checks_bytes bytes d (Errors errors) spelled is = (is.0, no_command bytes d spelled is.1)
-
-pub finds_errors : {A : Type 0} (bytes : List ℕ) (errors : List A) → is_nil errors ≡ false
-    → DescribesNone bytes → FindsErrors bytes errors
-finds_errors bytes [] some none = cc
-finds_errors bytes (error ∷ errors) some none = none
+pub checks_bytes : (bytes : List ℕ) (j : Json) (checked : Checked) → Spells bytes (data_of j)
+    → SpellsJson bytes j → ChecksValue j checked → Checks bytes checked
+checks_bytes bytes j (Reads command doubles source) spelled json is =
+    ((data_of j, spelled, is.0), record { json = j; spells = json; each = is.1 })
+checks_bytes bytes j (Errors errors) spelled json is =
+    (is.0, no_command bytes (data_of j) spelled is.1)

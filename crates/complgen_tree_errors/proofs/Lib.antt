@@ -1,3 +1,5 @@
 pub mod CheckLemmas
+pub mod DoubleLemmas
+pub mod MarkLemmas
 pub mod ShownLemmas
 pub mod WalkLemmas

@@ -1,4 +1,4 @@
--- Something is found wrong with a command and its children exactly where they are not read.
+-- A command and its children have faults exactly if they are not read.
 use Rattle.std.proofs.Common.{◌≡◌, ◌∙◌, ◌&&◌, Bool, Option, Some, None, is_some, ap, codes, sym, refl}
 use Rattle.std.specs.Prelude.{fold}
 use Rattle.std.proofs.Math.Bool.{and_assoc}
@@ -15,7 +15,7 @@ then_where : {A B : Type 0} (o : Option A) (f : A → Option B) (b : Bool)
 then_where None f b same = refl
 then_where (Some a) f b same = same a
 
--- a value describes a command where it does without its children, and those are commands
+-- a value describes a command if it does so without its children, and these are commands
 command_where : (d : Data) → is_some (command_of d)
     ≡ (is_some (own_of d) && fits_if_there commands_of (get (codes "subcommands") d))
 command_where d = ap is_some (command_with_children d)

@@ -1,10 +1,13 @@
--- What a check of a tree file ends with.
-use Rattle.std.specs.Prelude.{◌≡◌, ℕ, All, List, [], ◌∷◌, Some, None}
+-- The results of a check of a tree file.
+use Rattle.std.specs.Prelude.{◌≡◌, ℕ, List, [], Some, None, map}
+use Rattle.json.specs.Json.{Json}
 use Rattle.cc_command.specs.Tree.{Tree}
-use Rattle.serde_json.specs.Data.{Data}
+use Rattle.complgen_json.specs.Reads.{SpellsJson}
+use Rattle.complgen_json.specs.Seen.{data_of}
 use Rattle.complgen_tree_file.specs.CommandForm.{command_of}
 use Rattle.complgen_tree_file.specs.TreeFile.{Describes}
-use Rattle.complgen_tree_errors.specs.Findings.{AreErrors, IsDouble}
+use Rattle.complgen_tree_errors.specs.Doubles.{hidden_in}
+use Rattle.complgen_tree_errors.specs.Findings.{AreErrors, Shown, shown, shown_double}
 use Rattle.complgen_tree_errors.specs.declared.checking.Checked.{Checked}
 use Rattle.complgen_tree_errors.specs.declared.checking.Checked.TheVariants.{Errors, Tree as Reads}
 
@@ -12,19 +15,27 @@ use Rattle.complgen_tree_errors.specs.declared.checking.Checked.TheVariants.{Err
 abbrev pub DescribesNone : List ℕ → Type 0
 DescribesNone bytes = (command : Tree) → Describes bytes (Some command) → ⊥
 
--- a check of a value ends with the command that it describes, and what is said of keys that stand
--- twice; or with errors, at least one, where it describes none
-abbrev pub ChecksValue : Data → Checked → Type 0
-ChecksValue d (Reads command doubles) = (command_of d ≡ Some command) × All IsDouble doubles.items
-ChecksValue d (Errors errors) = AreErrors errors.items × (command_of d ≡ None)
+-- what is said of the hidden members of a JSON value: one warning for each, in the order of the
+-- text, and nothing else
+abbrev pub hidden_list : Json → List Shown
+hidden_list j = map shown_double (hidden_in [] j)
 
--- a check ends with the command that the bytes describe, and what is said of keys that stand twice;
--- or with errors, at least one, where they describe none
+-- the bytes spell JSON, and this is said of its hidden members
+pub record SaysHidden (bytes : List ℕ) (said : List Shown) : Type 0 where
+  pub json : Json
+  pub spells : SpellsJson bytes json
+  pub each : said ≡ hidden_list json
+
+-- a check of a JSON value returns the command that it describes, with the warnings about hidden
+-- members; or errors, at least one, if it describes none
+abbrev pub ChecksValue : Json → Checked → Type 0
+ChecksValue j (Reads command doubles source) =
+    (command_of (data_of j) ≡ Some command) × (map shown doubles.items ≡ hidden_list j)
+ChecksValue j (Errors errors) = AreErrors errors.items × (command_of (data_of j) ≡ None)
+
+-- a check of bytes returns the command that they describe, with the warnings about hidden members;
+-- or errors, at least one, if they describe none
 abbrev pub Checks : List ℕ → Checked → Type 0
-Checks bytes (Reads command doubles) = Describes bytes (Some command) × All IsDouble doubles.items
+Checks bytes (Reads command doubles source) =
+    Describes bytes (Some command) × SaysHidden bytes (map shown doubles.items)
 Checks bytes (Errors errors) = AreErrors errors.items × DescribesNone bytes
-
--- errors are found exactly where the bytes describe no command
-abbrev pub FindsErrors : {A : Type 0} → List ℕ → List A → Type 0
-FindsErrors bytes [] = (command : Tree) × Describes bytes (Some command)
-FindsErrors bytes (error ∷ errors) = DescribesNone bytes

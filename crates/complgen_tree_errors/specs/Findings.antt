@@ -1,5 +1,6 @@
--- What is shown of a finding.
+-- The parts of a finding that are shown, apart from its line and its column.
 use Rattle.std.specs.Prelude.{◌≡◌, ℕ, ◌-◌, All, List, [], ◌++◌, Option, Some, codes, false, length, map, slice_get, string_bytes}
+use Rattle.cc_base.specs.Shown.{HoldsNoControl}
 use Rattle.complgen_tree_errors.specs.Places.{ShownStep, index, key, path_text, shown_step}
 use Rattle.complgen_tree_errors.specs.Shown.{shown_text}
 use Rattle.complgen_tree_errors.specs.declared.finding.Finding.{Finding}
@@ -8,7 +9,7 @@ use Rattle.complgen_tree_errors.specs.declared.finding.Level.TheVariants.{Error,
 use Rattle.complgen_tree_errors.specs.declared.finding.PlacedFinding.{PlacedFinding}
 use Rattle.complgen_tree_file.specs.Faults.{is_nil}
 
--- What is shown of a finding beside its line and column.
+-- a level, a path and a text
 pub record Shown : Type 0 where
   pub level : Level
   pub path : List ℕ
@@ -22,7 +23,7 @@ shown finding = record {
   text = string_bytes finding.text;
 }
 
--- what is shown of one with its place
+-- what is shown of a finding with its place
 abbrev pub shown_placed : PlacedFinding → Shown
 shown_placed finding = record {
   level = finding.level;
@@ -30,31 +31,31 @@ shown_placed finding = record {
   text = string_bytes finding.text;
 }
 
--- the key of a step, where it has one
+-- the key of a step; an index has none
 abbrev pub key_of : Option ShownStep → List ℕ
 key_of (Some (key name)) = name
 key_of _ = []
 
--- the key of the last step of a path; empty where that is an index
+-- the key of the last step of a path; empty if that step is an index
 abbrev pub last_key : List ShownStep → List ℕ
 last_key path = key_of (slice_get path (length path - 1))
 
 -- the text that a later member hides the one that a path leads to
 abbrev pub double_text : List ShownStep → List ℕ
-double_text path = (codes "the key `" ++ shown_text (last_key path))
-    ++ codes "` stands twice: the last one counts"
+double_text path = (codes "duplicate key `" ++ shown_text (last_key path))
+    ++ codes "`; the last one is used"
 
--- a finding about the member that a path leads to: a later one hides it
-pub record IsDouble (finding : PlacedFinding) : Type 0 where
-  pub path : List ShownStep
-  pub says : shown_placed finding
-      ≡ record { level = Warning; path = path_text path; text = double_text path }
+-- what is shown of a member that a later one hides
+abbrev pub shown_double : List ShownStep → Shown
+shown_double path =
+    record { level = Warning; path = path_text path; text = double_text path }
 
--- a finding that is an error
-abbrev pub IsError : PlacedFinding → Type 0
-IsError finding = finding.level ≡ Error
+-- what is shown of an error; its text is on one line
+pub record IsError (error : Shown) : Type 0 where
+  pub level : error.level ≡ Error
+  pub line : HoldsNoControl error.text
 
--- Errors, at least one.
+-- errors, at least one
 pub record AreErrors (found : List PlacedFinding) : Type 0 where
   pub some : is_nil found ≡ false
-  pub each : All IsError found
+  pub each : All IsError (map shown_placed found)

@@ -1,62 +1,66 @@
 //! Checks the bytes of a tree file.
 
-ghost use Rattle.std.specs.Prelude.{◌≡◌, All, IfOk, is_some};
+ghost use Rattle.std.specs.Prelude.{◌≡◌, All, IfOk, is_some, map};
+ghost use Rattle.cc_base.specs.Shown.{HoldsNoControl};
+ghost use Rattle.json.specs.Value.{value_view};
+ghost use Rattle.std.specs.String.{string_bytes};
 ghost use Rattle.complgen_json.specs.Seen.{view};
 ghost use Rattle.complgen_tree_file.specs.CommandForm.{command_of};
 ghost use Rattle.complgen_tree_file.specs.Faults.{is_nil};
-ghost use Rattle.complgen_tree_errors.specs.Checks.{Checks, ChecksValue, FindsErrors};
-ghost use Rattle.complgen_tree_errors.specs.Findings.{IsDouble, IsError};
+ghost use Rattle.complgen_tree_errors.specs.Checks.{Checks, ChecksValue};
+ghost use Rattle.complgen_tree_errors.specs.Findings.{IsError, shown, shown_placed};
 
-use crate::doubles::double_keys;
-use crate::finding::{Finding, Level, PlacedFinding, place};
+use crate::doubles::hidden_members;
+use crate::finding::{Finding, Level, PlacedFinding, place_findings};
 use crate::not_json::{json_errors, one_error};
-use crate::places::{offset_of, show_path};
-use crate::texts::{double_text, fault_text};
+use crate::spots::Source;
+use crate::texts::fault_text;
 use crate::walk::tree_errors;
+use cc_base::on_one_line;
 use cc_command::Command;
 use complgen_json::{JsonError, Scratch, Value, read_value};
-use complgen_tree_file::{Fault, FaultKind, Step, TreeError, tree_of};
+use complgen_tree_file::{Fault, FaultKind, TreeError, tree_of};
 use std::alloc::{AllocError, Global};
 
-/// What a check of a tree file ends with.
+/// The result of checking a tree file.
 #[derive(Drop)]
-pub enum Checked {
-    /// The command that the file describes, and a warning for each member of an object that a later
-    /// one of the same key hides, in the order of the file.
-    Tree(Command, Vec<PlacedFinding>),
-    /// What is wrong with the file, in its order.
+pub enum Checked<'t> {
+    /// The command that the file describes; a warning for each member of an object that a later
+    /// member of the same key hides, in the order of the file; and the file as it was read.
+    Tree(Command, Vec<Finding<'t>>, Source<'t>),
+    /// The errors in the file, in its order.
     Errors(Vec<PlacedFinding>),
 }
 
-/// Returns the command that the bytes of a tree file describe, or, where they describe none, what
-/// is wrong with them, at least one error. Fails where memory runs out.
-pub fn check_file(alloc: Global, bytes: &[u8]) -> Result<Checked, AllocError>
+/// Returns the command that `bytes` describe, or if they describe none, the errors in them, at
+/// least one. If strings of the file have escapes, the result borrows from `scratch`.
+///
+/// # Errors
+///
+/// `AllocError` if an allocation fails.
+pub fn check_file<'t>(
+    alloc: Global,
+    bytes: &'t [u8],
+    scratch: &'t mut Scratch,
+) -> Result<Checked<'t>, AllocError>
     ensures { IfOk result (λ checked. Checks bytes.now checked) }
 {
     match std::str::from_utf8(bytes) {
-        Ok(text) => check_text(alloc, text),
+        Ok(text) => check_text(alloc, text, scratch),
         Err(error) => Ok(Checked::Errors(one_error(alloc, error.valid_up_to(), "not UTF-8")?)),
     }
 }
 
-/// Returns what is wrong with the bytes of a tree file, in the order of the file: nothing exactly
-/// where they describe a command. Fails where memory runs out.
-pub fn file_errors(alloc: Global, bytes: &[u8]) -> Result<Vec<PlacedFinding>, AllocError>
-    ensures { IfOk result (λ found. FindsErrors bytes.now found.items) }
-{
-    match check_file(alloc, bytes)? {
-        Checked::Tree(_, _) => Ok(Vec::new(alloc)),
-        Checked::Errors(errors) => Ok(errors),
-    }
-}
-
-fn check_text(alloc: Global, text: &str) -> Result<Checked, AllocError>
+fn check_text<'t>(
+    alloc: Global,
+    text: &'t str,
+    scratch: &'t mut Scratch,
+) -> Result<Checked<'t>, AllocError>
     ensures { IfOk result (λ checked. Checks text.now checked) }
 {
-    let mut scratch = Scratch::new(alloc);
-    match read_value(alloc, text, &mut scratch) {
+    match read_value(alloc, text, scratch) {
         Ok(value) => {
-            let checked = check_value(alloc, text, &value)?;
+            let checked = check_value(alloc, Source { text, value })?;
             Ok(checked)
         }
         Err(JsonError::NotJson) => Ok(Checked::Errors(json_errors(alloc, text)?)),
@@ -64,105 +68,80 @@ fn check_text(alloc: Global, text: &str) -> Result<Checked, AllocError>
     }
 }
 
-// The text spells the value.
-fn check_value(alloc: Global, text: &str, value: &Value<'_>) -> Result<Checked, AllocError>
-    ensures { IfOk result (λ checked. ChecksValue (view value.now) checked) }
+fn check_value<'t>(alloc: Global, source: Source<'t>) -> Result<Checked<'t>, AllocError>
+    ensures { IfOk result (λ checked. ChecksValue (value_view source.entry.value) checked) }
 {
-    match tree_of(alloc, value) {
-        Ok(command) => Ok(Checked::Tree(command, placed_doubles(alloc, text, value)?)),
-        Err(TreeError::BadForm) => Ok(Checked::Errors(placed_errors(alloc, text, value)?)),
+    match tree_of(alloc, &source.value) {
+        Ok(command) => {
+            let doubles = hidden_members(alloc, &source.value)?;
+            Ok(Checked::Tree(command, doubles, source))
+        }
+        Err(TreeError::BadForm) => Ok(Checked::Errors(placed_errors(alloc, &source)?)),
         Err(_) => Err(AllocError),
     }
 }
 
-fn placed_doubles(
-    alloc: Global,
-    text: &str,
-    value: &Value<'_>,
-) -> Result<Vec<PlacedFinding>, AllocError>
-    ensures { IfOk result (λ placed. All IsDouble placed.items) }
-{
-    let mut placed = Vec::new(alloc);
-    for path in double_keys(alloc, value)? {
-        placed.push(placed_double(alloc, text, value, path)?)?;
-    }
-    Ok(placed)
-}
-
-fn placed_double(
-    alloc: Global,
-    text: &str,
-    value: &Value<'_>,
-    path: Vec<Step<'_>>,
-) -> Result<PlacedFinding, AllocError>
-    ensures { IfOk result IsDouble }
-{
-    let said = double_text(alloc, path.as_slice())?;
-    let finding = Finding {
-        level: Level::Warning,
-        path,
-        at_key: true,
-        text: said,
-    };
-    place(alloc, text, value, finding)
-}
-
-/// Returns what is wrong with the value that a text spells, in the order of the text: nothing
-/// exactly where it describes a command. Fails where memory runs out.
+/// Returns the errors in the value of `source`, in the order of its text. There are none exactly if
+/// the value describes a command.
+///
+/// # Errors
+///
+/// `AllocError` if an allocation fails.
 pub(crate) fn placed_errors(
     alloc: Global,
-    text: &str,
-    value: &Value<'_>,
+    source: &Source<'_>,
 ) -> Result<Vec<PlacedFinding>, AllocError>
     ensures none { IfOk result (λ placed. is_nil placed.items
-        ≡ is_some (command_of (view value.now))) }
-    ensures errors { IfOk result (λ placed. All IsError placed.items) }
+        ≡ is_some (command_of (view source.now.value))) }
+    ensures errors { IfOk result (λ placed. All IsError (map shown_placed placed.items)) }
 {
-    let faults = tree_errors(alloc, value)?;
-    in_order(place_faults(alloc, text, value, faults.as_slice())?)
+    let faults = tree_errors(alloc, &source.value)?;
+    let errors = errors(alloc, &source.value, faults)?;
+    in_order(place_findings(alloc, source, errors)?)
 }
 
-// The errors in the order of their places.
+// Sorts errors by their places.
 fn in_order(mut errors: Vec<PlacedFinding>) -> Result<Vec<PlacedFinding>, AllocError>
     ensures none { IfOk result (λ sorted. is_nil sorted.items ≡ is_nil errors.items) }
-    ensures errors { IfOk result (λ sorted. All IsError errors.items → All IsError sorted.items) }
+    ensures errors { IfOk result (λ sorted. All IsError (map shown_placed errors.items)
+        → All IsError (map shown_placed sorted.items)) }
 {
     errors.sort_by_key(|error| error.offset)?;
     Ok(errors)
 }
 
-fn place_faults(
+// Makes an error of each fault in `value`.
+fn errors<'t>(
     alloc: Global,
-    text: &str,
-    value: &Value<'_>,
-    faults: &[Fault<'_>],
-) -> Result<Vec<PlacedFinding>, AllocError>
-    ensures none { IfOk result (λ placed. is_nil placed.items ≡ is_nil faults.now) }
-    ensures errors { IfOk result (λ placed. All IsError placed.items) }
+    value: &Value<'t>,
+    faults: Vec<Fault<'t>>,
+) -> Result<Vec<Finding<'t>>, AllocError>
+    ensures none { IfOk result (λ errors. is_nil errors.items ≡ is_nil faults.entry.items) }
+    ensures errors { IfOk result (λ errors. All IsError (map shown errors.items)) }
 {
-    let mut placed = Vec::new(alloc);
+    let mut errors = Vec::new(alloc);
     for fault in faults {
-        placed.push(placed_fault(alloc, text, value, fault)?)?;
+        errors.push(error(alloc, value, fault)?)?;
     }
-    Ok(placed)
+    Ok(errors)
 }
 
-fn placed_fault(
-    alloc: Global,
-    text: &str,
-    value: &Value<'_>,
-    fault: &Fault<'_>,
-) -> Result<PlacedFinding, AllocError>
-    ensures { IfOk result IsError }
+fn error<'t>(alloc: Global, value: &Value<'t>, fault: Fault<'t>) -> Result<Finding<'t>, AllocError>
+    ensures { IfOk result (λ error. IsError (shown error)) }
 {
-    let said = fault_text(alloc, fault, value)?;
+    let text = shown_text(alloc, value, &fault)?;
     let at_key = matches!(fault.kind, FaultKind::UnknownKey(_));
-    let offset = offset_of(alloc, text, value, fault.path.as_slice(), at_key)?;
-    let path = show_path(alloc, fault.path.as_slice())?;
-    Ok(PlacedFinding {
+    Ok(Finding {
         level: Level::Error,
-        offset,
-        path,
-        text: said,
+        path: fault.path,
+        at_key,
+        text,
     })
+}
+
+fn shown_text(alloc: Global, value: &Value<'_>, fault: &Fault<'_>) -> Result<String, AllocError>
+    ensures { IfOk result (λ text. HoldsNoControl (string_bytes text)) }
+{
+    let text = fault_text(alloc, fault, value)?;
+    on_one_line(alloc, text.as_str())
 }

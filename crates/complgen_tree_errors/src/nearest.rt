@@ -1,16 +1,23 @@
-//! Which of some names may be meant by one that is none of them.
+//! Suggests the known name closest to a misspelt one.
 
 ghost use Rattle.std.specs.Prelude.{◌<◌, IfOk, IfSome, length};
 
 use std::alloc::{AllocError, Global};
 
-// A longer name is none that is misspelt.
+// Names with more bytes than this get no suggestion.
 const LONGEST: usize = 64;
 
-/// Returns the index of the known name that a misspelt one may mean: the one fewest edits away, at
-/// most two and fewer than half of its letters. `None` where there is none. Fails where memory runs
-/// out.
-pub fn nearest(alloc: Global, name: &str, known: &[&str]) -> Result<Option<usize>, AllocError>
+/// Returns the index of the name in `known` that the fewest edits of `name` lead to. Returns `None`
+/// if that takes more than two edits, or at least half as many as `name` has bytes.
+///
+/// # Errors
+///
+/// `AllocError` if an allocation fails.
+pub(crate) fn nearest(
+    alloc: Global,
+    name: &str,
+    known: &[&str],
+) -> Result<Option<usize>, AllocError>
     ensures { IfOk result (λ found. IfSome found (λ index. index < length known.now)) }
 {
     if name.len() > LONGEST {
@@ -28,9 +35,17 @@ pub fn nearest(alloc: Global, name: &str, known: &[&str]) -> Result<Option<usize
     Ok(nearest)
 }
 
-/// Returns the index of the known name that differs from a name in case and signs alone. `None`
-/// where there is none. Fails where memory runs out.
-pub fn same_letters(alloc: Global, name: &str, known: &[&str]) -> Result<Option<usize>, AllocError>
+/// Returns the index of the first name in `known` that has the same ASCII letters and digits as
+/// `name`, in either case. Returns `None` if no name has.
+///
+/// # Errors
+///
+/// `AllocError` if an allocation fails.
+pub(crate) fn same_letters(
+    alloc: Global,
+    name: &str,
+    known: &[&str],
+) -> Result<Option<usize>, AllocError>
     ensures { IfOk result (λ found. IfSome found (λ index. index < length known.now)) }
 {
     let letters = letters_of(alloc, name)?;
@@ -42,7 +57,7 @@ pub fn same_letters(alloc: Global, name: &str, known: &[&str]) -> Result<Option<
     Ok(None)
 }
 
-// The letters and digits of a name, in lower case.
+// Returns the ASCII letters and digits of a name, in lower case.
 fn letters_of(alloc: Global, name: &str) -> Result<String, AllocError> {
     let mut letters = String::new(alloc);
     for character in name.chars() {

@@ -1,25 +1,30 @@
-//! Why a text is no JSON.
+//! Explains why a text is not JSON.
 
 ghost use Rattle.std.specs.Prelude.{IfOk};
-ghost use Rattle.complgen_tree_errors.specs.Findings.{AreErrors};
+ghost use Rattle.complgen_tree_errors.specs.Findings.{AreErrors, IsError, shown};
 
 use crate::checking::placed_errors;
-use crate::finding::{Finding, Level, PlacedFinding, place};
+use crate::finding::{Finding, Level, PlacedFinding, place_findings};
+use crate::spots::Source;
+use cc_base::on_one_line;
 use complgen_json::{Scratch, Value};
 use complgen_tree_file::Step;
 use json::Reader;
 use std::alloc::{AllocError, Global};
 
-// How many lists and objects may be open, one in another.
+// The greatest depth of lists and objects in one another.
 const MOST_OPEN: usize = 127;
 
-/// Returns what is wrong with bytes that are no UTF-8 from this offset on, or no JSON: one error at
-/// this place. Fails where memory runs out.
+/// Returns one error with the message `text` at `offset`, about the whole file.
+///
+/// # Errors
+///
+/// `AllocError` if an allocation fails.
 pub fn one_error(alloc: Global, offset: usize, text: &str) -> Result<Vec<PlacedFinding>, AllocError>
     ensures { IfOk result (λ found. AreErrors found.items) }
 {
     let path = String::from_str(alloc, "the file")?;
-    let text = String::from_str(alloc, text)?;
+    let text = on_one_line(alloc, text)?;
     let mut found = Vec::new(alloc);
     found.push(PlacedFinding {
         level: Level::Error,
@@ -30,20 +35,24 @@ pub fn one_error(alloc: Global, offset: usize, text: &str) -> Result<Vec<PlacedF
     Ok(found)
 }
 
-/// Returns why a text that no value is read from is no JSON. Fails where memory runs out.
+/// Returns the errors that explain why `text` is not JSON. `read_value` fails on that text.
+///
+/// # Errors
+///
+/// `AllocError` if an allocation fails.
 pub fn json_errors(alloc: Global, text: &str) -> Result<Vec<PlacedFinding>, AllocError>
     ensures { IfOk result (λ found. AreErrors found.items) }
 {
     let mut scratch = Scratch::new(alloc);
     let mut reader = Reader::new(text, &mut scratch)?;
     match Value::read(alloc, &mut reader, MOST_OPEN) {
-        Ok(value) => after_value(alloc, text, &value, &mut reader),
+        Ok(value) => after_value(alloc, Source { text, value }, &mut reader),
         Err(json::Error::OutOfMemory) => Err(AllocError),
         Err(_) => reading_error(alloc, text.as_bytes(), reader.offset()),
     }
 }
 
-// What is wrong with a text of which the reading ended at an offset.
+// Explains why reading ended at `offset`.
 fn reading_error(
     alloc: Global,
     bytes: &[u8],
@@ -55,55 +64,59 @@ fn reading_error(
     if open_after(&bytes[..offset]) > MOST_OPEN {
         // The reading ended after the bracket.
         let bracket = offset.saturating_sub(1);
-        return one_error(alloc, bracket, "not JSON: nested deeper than 127");
+        return one_error(alloc, bracket, "not JSON: nested deeper than 127 levels");
     }
     one_error(alloc, offset, why_no_json(bytes, offset))
 }
 
-// What is wrong with a text from which a value was read.
+// Explains what is wrong with a text that begins with a value.
 fn after_value(
     alloc: Global,
-    text: &str,
-    value: &Value<'_>,
+    source: Source<'_>,
     reader: &mut Reader<'_>,
 ) -> Result<Vec<PlacedFinding>, AllocError>
     ensures { IfOk result (λ found. AreErrors found.items) }
 {
-    let offset = reader.offset().min(text.len());
+    let offset = reader.offset().min(source.text.len());
     if reader.next().is_some() {
-        return one_error(alloc, offset, "not JSON: something follows the value");
+        return one_error(
+            alloc,
+            offset,
+            "not JSON: there is more text after the value",
+        );
     }
-    range_error(alloc, text, value)
+    range_error(alloc, &source)
 }
 
-// The first number out of range. In a value that is read it would be of another kind, so it stands
-// in a member that a later one hides, or in a value that is wrong as well.
-fn range_error(
-    alloc: Global,
-    text: &str,
-    value: &Value<'_>,
-) -> Result<Vec<PlacedFinding>, AllocError>
+// Finds the first number out of range, unless the value has other errors. If it has none, the
+// number is in a member that a later one hides.
+fn range_error(alloc: Global, source: &Source<'_>) -> Result<Vec<PlacedFinding>, AllocError>
     ensures { IfOk result (λ found. AreErrors found.items) }
 {
-    let found = placed_errors(alloc, text, value)?;
+    let found = placed_errors(alloc, source)?;
     if !found.is_empty() {
         return Ok(found);
     }
+    let mut findings = Vec::new(alloc);
+    findings.push(out_of_range(alloc, &source.value)?)?;
+    place_findings(alloc, source, findings)
+}
+
+fn out_of_range<'t>(alloc: Global, value: &Value<'t>) -> Result<Finding<'t>, AllocError>
+    ensures { IfOk result (λ found. IsError (shown found)) }
+{
     let mut path = Vec::new(alloc);
     let _ = push_out_of_range(&mut path, value)?;
-    let said = String::from_str(alloc, "number out of range")?;
-    let finding = Finding {
+    let text = on_one_line(alloc, "number out of range")?;
+    Ok(Finding {
         level: Level::Error,
         path,
         at_key: false,
-        text: said,
-    };
-    let mut found = Vec::new(alloc);
-    found.push(place(alloc, text, value, finding)?)?;
-    Ok(found)
+        text,
+    })
 }
 
-// Appends the steps to the first number out of range, where there is one; whether there is.
+// Appends the steps to the first number out of range, and returns whether there is one.
 #[cycle(range)]
 fn push_out_of_range<'t>(path: &mut Vec<Step<'t>>, value: &Value<'t>) -> Result<bool, AllocError> {
     match value {
@@ -141,36 +154,38 @@ fn push_in_members<'t>(
     Ok(false)
 }
 
-// Why no value goes on at an offset, where it is one of the frequent mistakes.
+// Explains frequent mistakes, by the byte at `offset` where reading ended.
 fn why_no_json(bytes: &[u8], offset: usize) -> &'static str {
     match bytes.get(offset).copied() {
-        None => "not JSON: the text ends within the value",
-        Some(239) => "not JSON: the text begins with a byte order mark, which JSON has not",
-        Some(b'/') | Some(b'#') => "not JSON: JSON has no comments",
-        Some(b'\'') => "not JSON: a text is written in double quotes",
+        None => "not JSON: the file ends too early",
+        Some(239) => "not JSON: JSON allows no byte order mark",
+        Some(b'/') | Some(b'#') => "not JSON: JSON allows no comments",
+        Some(b'\'') => "not JSON: a string needs double quotes",
         Some(byte) => why_not_here(last_sign(&bytes[..offset]), byte),
     }
 }
 
-// Why what begins with a byte stands at no place after another byte.
+// Explains why `byte` can't follow `before`, the last byte before it that is no white space.
 fn why_not_here(before: Option<u8>, byte: u8) -> &'static str {
     match (before, byte) {
-        (Some(b','), b']' | b'}') => "not JSON: a comma before the end of a list or an object",
-        (Some(b',' | b':' | b'[' | b'{'), b'"') => {
-            "not JSON: this text is not closed or has a bad escape, or what is before it is no key"
+        (Some(b','), b']' | b'}') => "not JSON: no comma is allowed before `]` or `}`",
+        (Some(b':'), b'"') => {
+            "not JSON: this string is not closed or has a bad escape, or a list has the key before it"
         }
-        (Some(b'"'), b'"') => "not JSON: a comma or a colon is missing before this text",
-        (Some(_), b'"') => "not JSON: a comma is missing before this text",
-        (Some(b',' | b':' | b'[' | b'{'), b'[' | b'{') => {
-            "not JSON: what is before this is no key"
+        (Some(b',' | b'[' | b'{'), b'"') => {
+            "not JSON: this string is not closed or has a bad escape, or a key is missing before it"
         }
+        (Some(b'"'), b'"') => "not JSON: a comma or a colon is missing before this string",
+        (Some(_), b'"') => "not JSON: a comma is missing before this string",
+        (Some(b':'), b'[' | b'{') => "not JSON: a list has the key before this",
+        (Some(b',' | b'[' | b'{'), b'[' | b'{') => "not JSON: a key is missing before this",
         (Some(b'"'), b'[' | b'{') => "not JSON: a comma or a colon is missing before this",
         (Some(_), b'[' | b'{') => "not JSON: a comma is missing before this",
         _ => "not JSON",
     }
 }
 
-// Where a byte of a JSON text stands: in none of its texts, in one, or there after a backslash.
+// The part of a JSON text that a byte belongs to: the structure, a string, or an escape in it.
 #[derive(Clone, Copy)]
 enum Part {
     Structure,
@@ -178,7 +193,7 @@ enum Part {
     Escape,
 }
 
-// How many lists and objects are open after the start of a JSON text.
+// Returns how many lists and objects are open at the end of `start`.
 fn open_after(start: &[u8]) -> usize {
     let mut part = Part::Structure;
     let mut open = 0;
@@ -191,7 +206,7 @@ fn open_after(start: &[u8]) -> usize {
     open
 }
 
-// Where the byte after this one stands.
+// Returns the part of the byte after `byte`, which belongs to `part`.
 fn part_after(part: Part, byte: u8) -> Part {
     match (part, byte) {
         (Part::Structure, b'"') | (Part::Escape, _) => Part::Text,
@@ -201,7 +216,7 @@ fn part_after(part: Part, byte: u8) -> Part {
     }
 }
 
-// How many are open after a byte that stands in no text.
+// Returns how many lists and objects are open after a byte of the structure.
 fn open_with(open: usize, byte: u8) -> usize {
     match byte {
         b'[' | b'{' => open.saturating_add(1),
@@ -210,7 +225,7 @@ fn open_with(open: usize, byte: u8) -> usize {
     }
 }
 
-// The last of some bytes that is no blank.
+// Returns the last byte that is no white space.
 fn last_sign(before: &[u8]) -> Option<u8> {
     let last = before
         .iter()

@@ -1,4 +1,4 @@
-//! Texts of a file as they are shown on one line, cut where they are long.
+//! Shows texts of a file on one line, and cuts long ones.
 
 ghost use Rattle.std.specs.Prelude.{◌≡◌, ◌++◌, OnOk, encode_utf8_all, map, take};
 ghost use Rattle.std.specs.Str.{chars};
@@ -9,11 +9,15 @@ ghost use Rattle.complgen_tree_errors.specs.Shown.{shown_text};
 use cc_base::visible;
 use std::alloc::AllocError;
 
-// The most characters that are shown of a text of the file.
+// The greatest number of characters that are shown of a text.
 const MOST_SHOWN: usize = 60;
 
-/// Appends a text of the file as it is shown: on one line, and cut where it is long. Fails where
-/// memory runs out.
+/// Appends `text` to `shown`, with each control character as `?`. Cuts it after 60 characters, and
+/// then appends `..`.
+///
+/// # Errors
+///
+/// `AllocError` if an allocation fails.
 pub(crate) fn push_shown(shown: &mut String, text: &str) -> Result<(), AllocError>
     ensures { OnOk result (string_bytes shown.new
         ≡ string_bytes shown.old ++ shown_text text.now) }
@@ -26,7 +30,7 @@ pub(crate) fn push_shown(shown: &mut String, text: &str) -> Result<(), AllocErro
     Ok(())
 }
 
-// Appends the characters that are shown of a text.
+// Appends the characters of a text that are shown.
 fn push_first(shown: &mut String, text: &str) -> Result<(), AllocError>
     ensures { OnOk result (string_bytes shown.new
         ≡ string_bytes shown.old ++ encode_utf8_all (map visible (take 60 (chars text.now)))) }

@@ -1,4 +1,4 @@
-//! What a finding says.
+//! The messages of findings.
 
 ghost use Rattle.std.specs.Prelude.{◌≡◌, ◌<◌, IfOk, IfSome, length, map};
 ghost use Rattle.std.specs.String.{string_bytes};
@@ -9,39 +9,47 @@ use crate::nearest::{nearest, same_letters};
 use crate::places::inside;
 use crate::shown::push_shown;
 use complgen_json::Value;
-use complgen_tree_file::{Fault, FaultKind, ObjectKind, Step};
+use complgen_tree_file::{Fault, FaultKind, ObjectKind, Step, ValueKind};
 use std::alloc::{AllocError, Global};
 
-/// What is wrong, in words. The path of the fault leads from `whole`. Fails where memory runs out.
+/// Returns the message about `fault`, whose path leads from `whole`.
+///
+/// # Errors
+///
+/// `AllocError` if an allocation fails.
 pub(crate) fn fault_text(
     alloc: Global,
     fault: &Fault<'_>,
     whole: &Value<'_>,
 ) -> Result<String, AllocError> {
     let path = fault.path.as_slice();
+    let (key, value) = (last_key(path), value_at(whole, path));
     match fault.kind {
-        FaultKind::NoObject(kind) => no_object(alloc, kind, whole, path),
-        FaultKind::UnknownKey(kind) => unknown_key(alloc, kind, last_key(path)),
+        FaultKind::OtherKind(kind) => other_kind(alloc, kind, key, value),
+        FaultKind::NoList(kind) => no_list(alloc, kind, value),
+        FaultKind::UnknownKey(kind) => unknown_key(alloc, kind, key),
         FaultKind::MissingKey(kind, key) => {
             let name = kind.name();
             format!(in alloc; "missing key `{key}`, which {name} needs")
         }
-        FaultKind::OtherKind(kind) => other_kind(alloc, kind, whole, path),
     }
 }
 
-/// Returns the text that a later member hides the one that a path leads to. Fails where memory
-/// runs out.
+/// Returns the message that a later member hides the member at `path`.
+///
+/// # Errors
+///
+/// `AllocError` if an allocation fails.
 pub(crate) fn double_text(alloc: Global, path: &[Step<'_>]) -> Result<String, AllocError>
     ensures { IfOk result (λ text. string_bytes text ≡ double_text (map shown_step path.now)) }
 {
-    let mut text = String::from_str(alloc, "the key `")?;
+    let mut text = String::from_str(alloc, "duplicate key `")?;
     push_shown(&mut text, last_key(path))?;
-    text.push_str("` stands twice: the last one counts")?;
+    text.push_str("`; the last one is used")?;
     Ok(text)
 }
 
-// The key of the last step; empty where that leads to an item.
+// Returns the key of the last step; nothing if that step leads to an item.
 fn last_key<'t>(path: &[Step<'t>]) -> &'t str
     ensures { result.now ≡ last_key (map shown_step path.now) }
 {
@@ -51,7 +59,7 @@ fn last_key<'t>(path: &[Step<'t>]) -> &'t str
     }
 }
 
-// The value that a path leads to. `None` where it leads to none.
+// Returns the value that a path leads to, or `None` if there is no such value.
 fn value_at<'v, 't>(whole: &'v Value<'t>, path: &[Step<'_>]) -> Option<&'v Value<'t>> {
     let Some((step, rest)) = path.split_first() else {
         return Some(whole);
@@ -60,10 +68,10 @@ fn value_at<'v, 't>(whole: &'v Value<'t>, path: &[Step<'_>]) -> Option<&'v Value
     value_at(inner, rest)
 }
 
-// The value that was found, in words.
-fn found_text(alloc: Global, whole: &Value<'_>, path: &[Step<'_>]) -> Result<String, AllocError> {
+// Returns a value in words.
+fn found_text(alloc: Global, value: Option<&Value<'_>>) -> Result<String, AllocError> {
     let mut found = String::new(alloc);
-    match value_at(whole, path) {
+    match value {
         Some(Value::String(text)) => {
             found.push_str("\"")?;
             push_shown(&mut found, *text)?;
@@ -79,61 +87,85 @@ fn found_text(alloc: Global, whole: &Value<'_>, path: &[Step<'_>]) -> Result<Str
     Ok(found)
 }
 
-// A value that is no object. A text may be meant for the name of a possible value.
-fn no_object(
-    alloc: Global,
-    kind: ObjectKind,
-    whole: &Value<'_>,
-    path: &[Step<'_>],
-) -> Result<String, AllocError> {
-    let (name, found) = (kind.name(), found_text(alloc, whole, path)?);
-    let found = found.as_str();
-    match (kind, value_at(whole, path)) {
-        (ObjectKind::PossibleValue, Some(Value::String(_))) => format!(in alloc;
-            "expected {name}, an object, found {found}; write {{\"name\": {found}}}"
-        ),
-        _ => format!(in alloc; "expected {name}, an object, found {found}"),
-    }
-}
-
-// How a kind begins that lists names.
-const ONE_OF: &str = "one of ";
-
-// The kind of a list whose items are texts.
-const LIST_OF_TEXTS: &str = "a list of texts";
-
+// Returns the message about a value at `key` that is not of `kind`.
 fn other_kind(
     alloc: Global,
-    kind: &str,
-    whole: &Value<'_>,
-    path: &[Step<'_>],
+    kind: ValueKind,
+    key: &str,
+    value: Option<&Value<'_>>,
 ) -> Result<String, AllocError> {
-    let key = last_key(path);
-    let found = found_text(alloc, whole, path)?;
+    let found = found_text(alloc, value)?;
     let found = found.as_str();
-    match value_at(whole, path) {
-        Some(Value::Number(_)) if key == "num_args" => format!(in alloc;
-            "expected a list of the least and the greatest number of values, found {found}; write \
-            [{found}, {found}]"
+    match (kind, value) {
+        (ValueKind::ValueRange, Some(Value::Number(_))) => format!(in alloc;
+            "expected a list of the least and the greatest number of values, found {found}; \
+            write [{found}, {found}]"
         ),
-        Some(Value::String(name)) => match kind.strip_prefix(ONE_OF) {
-            Some(names) => {
-                let names: Vec<&str> = names.split(", ").collect(alloc)?;
-                no_such_name(alloc, kind, names.as_slice(), key, *name, found)
-            }
-            None if kind == LIST_OF_TEXTS => format!(in alloc;
-                "expected {kind}, found {found}; write [{found}]"
-            ),
-            None => format!(in alloc; "expected {kind}, found {found}"),
-        },
-        _ => format!(in alloc; "expected {kind}, found {found}"),
+        (ValueKind::Object(ObjectKind::PossibleValue), Some(Value::String(_))) => {
+            format!(in alloc;
+                "expected an object for a possible value, found {found}; write \
+                {{\"name\": {found}}}"
+            )
+        }
+        (ValueKind::Action | ValueKind::ValueHint, Some(Value::String(name))) => {
+            no_such_name(alloc, kind.names(), key, *name, found)
+        }
+        (ValueKind::Action | ValueKind::ValueHint, _) => no_name(alloc, kind.names(), found),
+        _ => {
+            let expected = expected(kind);
+            format!(in alloc; "expected {expected}, found {found}")
+        }
     }
 }
 
-// A name that is none of those that the kind lists.
+// Returns what is expected if a value should be of `kind`.
+fn expected(kind: ValueKind) -> &'static str {
+    match kind {
+        ValueKind::Text => "a string",
+        ValueKind::Boolean => "true or false",
+        ValueKind::WholeNumber => "a whole number from 0 to 2^64 - 1",
+        ValueKind::Character => "a string of one character",
+        ValueKind::ValueRange => {
+            "[least, greatest] with 0 <= least <= 255 and least <= greatest, or [least, null]"
+        }
+        ValueKind::Action => "the name of an action",
+        ValueKind::ValueHint => "the name of a value hint",
+        ValueKind::Object(ObjectKind::Command) => "an object for a command",
+        ValueKind::Object(ObjectKind::Argument) => "an object for an argument",
+        ValueKind::Object(ObjectKind::PossibleValue) => "an object for a possible value",
+    }
+}
+
+// Returns the message about a value that is not a list of values of `kind`.
+fn no_list(
+    alloc: Global,
+    kind: ValueKind,
+    value: Option<&Value<'_>>,
+) -> Result<String, AllocError> {
+    let (expected, found) = (expected_list(kind), found_text(alloc, value)?);
+    let found = found.as_str();
+    match (kind, value) {
+        (ValueKind::Text, Some(Value::String(_))) => {
+            format!(in alloc; "expected {expected}, found {found}; write [{found}]")
+        }
+        _ => format!(in alloc; "expected {expected}, found {found}"),
+    }
+}
+
+fn expected_list(kind: ValueKind) -> &'static str {
+    match kind {
+        ValueKind::Text => "a list of strings",
+        ValueKind::Character => "a list of strings of one character each",
+        ValueKind::Object(ObjectKind::Command) => "a list of commands",
+        ValueKind::Object(ObjectKind::Argument) => "a list of arguments",
+        ValueKind::Object(ObjectKind::PossibleValue) => "a list of possible values",
+        _ => "a list",
+    }
+}
+
+// Returns the message about a text at `key` that should be one of `names`.
 fn no_such_name(
     alloc: Global,
-    kind: &str,
     names: &[&str],
     key: &str,
     name: &str,
@@ -144,11 +176,31 @@ fn no_such_name(
             let meant = names[index];
             format!(in alloc; "no such {key}: {found}; did you mean \"{meant}\"?")
         }
-        None => format!(in alloc; "expected {kind}, found {found}"),
+        None => no_name(alloc, names, found),
     }
 }
 
-// The name that may be meant: by its letters, as another tool writes it, or nearly.
+// Returns the message that lists the expected names.
+fn no_name(alloc: Global, names: &[&str], found: &str) -> Result<String, AllocError> {
+    let names = listed(alloc, names)?;
+    let names = names.as_str();
+    format!(in alloc; "expected one of {names}; found {found}")
+}
+
+// Returns the names with commas between them.
+fn listed(alloc: Global, names: &[&str]) -> Result<String, AllocError> {
+    let mut list = String::new(alloc);
+    for (index, name) in names.iter().enumerate() {
+        if index > 0 {
+            list.push_str(", ")?;
+        }
+        list.push_str(*name)?;
+    }
+    Ok(list)
+}
+
+// Returns the index of the name that is probably meant by `name`: what another tool calls so, the
+// one with the same letters, or a similar one.
 fn meant(alloc: Global, name: &str, names: &[&str]) -> Result<Option<usize>, AllocError>
     ensures { IfOk result (λ found. IfSome found (λ index. index < length names.now)) }
 {
@@ -164,10 +216,10 @@ fn meant(alloc: Global, name: &str, names: &[&str]) -> Result<Option<usize>, All
     }
 }
 
-// What a list of possible values holds.
+// The hint for a list of possible values.
 const OF_VALUES: &str = ", a list of objects such as {\"name\": \"fast\"}";
 
-// Keys of other tools, and what stands for them here.
+// Keys of other tools, the keys to write instead, and hints to add.
 const OTHERS: &[(&str, &str, &str)] = &[
     ("description", "about", ""),
     ("value_name", "value_names", ", a list"),
@@ -212,7 +264,7 @@ fn push_suggestion(
     Ok(())
 }
 
-// The key here for one of another tool, and what to add, where the object has it.
+// Returns the key to write instead of another tool's key, and a hint. The object must have that key.
 fn key_here(keys: &[&str], key: &str) -> Option<(&'static str, &'static str)> {
     for (other, here, hint) in OTHERS {
         if *other == key && keys.iter().any(|known| *known == *here) {

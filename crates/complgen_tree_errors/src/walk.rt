@@ -1,4 +1,4 @@
-//! Walks through a whole tree.
+//! Checks a command with all its children.
 
 ghost use Rattle.std.specs.Prelude.{◌≡◌, IfOk, is_some};
 ghost use Rattle.complgen_json.specs.Seen.{view};
@@ -6,12 +6,16 @@ ghost use Rattle.complgen_tree_file.specs.CommandForm as form;
 ghost use Rattle.complgen_tree_file.specs.Faults.{FindsUnless, is_nil};
 
 use complgen_json::{Value, member};
-use complgen_tree_file::{Fault, FaultKind, Faults, Step, command_faults};
+use complgen_tree_file::{Fault, FaultKind, Faults, ObjectKind, Step, ValueKind, command_faults};
 use std::alloc::{AllocError, Global};
 
-/// Returns what is wrong with a value as a tree of commands, each with the path to it: nothing
-/// exactly where the value describes a command. Fails where memory runs out.
-pub fn tree_errors<'t>(alloc: Global, tree: &Value<'t>) -> Result<Vec<Fault<'t>>, AllocError>
+/// Returns what is wrong with `tree` as a tree of commands; nothing exactly if it describes a
+/// command.
+///
+/// # Errors
+///
+/// `AllocError` if an allocation fails.
+pub(crate) fn tree_errors<'t>(alloc: Global, tree: &Value<'t>) -> Result<Vec<Fault<'t>>, AllocError>
     ensures { IfOk result
         (λ found. is_nil found.items ≡ is_some (form.command_of (view tree.now))) }
 {
@@ -42,7 +46,7 @@ fn check_children<'t>(faults: &mut Faults<'t>, value: &Value<'t>) -> Result<(), 
         faults.old faults.new) }
 {
     let Some(items) = complgen_json::items(value) else {
-        return faults.note(FaultKind::OtherKind("a list of commands"));
+        return faults.note(FaultKind::NoList(ValueKind::Object(ObjectKind::Command)));
     };
     for (index, item) in items.iter().enumerate() {
         faults.enter(Step::Item(index))?;

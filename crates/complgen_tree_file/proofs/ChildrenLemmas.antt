@@ -1,4 +1,4 @@
--- How the children of a command are found.
+-- The children of a command are found at their key.
 use Rattle.std.proofs.Common.{◌≡◌, ◌∙◌, List, [], Option, Some, None, Ordering, Less}
 use Rattle.std.proofs.Common.{ap, codes, fold, if◌then◌else◌, nat_cmp, refl, sym}
 use Rattle.std.specs.Prelude.{option_map}

@@ -1,4 +1,4 @@
--- Something is found wrong with an object exactly where it is not read.
+-- An object has faults exactly if it is not read.
 use Rattle.std.proofs.Common.{◌≡◌, ◌∙◌, ◌&&◌, ◌<◌, ◌+◌, ℕ, suc, drop, length, get_or, add-one, List, [], ◌∷◌, Bool, true, false, Option, Some, None, is_some, ap, codes, if◌then◌else◌, sym, refl, option_map}
 use Rattle.std.specs.Prelude.{⊤}
 use Rattle.std.proofs.Math.Bool.{and_assoc}
@@ -24,7 +24,7 @@ pub made_of : {X Y : Type 0} (make : X → Y) (o : Option X) → is_some (option
 made_of make None = refl
 made_of make (Some x) = refl
 
--- a value is given where it is read
+-- a value is given if it is read
 pub given_where : {X : Type 0} (read : Data → Option X) (d : Data)
     → is_some (given read d) ≡ is_some (read d)
 unfolding given

@@ -1,4 +1,4 @@
--- How the readers of a tree file meet its form.
+-- The readers of a tree file meet its form.
 use Rattle.std.proofs.Common.{◌≡◌, ◌∙◌, ◌<◌, ◌≤◌, ◌+◌, ◌++◌, ℕ, List, [], ◌∷◌, Option, Some, None, ap, sym, refl}
 use Rattle.std.proofs.Common.{length, take, drop, get_or, option_map, arith}
 use Rattle.std.specs.Prelude.{option_and_then, encode_utf8, Err, suc}

@@ -91,7 +91,7 @@ argument_keys = codes "id" ∷ (((((keys_of names ++ keys_of texts) ++ keys_of v
 abbrev pub id_of : Data → Option (List ℕ)
 id_of d = if has_only argument_keys d then get (codes "id") d >>= as_str else None
 
--- what the keys besides the id set
+-- the fields of the keys other than the id
 abbrev pub with_rest : Data → Arg → Option Arg
 with_rest d argument = set_all names d argument >>= set_all texts d >>= set_all values d
     >>= set_all surroundings d >>= set_all flags d >>= set_all hidden_aliases d

@@ -89,7 +89,7 @@ with_args = with_key (codes "args") arguments_of (fold with_argument)
 abbrev pub name_of : Data → Option (List ℕ)
 name_of d = if has_only command_keys d then get (codes "name") d >>= as_str else None
 
--- what the keys besides the name and the children set
+-- the fields of the keys other than the name and the children
 abbrev pub with_rest : Data → Node → Option Node
 with_rest d node = set_all texts d node >>= set_all names d >>= set_all surroundings d
     >>= set_all flags d >>= set_all rules d >>= with_args d
@@ -105,7 +105,7 @@ abbrev mutual
       own_of (object ms) >>= (λ own. option_map (fold with_child (of_node own)) (children_in ms))
   command_of _ = None
 
-  -- the commands that the children of an object are; none where it has no such key
+  -- the commands that the children of an object describe; an object without the key has none
   pub children_in : Members → Option (List Tree)
   children_in no_members = Some []
   children_in (member key d ms) =

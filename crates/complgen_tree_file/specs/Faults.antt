@@ -1,4 +1,4 @@
--- What is found wrong with the values of a tree file: something exactly where one is not read.
+-- The faults in a value of a tree file: there are some exactly if the value is not read.
 use Rattle.std.specs.Prelude.{◌≡◌, ◌&&◌, List, [], ◌∷◌, Bool, true, false}
 use Rattle.serde_json.specs.Data.{Data}
 use Rattle.complgen_tree_file.specs.ArgumentForm as argument
@@ -20,17 +20,17 @@ has_none faults = is_nil faults.list.items
 abbrev pub FindsUnless : Bool → Faults → Faults → Type 0
 FindsUnless fits old new = has_none new ≡ (has_none old && fits)
 
--- whether the values at the keys of an argument besides the id fit, and what is known before holds
+-- whether the values at the keys of an argument other than the id fit, and `before` holds
 abbrev pub argument_fits : Data → Bool → Bool
 argument_fits d before = all_fit argument.shown_aliases d (all_fit argument.hidden_aliases d
     (all_fit argument.flags d (all_fit argument.surroundings d (all_fit argument.values d
     (all_fit argument.texts d (all_fit argument.names d before))))))
 
--- the same of the keys of a command besides the name, the arguments and the children
+-- the same for the keys of a command other than the name, the arguments and the children
 abbrev pub fields_fit : Data → Bool → Bool
 fields_fit d before = all_fit command.rules d (all_fit command.flags d
     (all_fit command.surroundings d (all_fit command.names d (all_fit command.texts d before))))
 
--- the same of the keys of a command besides the name and the children
+-- the same for the keys of a command other than the name and the children
 abbrev pub command_fits : Data → Bool → Bool
 command_fits d before = fields_fit d before && fits_at (codes "args") command.arguments_of d

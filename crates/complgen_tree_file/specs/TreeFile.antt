@@ -1,4 +1,4 @@
--- What the bytes of a tree file are read as.
+-- The meaning of the bytes of a tree file.
 use Rattle.std.specs.Prelude.{◌≡◌, ⊤, ℕ, List, Option, None, Some, Result, Ok, Err}
 use Rattle.std.specs.Str.{IsUtf8}
 use Rattle.std.specs.declared.alloc.Global.{Global}

@@ -32,15 +32,15 @@ Gives view (Err Memory) defined = ⊤
 abbrev pub GivesSame : {X : Type 0} → Result X TreeError → Option X → Type 0
 GivesSame = Gives (λ x. x)
 
--- a step changes its subject as it is defined, and fails with bad form exactly where nothing is
--- defined; it may be out of memory
+-- a step changes its subject as `change` defines, and fails with bad form exactly if that defines
+-- nothing; it may be out of memory
 abbrev pub Sets : {R S : Type 0} → Result R TreeError → (S → Option S) → S → S → Type 0
 Sets (Ok done) change old new = change old ≡ Some new
 Sets (Err BadForm) change old new = change old ≡ None
 Sets (Err NotJson) change old new = ⊥
 Sets (Err Memory) change old new = ⊤
 
--- what follows from a value, where there is one
+-- the next step, if there is a value
 infixl 10 ◌>>=◌
 abbrev pub ◌>>=◌ : {A B : Type 0} → Option A → (A → Option B) → Option B
 o >>= f = option_and_then f o
@@ -73,7 +73,7 @@ list_of read d = option_and_then (all_of read) (as_array d)
 unfoldable pub given : {X : Type 0} → (Data → Option X) → Data → Option (Option X)
 given read d = option_map Some (read d)
 
--- the greatest number of values where there is no bound: the greatest `usize`
+-- the greatest number of values if there is no bound: the greatest `usize`
 abbrev pub no_bound : ℕ
 no_bound = 2 ^ 64 - 1
 
@@ -131,22 +131,22 @@ hint_of name = if bytes_eq name (codes "Unknown") then Some Unknown
     else if bytes_eq name (codes "EmailAddress") then Some EmailAddress
     else None
 
--- what a field holds after a value was read into it: what it held where there is no value; nothing
--- is defined where the value is of another kind
+-- a field after a value was read into it; it stays if there is no value, and nothing is defined if
+-- the value is of another kind
 abbrev pub value_or : {X : Type 0} → (Data → Option X) → X → Option Data → Option X
 value_or read held None = Some held
 value_or read held (Some d) = read d
 
--- what a field holds after the value at a key was read into it
+-- a field after the value at a key was read into it
 unfoldable pub field_from : {X : Type 0} → List ℕ → (Data → Option X) → Data → X → Option X
 field_from key read d held = value_or read held (get key d)
 
--- whether a value, where there is one, is of a kind
+-- whether there is no value, or one of the kind
 abbrev pub fits_if_there : {X : Type 0} → (Data → Option X) → Option Data → Bool
 fits_if_there read None = true
 fits_if_there read (Some d) = is_some (read d)
 
--- whether the value at a key, where there is one, is of a kind
+-- whether there is no value at a key, or one of the kind
 unfoldable pub fits_at : {X : Type 0} → List ℕ → (Data → Option X) → Data → Bool
 fits_at key read d = fits_if_there read (get key d)
 
@@ -178,7 +178,7 @@ abbrev pub set_all : {S : Type 0} → List (Setting S) → Data → S → Option
 set_all [] d subject = Some subject
 set_all (one ∷ settings) d subject = one.change d subject >>= set_all settings d
 
--- what a value adds to a subject: nothing where there is no value; nothing is defined where the
+-- a subject after a value was added; it stays if there is no value, and nothing is defined if the
 -- value is of another kind
 abbrev pub with_value : {S X : Type 0} → (Data → Option X) → (S → X → S) → S → Option Data
     → Option S

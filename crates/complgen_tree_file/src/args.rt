@@ -1,4 +1,4 @@
-//! The arguments of a tree file.
+//! Reads the arguments of a tree file.
 
 ghost use Rattle.std.specs.Prelude.{◌≡◌};
 ghost use Rattle.complgen_json.specs.Seen.{view};
@@ -52,8 +52,11 @@ pub(crate) use each_key;
 
 pub(crate) const KEYS: &[&str] = each_key!(all_keys!);
 
-/// The argument that an object describes. Fails with `BadForm` where it describes none, and with
-/// `Memory`.
+/// Returns the argument that `tree` describes.
+///
+/// # Errors
+///
+/// `BadForm` if `tree` describes no argument, `Memory` if an allocation fails.
 #[tactic(auto, unfolding(crate::specs::ArgumentForm::argument_of))]
 pub fn arg(alloc: Global, tree: &Value<'_>) -> Result<Arg, TreeError>
     ensures { GivesSame result (form.argument_of (view tree.now)) }
@@ -63,7 +66,7 @@ pub fn arg(alloc: Global, tree: &Value<'_>) -> Result<Arg, TreeError>
     Ok(Arg::from(parts))
 }
 
-// The id, of an object with no other keys than an argument's.
+// Returns the id of an object that has only keys of an argument.
 fn id(alloc: Global, tree: &Value<'_>) -> Result<Text, TreeError>
     ensures { GivesSame result (form.id_of (view tree.now)) }
 {
@@ -80,7 +83,7 @@ fn has_argument_keys(tree: &Value<'_>) -> bool
     has_only_keys(tree, KEYS)
 }
 
-// What the keys besides the id say.
+// Sets the fields of the keys other than the id.
 fn set_rest(parts: &mut ArgParts, alloc: Global, tree: &Value<'_>) -> Result<(), TreeError>
     ensures { Sets result (form.with_rest (view tree.now)) parts.old parts.new }
 {

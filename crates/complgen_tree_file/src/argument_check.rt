@@ -1,4 +1,4 @@
-//! What is wrong with an argument: each key is checked by the reader that reads it.
+//! Checks an argument, each key by the reader that reads it.
 
 ghost use Rattle.std.specs.Prelude.{◌≡◌, IfOk, is_some, map};
 ghost use Rattle.complgen_json.specs.Keys.{has_only};
@@ -10,15 +10,16 @@ ghost use Rattle.complgen_tree_file.specs.TreeForm.{all_fit};
 use crate::args::{KEYS, arg, each_key};
 use crate::check::{check_field, check_keys, check_needed, is_object};
 use crate::error::TreeError;
-use crate::faults::{Faults, ObjectKind};
+use crate::faults::Faults;
 use crate::keys::{check_group, only_in};
+use crate::kinds::{ObjectKind, ValueKind};
 use crate::values::FromValue;
 use cc_arg::{Arg, ArgParts};
 use cc_base::Text;
 use complgen_json::Value;
 use std::alloc::{AllocError, Global};
 
-/// An argument.
+/// Reads an argument.
 impl FromValue for Arg {
     ghost use Rattle.complgen_tree_file.specs.ArgumentForm as form;
 
@@ -28,12 +29,8 @@ impl FromValue for Arg {
         arg(alloc, value)
     }
 
-    fn kind() -> &'static str {
-        "an argument, an object"
-    }
-
-    fn kind_of_list() -> &'static str {
-        "a list of arguments"
+    fn kind() -> ValueKind {
+        ValueKind::Object(ObjectKind::Argument)
     }
 
     fn check<'t>(faults: &mut Faults<'t>, value: &Value<'t>) -> Result<(), AllocError> {
@@ -41,8 +38,11 @@ impl FromValue for Arg {
     }
 }
 
-/// Notes what is wrong with an argument: nothing exactly where the value describes one. Fails where
-/// memory runs out.
+/// Notes what is wrong with the argument `tree`; nothing exactly if the value describes one.
+///
+/// # Errors
+///
+/// `AllocError` if an allocation fails.
 pub fn argument_faults<'t>(faults: &mut Faults<'t>, tree: &Value<'t>) -> Result<(), AllocError>
     ensures { IfOk result (λ _. FindsUnless (is_some (form.argument_of (view tree.now)))
         faults.old faults.new) }
@@ -63,7 +63,7 @@ fn check_argument_keys<'t>(faults: &mut Faults<'t>, tree: &Value<'t>) -> Result<
     check_keys(faults, tree, KEYS, ObjectKind::Argument)
 }
 
-// Checks the keys besides the id. Each reader is that of a field of an argument.
+// Checks the keys other than the id, each by the reader of a field of an argument.
 fn check_rest<'t>(faults: &mut Faults<'t>, tree: &Value<'t>) -> Result<(), AllocError>
     ensures { IfOk result (λ _. has_none faults.new
         ≡ argument_fits (view tree.now) (has_none faults.old)) }

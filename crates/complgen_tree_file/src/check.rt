@@ -9,13 +9,17 @@ ghost use Rattle.complgen_json.specs.Seen.{view};
 ghost use Rattle.complgen_tree_file.specs.Faults.{FindsUnless};
 ghost use Rattle.complgen_tree_file.specs.TreeForm.{fits_at};
 
-use crate::faults::{FaultKind, Faults, ObjectKind, Step};
+use crate::faults::{FaultKind, Faults, Step};
+use crate::kinds::{ObjectKind, ValueKind};
 use crate::values::FromValue;
 use complgen_json::{Value, member};
 use std::alloc::AllocError;
 
-/// Checks the value at a key by the reader of a field, where the object has the key. Fails where
-/// memory runs out, as all that checks.
+/// Checks the value at `key` of the object `tree` by the reader of a field, if there is one.
+///
+/// # Errors
+///
+/// `AllocError` if an allocation fails.
 pub fn check_field<'t, T: FromValue>(
     _field: &T,
     faults: &mut Faults<'t>,
@@ -28,7 +32,11 @@ pub fn check_field<'t, T: FromValue>(
     check_at::<T>(faults, tree, key)
 }
 
-/// Checks the value at a key, where the object has it.
+/// Checks the value at `key` of the object `tree`, if there is one.
+///
+/// # Errors
+///
+/// `AllocError` if an allocation fails.
 #[tactic(auto, unfolding(crate::specs::TreeForm::fits_at))]
 pub fn check_at<'t, T: FromValue>(
     faults: &mut Faults<'t>,
@@ -44,7 +52,11 @@ pub fn check_at<'t, T: FromValue>(
     }
 }
 
-/// Checks the value at a key that the object needs.
+/// Checks the value at `key` of the object `tree`, which needs that key because it is of `kind`.
+///
+/// # Errors
+///
+/// `AllocError` if an allocation fails.
 pub fn check_needed<'t, T: FromValue>(
     faults: &mut Faults<'t>,
     tree: &Value<'t>,
@@ -61,7 +73,11 @@ pub fn check_needed<'t, T: FromValue>(
     }
 }
 
-/// Checks a value inside, which this step leads to.
+/// Checks `value`, to which `step` leads from the current value of the walk.
+///
+/// # Errors
+///
+/// `AllocError` if an allocation fails.
 pub fn check_inside<'t, T: FromValue>(
     faults: &mut Faults<'t>,
     step: Step<'t>,
@@ -76,14 +92,19 @@ pub fn check_inside<'t, T: FromValue>(
     Ok(())
 }
 
-/// Whether a value is an object.
+/// Returns whether a value is an object.
 pub fn is_object(value: &Value<'_>) -> bool
     ensures { result ≡ is_some (as_object (view value.now)) }
 {
     matches!(value, Value::Object(_))
 }
 
-/// Notes each key that is none of these, or that the value is no object.
+/// Notes each key of `tree` that is not one of `keys`, or that `tree` is not an object. It should be
+/// an object of `kind`.
+///
+/// # Errors
+///
+/// `AllocError` if an allocation fails.
 pub fn check_keys<'t>(
     faults: &mut Faults<'t>,
     tree: &Value<'t>,
@@ -96,7 +117,7 @@ pub fn check_keys<'t>(
 {
     match tree {
         Value::Object(members) => check_members(faults, members.as_slice(), keys, kind),
-        _ => faults.note(FaultKind::NoObject(kind)),
+        _ => faults.note(FaultKind::OtherKind(ValueKind::Object(kind))),
     }
 }
 

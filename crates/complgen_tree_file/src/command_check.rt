@@ -1,4 +1,4 @@
-//! What is wrong with a command by itself: each key is checked by the reader that reads it.
+//! Checks a command without its children, each key by the reader that reads it.
 
 ghost use Rattle.std.specs.Prelude.{◌≡◌, IfOk, is_some, map};
 ghost use Rattle.complgen_json.specs.Keys.{has_only};
@@ -9,16 +9,21 @@ ghost use Rattle.complgen_tree_file.specs.TreeForm.{all_fit};
 
 use crate::check::{check_at, check_field, check_keys, check_needed, is_object};
 use crate::commands::{KEYS, each_key};
-use crate::faults::{Faults, ObjectKind};
+use crate::faults::Faults;
 use crate::keys::{check_group, only_in};
+use crate::kinds::ObjectKind;
 use cc_arg::Arg;
 use cc_base::{Items, Text};
 use cc_command::Node;
 use complgen_json::Value;
 use std::alloc::AllocError;
 
-/// Notes what is wrong with a command, its children left out: nothing exactly where the value
-/// describes the node of one. Fails where memory runs out.
+/// Notes what is wrong with the command `tree`, its children left out; nothing exactly if the value
+/// describes a command without its children.
+///
+/// # Errors
+///
+/// `AllocError` if an allocation fails.
 pub fn command_faults<'t>(faults: &mut Faults<'t>, tree: &Value<'t>) -> Result<(), AllocError>
     ensures { IfOk result (λ _. FindsUnless (is_some (form.own_of (view tree.now)))
         faults.old faults.new) }
@@ -39,7 +44,7 @@ fn check_command_keys<'t>(faults: &mut Faults<'t>, tree: &Value<'t>) -> Result<(
     check_keys(faults, tree, KEYS, ObjectKind::Command)
 }
 
-// Checks the keys besides the name and the children. Each reader is that of a field of a node.
+// Checks the keys other than the name and the children, each by the reader of a field of a node.
 fn check_rest<'t>(faults: &mut Faults<'t>, tree: &Value<'t>) -> Result<(), AllocError>
     ensures { IfOk result (λ _. has_none faults.new
         ≡ command_fits (view tree.now) (has_none faults.old)) }

@@ -1,4 +1,4 @@
-//! The command of a tree file.
+//! Reads the command of a tree file.
 
 ghost use Rattle.std.specs.Prelude.{◌≡◌, fold, option_map};
 ghost use Rattle.complgen_json.specs.Seen.{view};
@@ -50,8 +50,11 @@ pub(crate) use each_key;
 
 pub(crate) const KEYS: &[&str] = each_key!(all_keys!);
 
-/// The command that an object describes, with its children. Fails with `BadForm` where it describes
-/// none, and with `Memory`.
+/// Returns the command that `tree` describes, with its children.
+///
+/// # Errors
+///
+/// `BadForm` if `tree` describes no command, `Memory` if an allocation fails.
 #[cycle(commands)]
 pub fn command(alloc: Global, tree: &Value<'_>) -> Result<Command, TreeError>
     ensures { GivesSame result (form.command_of (view tree.now)) }
@@ -77,7 +80,7 @@ fn add_children(parent: &mut Command, alloc: Global, value: &Value<'_>) -> Resul
     Ok(())
 }
 
-// The node of the command that an object describes.
+// Returns the node of the command that an object describes.
 fn own(alloc: Global, tree: &Value<'_>) -> Result<Node, TreeError>
     ensures { GivesSame result (form.own_of (view tree.now)) }
 {
@@ -86,7 +89,7 @@ fn own(alloc: Global, tree: &Value<'_>) -> Result<Node, TreeError>
     Ok(node)
 }
 
-// The name, of an object with no other keys than a command's.
+// Returns the name of an object that has only keys of a command.
 fn name(alloc: Global, tree: &Value<'_>) -> Result<Text, TreeError>
     ensures { GivesSame result (form.name_of (view tree.now)) }
 {
@@ -103,7 +106,7 @@ fn has_command_keys(tree: &Value<'_>) -> bool
     has_only_keys(tree, KEYS)
 }
 
-// What the keys besides the name and the children say.
+// Sets the fields of the keys other than the name and the children.
 fn set_rest(node: &mut Node, alloc: Global, tree: &Value<'_>) -> Result<(), TreeError>
     ensures { Sets result (form.with_rest (view tree.now)) node.old node.new }
 {

@@ -1,4 +1,4 @@
-//! Why a file holds no tree.
+//! The errors of reading a tree file.
 
 ghost use Rattle.std.specs.Prelude.{◌≡◌};
 ghost use Rattle.complgen_tree_file.specs.declared.error.TreeError.TheVariants.{Memory};
@@ -6,16 +6,16 @@ ghost use Rattle.complgen_tree_file.specs.declared.error.TreeError.TheVariants.{
 use std::alloc::{AllocError, AllocFailed};
 use thiserror::Error as ThisError;
 
-/// Why the bytes of a file describe no command.
+/// The reason why the bytes of a file describe no command.
 #[derive(Debug, Drop, ThisError)]
 pub enum TreeError {
-    /// The bytes are no UTF-8 or no JSON, are nested too deep, or have a number out of range.
+    /// The bytes are not UTF-8 or not JSON, are nested too deeply, or have a number out of range.
     #[error("tree: not JSON")]
     NotJson,
     /// The JSON has another key, kind or range than the tree of a command.
     #[error("tree: bad form")]
     BadForm,
-    /// Out of memory.
+    /// An allocation failed.
     #[error("out of memory")]
     Memory,
 }

@@ -1,12 +1,12 @@
-//! What is wrong with the values of a tree file, each with the path to it.
+//! Collects what is wrong with the values of a tree file, each with the path to it.
 
 ghost use Rattle.std.specs.Prelude.{◌≡◌, IfOk, false, true};
 ghost use Rattle.complgen_tree_file.specs.Faults.{has_none, is_nil};
 
-use crate::{args, commands, possible_values};
+use crate::kinds::{ObjectKind, ValueKind};
 use std::alloc::{AllocError, Global};
 
-/// A step from a value to one inside it.
+/// A step from a value to a value inside it.
 #[derive(Clone, Copy, Debug, Drop)]
 pub enum Step<'t> {
     /// To the last member of an object with this key.
@@ -17,55 +17,27 @@ pub enum Step<'t> {
     Item(usize),
 }
 
-/// A kind of object in a tree file.
-#[derive(Clone, Copy, Debug, Drop)]
-pub enum ObjectKind {
-    Command,
-    Argument,
-    PossibleValue,
-}
-
-impl ObjectKind {
-    /// What such an object is called in a message.
-    pub fn name(self) -> &'static str {
-        match self {
-            ObjectKind::Command => "a command",
-            ObjectKind::Argument => "an argument",
-            ObjectKind::PossibleValue => "a possible value",
-        }
-    }
-
-    /// The keys that such an object may have.
-    pub fn keys(self) -> &'static [&'static str] {
-        match self {
-            ObjectKind::Command => commands::KEYS,
-            ObjectKind::Argument => args::KEYS,
-            ObjectKind::PossibleValue => possible_values::KEYS,
-        }
-    }
-}
-
-/// What is wrong with a value.
+/// The kind of a fault in a value.
 #[derive(Clone, Copy, Debug, Drop)]
 pub enum FaultKind {
-    /// It is to be such an object, and is none.
-    NoObject(ObjectKind),
-    /// The last step of the path leads to a member whose key such an object does not have.
+    /// Expected a value of this kind.
+    OtherKind(ValueKind),
+    /// Expected a list of values of this kind.
+    NoList(ValueKind),
+    /// The last step of the path leads to a member whose key objects of this kind don't have.
     UnknownKey(ObjectKind),
-    /// It lacks this key, which such an object needs.
+    /// The object is of this kind and lacks this key, which it needs.
     MissingKey(ObjectKind, &'static str),
-    /// It is not of the kind that is called so.
-    OtherKind(&'static str),
 }
 
-/// Something wrong with a value: the path to it from the whole, and what.
+/// Something wrong with a value, and the path to the value from the whole file.
 #[derive(Drop)]
 pub struct Fault<'t> {
     pub path: Vec<Step<'t>>,
     pub kind: FaultKind,
 }
 
-/// What is found wrong while a value is walked through, and the path to where the walk is.
+/// A walk through a value, with its current path and the faults that it has found.
 #[derive(Drop)]
 pub struct Faults<'t> {
     alloc: Global,
@@ -74,7 +46,7 @@ pub struct Faults<'t> {
 }
 
 impl<'t> Faults<'t> {
-    /// None, at the whole.
+    /// Starts a walk at the whole file, without faults.
     pub fn new(alloc: Global) -> Faults<'t>
         ensures { has_none result ≡ true }
     {
@@ -85,12 +57,16 @@ impl<'t> Faults<'t> {
         }
     }
 
-    /// The allocator of the lists.
+    /// Returns the allocator of the lists.
     pub fn allocator(&self) -> Global {
         self.alloc
     }
 
-    /// Goes on to a value inside. Fails where memory runs out.
+    /// Goes on to a value inside.
+    ///
+    /// # Errors
+    ///
+    /// `AllocError` if an allocation fails.
     pub fn enter(&mut self, step: Step<'t>) -> Result<(), AllocError>
         ensures { IfOk result (λ _. has_none self.new ≡ has_none self.old) }
     {
@@ -105,7 +81,11 @@ impl<'t> Faults<'t> {
         let _ = self.path.pop();
     }
 
-    /// Notes that something is wrong here. Fails where memory runs out.
+    /// Notes that something is wrong here.
+    ///
+    /// # Errors
+    ///
+    /// `AllocError` if an allocation fails.
     pub fn note(&mut self, kind: FaultKind) -> Result<(), AllocError>
         ensures { IfOk result (λ _. has_none self.new ≡ false) }
     {
@@ -114,7 +94,7 @@ impl<'t> Faults<'t> {
         Ok(())
     }
 
-    /// All that was found wrong.
+    /// Returns all faults.
     pub fn into_vec(self) -> Vec<Fault<'t>>
         ensures { is_nil result.items ≡ has_none self.entry }
     {

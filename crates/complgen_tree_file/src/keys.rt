@@ -1,7 +1,7 @@
-//! What is made of the list of the keys that an object of a tree file may have. A list has one line
-//! for each key: the key, its group, and the field that it sets.
+//! Macros over the list of keys that an object of a tree file may have. The list has one line for
+//! each key: the key, its group, and the field that it sets.
 
-// The keys.
+// Lists the keys.
 macro_rules! all_keys {
     ([] $($key:literal $group:ident $field:ident,)*) => {
         &[$($key),*]
@@ -24,7 +24,7 @@ macro_rules! check_group {
     };
 }
 
-// What is done for a key, where it is of the group that is asked for.
+// Expands to the action for a key only if the key is of the requested group.
 macro_rules! only_in {
     (flags flags $done:expr) => { $done };
     (hidden_aliases hidden_aliases $done:expr) => { $done };

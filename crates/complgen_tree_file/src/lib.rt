@@ -9,6 +9,7 @@ mod commands;
 mod error;
 mod faults;
 mod keys;
+mod kinds;
 mod possible_values;
 mod values;
 
@@ -20,15 +21,21 @@ ghost use Rattle.complgen_tree_file.specs.TreeForm.{GivesSame};
 pub use crate::argument_check::argument_faults;
 pub use crate::command_check::command_faults;
 pub use crate::error::TreeError;
-pub use crate::faults::{Fault, FaultKind, Faults, ObjectKind, Step};
+pub use crate::faults::{Fault, FaultKind, Faults, Step};
+pub use crate::kinds::{ObjectKind, ValueKind};
 pub use crate::possible_values::possible_value_faults;
 use cc_command::Command;
 use complgen_json::{JsonError, Scratch, Value, read_value};
 use std::alloc::Global;
 
-/// Returns the command that the bytes of a tree file describe. Fails with `NotJson` where the bytes
-/// are no UTF-8 or no JSON, are nested too deep or have a number out of range; with `BadForm` where
-/// the JSON describes no command; and with `Memory`.
+/// Returns the command that the bytes of a tree file describe.
+///
+/// # Errors
+///
+/// - `NotJson` if `bytes` are not UTF-8 or not JSON, are nested too deeply, or have a number out of
+///   range.
+/// - `BadForm` if the JSON describes no command.
+/// - `Memory` if an allocation fails.
 pub fn read_tree(alloc: Global, bytes: &[u8]) -> Result<Command, TreeError>
     ensures { ReadsTree bytes.now result }
 {
@@ -38,7 +45,7 @@ pub fn read_tree(alloc: Global, bytes: &[u8]) -> Result<Command, TreeError>
     }
 }
 
-// The command that a text describes.
+// Returns the command that a text describes.
 fn read_command(alloc: Global, text: &str) -> Result<Command, TreeError>
     ensures { ReadsTree text.now result }
 {
@@ -47,15 +54,18 @@ fn read_command(alloc: Global, text: &str) -> Result<Command, TreeError>
     commands::command(alloc, &tree)
 }
 
-/// Returns the command that a value describes. Fails with `BadForm` where it describes none, and
-/// with `Memory`.
+/// Returns the command that the value `tree` describes.
+///
+/// # Errors
+///
+/// `BadForm` if `tree` describes no command, `Memory` if an allocation fails.
 pub fn tree_of(alloc: Global, tree: &Value<'_>) -> Result<Command, TreeError>
     ensures { GivesSame result (command_of (view tree.now)) }
 {
     commands::command(alloc, tree)
 }
 
-// The value that a text spells. It borrows from the text and, where there are escapes, from
+// Returns the value that a text spells. It borrows from the text and, if there are escapes, from
 // `scratch`.
 fn value<'t>(alloc: Global, text: &'t str, scratch: &'t mut Scratch) -> Result<Value<'t>, TreeError>
     ensures { ReadsValue text.now result }

@@ -1,4 +1,4 @@
-//! The possible values of an argument of a tree file.
+//! Reads and checks the possible values of an argument of a tree file.
 
 ghost use Rattle.std.specs.Prelude.{◌≡◌, IfOk, is_some, map, string_bytes};
 ghost use Rattle.complgen_json.specs.Seen.{view};
@@ -9,7 +9,8 @@ ghost use Rattle.complgen_tree_file.specs.TreeForm.{Gives, GivesSame};
 
 use crate::check::{check_at, check_keys, check_needed, is_object};
 use crate::error::TreeError;
-use crate::faults::{Faults, ObjectKind};
+use crate::faults::Faults;
+use crate::kinds::{ObjectKind, ValueKind};
 use crate::values::{FromValue, text};
 use cc_arg::PossibleValue;
 use cc_base::Text;
@@ -25,12 +26,8 @@ impl FromValue for PossibleValue {
         possible_value(alloc, value)
     }
 
-    fn kind() -> &'static str {
-        "a possible value, an object"
-    }
-
-    fn kind_of_list() -> &'static str {
-        "a list of possible values"
+    fn kind() -> ValueKind {
+        ValueKind::Object(ObjectKind::PossibleValue)
     }
 
     fn check<'t>(faults: &mut Faults<'t>, value: &Value<'t>) -> Result<(), AllocError> {
@@ -38,8 +35,11 @@ impl FromValue for PossibleValue {
     }
 }
 
-/// Notes what is wrong with a possible value: nothing exactly where the value describes one. Fails
-/// where memory runs out.
+/// Notes what is wrong with the possible value `tree`; nothing exactly if the value describes one.
+///
+/// # Errors
+///
+/// `AllocError` if an allocation fails.
 pub fn possible_value_faults<'t>(
     faults: &mut Faults<'t>,
     tree: &Value<'t>,
@@ -72,7 +72,7 @@ fn possible_value(alloc: Global, tree: &Value<'_>) -> Result<PossibleValue, Tree
     with_hide(alloc, value, tree)
 }
 
-// The name, of an object with no other keys than a possible value's.
+// Returns the name of an object that has only keys of a possible value.
 fn name(alloc: Global, tree: &Value<'_>) -> Result<String, TreeError>
     ensures { Gives string_bytes result (form.name_of (view tree.now)) }
 {

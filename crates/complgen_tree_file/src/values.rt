@@ -1,4 +1,4 @@
-//! The kinds of value that a tree file has.
+//! Reads the values of a tree file, each kind by a type of its own.
 
 ghost use Rattle.std.specs.Prelude.{◌≡◌, string_bytes};
 ghost use Rattle.std.specs.Str.{chars};
@@ -10,17 +10,11 @@ ghost use Rattle.complgen_tree_file.specs.TreeForm.{only};
 use crate::check::check_inside;
 use crate::error::TreeError;
 use crate::faults::{FaultKind, Faults, Step};
+use crate::kinds::ValueKind;
 use cc_arg::{ArgAction, ValueHint, ValueRange};
 use cc_base::{Items, Text};
 use complgen_json::{Value, is_null};
 use std::alloc::{AllocError, Global};
-
-// What the names of actions and of value hints are called in a message.
-const ACTION_NAMES: &str =
-    "one of Set, Append, SetTrue, SetFalse, Count, Help, HelpShort, HelpLong, Version";
-
-const HINT_NAMES: &str = "one of Unknown, Other, AnyPath, FilePath, DirPath, ExecutablePath, \
-    CommandName, CommandString, CommandWithArguments, Username, Hostname, Url, EmailAddress";
 
 /// A type that a value of a tree file is read into.
 pub trait FromValue: Drop {
@@ -30,22 +24,25 @@ pub trait FromValue: Drop {
     ghost use Rattle.complgen_tree_file.specs.Faults.{FindsUnless};
     ghost use Rattle.complgen_tree_file.specs.TreeForm.{GivesSame};
 
-    // What a value of the kind is read as.
+    // The result of reading a value; `None` if the value is of another kind.
     ghost form: { Data → Option Self };
 
-    /// What the value says. Fails with `BadForm` where it is of another kind, and with `Memory`.
+    /// Reads `value`.
+    ///
+    /// # Errors
+    ///
+    /// `BadForm` if `value` is of another kind, `Memory` if an allocation fails.
     fn from_value(alloc: Global, value: &Value<'_>) -> Result<Self, TreeError>
         ensures { GivesSame result (form (view value.now)) };
 
-    /// What a value of the kind is called in a message.
-    fn kind() -> &'static str;
+    /// Returns the kind of the values; for a list, the kind of its items.
+    fn kind() -> ValueKind;
 
-    /// What a list of such values is called in a message.
-    fn kind_of_list() -> &'static str {
-        "a list"
-    }
-
-    /// Notes what is wrong with a value, where it is of another kind. Fails where memory runs out.
+    /// Notes what is wrong with `value`; nothing exactly if it can be read.
+    ///
+    /// # Errors
+    ///
+    /// `AllocError` if an allocation fails.
     fn check<'t>(faults: &mut Faults<'t>, value: &Value<'t>) -> Result<(), AllocError>
         ensures { IfOk result (λ _. FindsUnless (is_some (form (view value.now)))
             faults.old faults.new) }
@@ -58,8 +55,12 @@ pub trait FromValue: Drop {
     }
 }
 
-/// Sets a field to what the value at a key says; it stays where the object lacks the key. Fails as
-/// `FromValue::from_value` does.
+/// Sets `field` to the value at `key` of the object `tree`. Leaves it unchanged if the object lacks
+/// the key.
+///
+/// # Errors
+///
+/// `BadForm` if the value is of another kind, `Memory` if an allocation fails.
 #[tactic(auto, unfolding(crate::specs::TreeForm::field_from))]
 pub fn set<T: FromValue>(
     field: &mut T,
@@ -76,7 +77,11 @@ pub fn set<T: FromValue>(
     Ok(())
 }
 
-/// The text that a value is. Fails with `BadForm` where it is none, and with `Memory`.
+/// Returns a text.
+///
+/// # Errors
+///
+/// `BadForm` if `value` is not a text, `Memory` if an allocation fails.
 pub fn text(alloc: Global, value: &Value<'_>) -> Result<String, TreeError>
     ensures { Gives string_bytes result (as_str (view value.now)) }
 {
@@ -84,7 +89,7 @@ pub fn text(alloc: Global, value: &Value<'_>) -> Result<String, TreeError>
     Ok(String::from_str(alloc, text)?)
 }
 
-/// A text.
+/// Reads a text.
 impl FromValue for Text {
     ghost use Rattle.serde_json.specs.Find.{as_str};
 
@@ -95,16 +100,12 @@ impl FromValue for Text {
         Ok(Text::copy_of(alloc, text)?)
     }
 
-    fn kind() -> &'static str {
-        "a text"
-    }
-
-    fn kind_of_list() -> &'static str {
-        "a list of texts"
+    fn kind() -> ValueKind {
+        ValueKind::Text
     }
 }
 
-/// `true` or `false`.
+/// Reads `true` or `false`.
 impl FromValue for bool {
     ghost use Rattle.serde_json.specs.Find.{as_bool};
 
@@ -114,12 +115,12 @@ impl FromValue for bool {
         complgen_json::boolean(value).ok_or(TreeError::BadForm)
     }
 
-    fn kind() -> &'static str {
-        "true or false"
+    fn kind() -> ValueKind {
+        ValueKind::Boolean
     }
 }
 
-/// A whole number that fits 64 bits.
+/// Reads a whole number that fits in 64 bits.
 impl FromValue for usize {
     ghost use Rattle.complgen_tree_file.specs.TreeForm.{number_of};
 
@@ -129,8 +130,8 @@ impl FromValue for usize {
         number(value)
     }
 
-    fn kind() -> &'static str {
-        "a whole number from 0 to 2^64 - 1"
+    fn kind() -> ValueKind {
+        ValueKind::WholeNumber
     }
 }
 
@@ -141,7 +142,7 @@ fn number(value: &Value<'_>) -> Result<usize, TreeError>
     Ok(number as usize)
 }
 
-/// A text of one character.
+/// Reads a text of one character.
 impl FromValue for char {
     ghost use Rattle.complgen_tree_file.specs.TreeForm.{character_of};
 
@@ -152,16 +153,12 @@ impl FromValue for char {
         only_character(text).ok_or(TreeError::BadForm)
     }
 
-    fn kind() -> &'static str {
-        "a text of one character"
-    }
-
-    fn kind_of_list() -> &'static str {
-        "a list of texts of one character each"
+    fn kind() -> ValueKind {
+        ValueKind::Character
     }
 }
 
-// The character of a text that has one character.
+// Returns the character of a text that has one character.
 fn only_character(text: &str) -> Option<char>
     ensures { result ≡ only (chars text.now) }
 {
@@ -173,7 +170,7 @@ fn only_character(text: &str) -> Option<char>
     }
 }
 
-/// A value of the kind, as what was given.
+/// Reads the inner type as `Some`.
 impl<T: FromValue> FromValue for Option<T> {
     ghost use Rattle.complgen_tree_file.specs.TreeForm.{given};
 
@@ -184,7 +181,7 @@ impl<T: FromValue> FromValue for Option<T> {
         Ok(Some(T::from_value(alloc, value)?))
     }
 
-    fn kind() -> &'static str {
+    fn kind() -> ValueKind {
         T::kind()
     }
 
@@ -194,7 +191,7 @@ impl<T: FromValue> FromValue for Option<T> {
     }
 }
 
-/// A list whose items are each of the kind.
+/// Reads a list of the item type.
 impl<T: FromValue> FromValue for Items<T> {
     ghost use Rattle.complgen_tree_file.specs.TreeForm.{list_of};
 
@@ -210,14 +207,14 @@ impl<T: FromValue> FromValue for Items<T> {
         Ok(list)
     }
 
-    fn kind() -> &'static str {
-        T::kind_of_list()
+    fn kind() -> ValueKind {
+        T::kind()
     }
 
     #[tactic(auto, unfolding(crate::specs::TreeForm::list_of))]
     fn check<'t>(faults: &mut Faults<'t>, value: &Value<'t>) -> Result<(), AllocError> {
         let Some(items) = complgen_json::items(value) else {
-            return faults.note(FaultKind::OtherKind(T::kind_of_list()));
+            return faults.note(FaultKind::NoList(T::kind()));
         };
         for (index, item) in items.iter().enumerate() {
             check_inside::<T>(faults, Step::Item(index), item)?;
@@ -226,7 +223,7 @@ impl<T: FromValue> FromValue for Items<T> {
     }
 }
 
-/// The least and the greatest number of values, where the latter is `null` for no bound.
+/// Reads the least and the greatest number of values; `null` as the greatest is no bound.
 impl FromValue for ValueRange {
     ghost use Rattle.complgen_tree_file.specs.TreeForm.{range_of};
 
@@ -245,12 +242,12 @@ impl FromValue for ValueRange {
         Ok(ValueRange::new(least, greatest))
     }
 
-    fn kind() -> &'static str {
-        "[least, greatest] with 0 <= least <= 255 and least <= greatest, or [least, null]"
+    fn kind() -> ValueKind {
+        ValueKind::ValueRange
     }
 }
 
-// A number, or `null` for no bound.
+// Returns a number, or the greatest number of all for `null`.
 fn bound(value: &Value<'_>) -> Result<usize, TreeError>
     ensures { GivesSame result (bound_of (view value.now)) }
 {
@@ -260,7 +257,7 @@ fn bound(value: &Value<'_>) -> Result<usize, TreeError>
     number(value)
 }
 
-/// The name of an action.
+/// Reads the name of an action.
 impl FromValue for ArgAction {
     ghost use Rattle.serde_json.specs.Find.{as_str};
     ghost use Rattle.complgen_tree_file.specs.TreeForm.{◌>>=◌, action_of};
@@ -282,12 +279,12 @@ impl FromValue for ArgAction {
         }
     }
 
-    fn kind() -> &'static str {
-        ACTION_NAMES
+    fn kind() -> ValueKind {
+        ValueKind::Action
     }
 }
 
-/// The name of a value hint.
+/// Reads the name of a value hint.
 impl FromValue for ValueHint {
     ghost use Rattle.serde_json.specs.Find.{as_str};
     ghost use Rattle.complgen_tree_file.specs.TreeForm.{◌>>=◌, hint_of};
@@ -313,7 +310,7 @@ impl FromValue for ValueHint {
         }
     }
 
-    fn kind() -> &'static str {
-        HINT_NAMES
+    fn kind() -> ValueKind {
+        ValueKind::ValueHint
     }
 }

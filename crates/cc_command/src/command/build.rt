@@ -22,6 +22,7 @@ mod texts;
 use crate::command::Command;
 use crate::command::build::additions::{Addition, addition_to};
 use crate::command::build::arguments::push_globals;
+pub use crate::command::build::arguments::{has_id, lacks_index};
 use crate::command::build::insertion::{finish, put_before};
 use cc_arg::Arg;
 use cc_base::{Error, Text};

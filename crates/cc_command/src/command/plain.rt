@@ -165,7 +165,8 @@ fn are_alphanumeric(shorts: &[char]) -> bool
     shorts.iter().all(|short| short.is_ascii_alphanumeric())
 }
 
-fn has_no_quote(text: &str) -> bool
+/// Returns whether `text` holds no `'`.
+pub fn has_no_quote(text: &str) -> bool
     ensures { result ≡ has_no_quote text.now }
 {
     text.as_bytes().iter().all(|byte| *byte != b'\'')

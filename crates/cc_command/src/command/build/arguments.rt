@@ -140,7 +140,8 @@ fn push_copy_if_missing(
     Ok(())
 }
 
-fn has_id(arguments: &[Arg], id: &str) -> bool
+/// Returns whether one of `arguments` has this id.
+pub fn has_id(arguments: &[Arg], id: &str) -> bool
     ensures { result ≡ has_id arguments.now id.now }
 {
     arguments.iter().any(|argument| argument.get_id() == id)
@@ -161,7 +162,8 @@ pub(super) fn fill_in(arguments: &mut [Arg])
     }
 }
 
-fn lacks_index(argument: &Arg) -> bool
+/// Returns whether `argument` is a positional without an index of its own.
+pub fn lacks_index(argument: &Arg) -> bool
     ensures { result ≡ lacks_index argument.now }
 {
     argument.is_positional() && argument.get_index().is_none()

@@ -1,9 +1,0 @@
-use Rattle.std.proofs.Common.{refl}
-use Rattle.cc_env.proofs.Replying.{replied_between}
-use Rattle.cc_replies.specs.Reply.{values_reply}
-use Rattle.cc_env.proofs.bash.BashEnvCompleter.write_complete.Goals as goal
-
-pub returns-clause-reply : goal.returns-clause-reply
-returns-clause-reply g c =
-    replied_between _ _ _ _ _ _ _ _ _ _ _ values_reply _ _ c.separator.ensures
-    (c.index-index.ensures, refl) c.reply_at.ensures

@@ -1,0 +1,147 @@
+//! The text that is written for a shell, made in memory.
+
+ghost use Rattle.std.specs.Prelude.{◌≡◌, IfErr, IfOk, Ok, map, string_bytes};
+ghost use Rattle.std.specs.Option.{option_copied};
+ghost use Rattle.cc_base.specs.Collected.{collected_bytes};
+ghost use Rattle.cc_command.specs.Built.{built_tree};
+ghost use Rattle.cc_engine.specs.Completion.{Completes};
+ghost use Rattle.cc_env.specs.Steps.{BuiltUnlessMemory, IsRegistration, MakesText, RepliesAs};
+ghost use Rattle.cc_env.specs.Steps.{completer_path, in_memory, made_bytes, names_of};
+
+use crate::arguments::{after_dashes, keep_last, program_path};
+use crate::env_completer::EnvCompleter;
+use cc_base::{Collected, Error, Text};
+use cc_command::{Command, full_name};
+use cc_engine::Lookup;
+use cc_replies::EnvValues;
+use std::alloc::{AllocError, Global};
+
+/// A program as one shell runs it: the shell's adapter, and the names in the registration.
+#[derive(Drop)]
+pub struct ShellProgram<'a, E> {
+    /// The adapter of the shell.
+    pub shell: &'a E,
+    /// The variable whose value requests a registration or a reply.
+    pub variable: &'a str,
+    /// The binary that is registered; if there is none, the bin name of the command, or its name if
+    /// it has no bin name.
+    pub bin: Option<&'a str>,
+    /// The path of the program that the shell runs; if there is none, the first argument.
+    pub completer: Option<&'a str>,
+}
+
+impl<'a, E: EnvCompleter> ShellProgram<'a, E> {
+    /// Returns the text for a run of the program with `args`, the program's name first: the
+    /// registration if no words follow a `--`, and otherwise the reply to these words. `command` is
+    /// that of the program, and is built first. `env` has the values of the variables that the
+    /// registration sets.
+    ///
+    /// # Errors
+    ///
+    /// `NoArguments` if `args` is empty, `NoCompletion` if the word to complete is not there or is
+    /// the program's name, and `Memory` if an allocation fails.
+    pub fn text<L: Lookup>(
+        &self,
+        alloc: Global,
+        mut command: Command,
+        args: Vec<String>,
+        env: &EnvValues,
+        lookup: &L,
+    ) -> Result<Collected, Error>
+        ensures { MakesText (λ made. made ≡ Ok command) (E.spec self.now.shell.now)
+            (names_of self.now.variable.now (option_copied self.now.bin)
+            (option_copied self.now.completer) (L.current lookup.now)) env.now
+            (Completes (L.may_return lookup.now)) (map string_bytes args.items)
+            (made_bytes result) }
+    {
+        command.build(alloc)?;
+        let Some((program, rest)) = args.split_first() else {
+            return Err(Error::NoArguments);
+        };
+        let after = after_dashes(rest);
+        if after.is_empty() {
+            return self.registration(alloc, &command, lookup.current_dir(), program.as_str());
+        }
+        let count = after.len();
+        let words = keep_last(args, count);
+        self.reply(alloc, &mut command, words, env, lookup)
+    }
+
+    fn registration(
+        &self,
+        alloc: Global,
+        command: &Command,
+        current_dir: Option<&str>,
+        program: &str,
+    ) -> Result<Collected, Error>
+        ensures ok { IfOk result (λ text.
+            IsRegistration (E.spec self.now.shell.now)
+            (names_of self.now.variable.now (option_copied self.now.bin)
+            (option_copied self.now.completer) (option_copied current_dir.entry) program.now
+            command.now) (collected_bytes text)) }
+        ensures memory { IfErr result (λ error. error ≡ Error.Memory) }
+    {
+        let bin = match self.bin {
+            Some(bin) => bin,
+            None => full_name(command),
+        };
+        let completer = self.completer_path(alloc, current_dir, program)?;
+        let mut text = Collected::new(alloc);
+        in_memory(
+            self.shell.write_registration(
+                alloc,
+                self.variable,
+                command.get_name(),
+                bin,
+                completer.as_str(),
+                &mut text,
+            ),
+        )?;
+        Ok(text)
+    }
+
+    fn completer_path(
+        &self,
+        alloc: Global,
+        current_dir: Option<&str>,
+        program: &str,
+    ) -> Result<Text, AllocError>
+        ensures { IfOk result (λ path. path ≡ completer_path (option_copied self.now.completer)
+            (option_copied current_dir.entry) program.now) }
+    {
+        match self.completer {
+            Some(completer) => Text::copy_of(alloc, completer),
+            None => program_path(alloc, current_dir, program),
+        }
+    }
+
+    fn reply<L: Lookup>(
+        &self,
+        alloc: Global,
+        command: &mut Command,
+        words: Vec<String>,
+        env: &EnvValues,
+        lookup: &L,
+    ) -> Result<Collected, Error>
+        ensures replied { RepliesAs (E.spec self.now.shell.now) env.now
+            (map string_bytes words.items) (Completes (L.may_return lookup.now) command.new)
+            command.new (made_bytes result) }
+        ensures built { BuiltUnlessMemory (made_bytes result)
+            (command.new ≡ built_tree command.old) }
+    {
+        let mut text = Collected::new(alloc);
+        let shell = self.shell;
+        in_memory(shell.write_complete_from(alloc, command, words, env, lookup, &mut text))?;
+        Ok(text)
+    }
+}
+
+// Replaces the error of a put into memory, which fails only if an allocation does.
+fn in_memory(written: Result<(), Error>) -> Result<(), Error>
+    ensures { result ≡ in_memory written }
+{
+    match written {
+        Err(Error::Write(_)) => Err(Error::Memory),
+        other => other,
+    }
+}

@@ -1,0 +1,70 @@
+//! Carries out the plans of the command line over the files of the machine.
+
+use crate::contents;
+use crate::output::{buffered, flush};
+use cc_base::Sink;
+use cc_paths::{Folder, RealFolder};
+use cc_replies::home;
+use complgen_check::{Report, check};
+use complgen_commands::{Plan, Refusal, TreeFile, run, scripts, unreadable};
+use std::convert::AsStr;
+use std::env::Env;
+use std::rt::Files;
+
+/// Carries out `plan` and prints what it writes. Returns the exit status, which is 1 if `check` found
+/// an error or a warning.
+pub(crate) fn carry_out_plan<R: Env + Files + Print + AllocGlobal>(
+    rt: &R,
+    plan: &Plan,
+) -> Result<u8, Refusal> {
+    let file = contents(rt, plan.tree())?;
+    let folder = RealFolder::new(rt, home(rt)?);
+    print(rt, plan, file.as_ref().map(Vec::as_slice), &folder)
+}
+
+// Carries out `plan` over the bytes of the tree file, and prints what it writes.
+fn print<R: Files + Print + AllocGlobal, D: Folder>(
+    rt: &R,
+    plan: &Plan,
+    file: Option<&[u8]>,
+    folder: &D,
+) -> Result<u8, Refusal> {
+    let mut out = buffered(rt)?;
+    let status = write_plan(rt, plan, file, folder, &mut out)?;
+    flush(&mut out)?;
+    Ok(status)
+}
+
+// Carries out `plan` and writes to `out`.
+fn write_plan<R: Files + AllocGlobal, D: Folder, W: Sink>(
+    rt: &R,
+    plan: &Plan,
+    file: Option<&[u8]>,
+    folder: &D,
+    out: &mut W,
+) -> Result<u8, Refusal> {
+    let alloc = rt.alloc();
+    match plan {
+        Plan::Check { bin, json, tree } => {
+            if file.is_none() {
+                return Err(unreadable(alloc, tree.as_str()));
+            }
+            let bin = bin.as_ref().map(|bin| bin.as_str());
+            let report = if *json { Report::Json } else { Report::Lines };
+            let is_clean = check(alloc, bin, report, file, out)?;
+            Ok(u8::from(!is_clean))
+        }
+        Plan::Scripts { bin, out_dir, tree } => {
+            let file = TreeFile {
+                path: tree.as_str(),
+                bytes: file,
+            };
+            scripts(rt, alloc, bin.as_str(), out_dir.as_str(), file, out)?;
+            Ok(0)
+        }
+        Plan::Script(..) | Plan::Register(..) | Plan::Candidates(..) => {
+            run(alloc, plan, file, folder, out)?;
+            Ok(0)
+        }
+    }
+}

@@ -1,9 +1,0 @@
-use Rattle.std.proofs.Common.{◌≡◌, ◌++◌, drop, map}
-use Rattle.complgen_tree_errors.specs.Findings.{shown}
-use Rattle.complgen_check.specs.Checking.{shown_warning}
-use Rattle.complgen_check.proofs.checking.as_findings.Given as goal
-
--- with the warnings that are left it is the whole
-abbrev pub invariant-loop-warning : goal.invariant-loop-warning
-invariant-loop-warning l = map shown l.findings.items
-    ++ map shown_warning (drop l.warning-index l.warnings) ≡ map shown_warning l.warnings
