@@ -111,7 +111,7 @@ fn complgen(alloc: Global, document: &Document, words: &[String]) -> Result<Outc
     }
 }
 
-// Carries out what the words ask for, and returns the exit status. No case writes files.
+// Does what the words request, and returns the exit status. No case writes files.
 fn carry_out(
     alloc: Global,
     document: &Document,

@@ -45,7 +45,7 @@ pub(crate) fn carried_out<D: Folder, W: Sink>(
     }
 }
 
-/// What the plan writes over this file, in a folder.
+/// Returns the output of the plan over this tree file, with these directories.
 pub(crate) fn output_in(
     alloc: Global,
     plan: &Plan,
