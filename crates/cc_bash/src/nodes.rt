@@ -10,8 +10,8 @@ ghost use Rattle.cc_bash.specs.Nodes.{labelled_of, last_label, next_labelled, ne
 use cc_base::Text;
 use cc_command::{Command, full_name};
 use cc_flat::{Flat, LevelledNode};
+use cc_generator::SharedKey;
 use cc_quote::{Replace, escape_text, push_escaped};
-use cc_visits::SharedKey;
 use std::alloc::{AllocError, Global};
 
 // The text before the name of a child in a label. It also replaces each space and dash.

@@ -4,7 +4,7 @@
 use crate::checks::is;
 use crate::fixtures::{NESTED_AND_LIST, tree};
 use cc_flat::Flat;
-use cc_visits::{Joined, PathStep, PathSteps, TableVisits, Visit};
+use cc_generator::{Joined, PathStep, PathSteps, TableVisits, Visit};
 use std::alloc::{AllocError, Global};
 use std::fmt::Write;
 

@@ -14,7 +14,7 @@ use Rattle.cc_command.specs.Texts.{help_name, help_help, version_name}
 use Rattle.cc_command.specs.Tree.{Tree, none}
 use Rattle.cc_quote.specs.FishQuote.{fish_sign, is_fish_safe, fish_quoted, fish_quoted_for_eval, fish_help_for_eval_of, fish_escaped}
 use Rattle.cc_quote.specs.FishTokens.{fish_commands}
-use Rattle.cc_visits.specs.Visits.{paths_below}
+use Rattle.cc_generator.specs.Visits.{paths_below}
 use Rattle.cc_fish.specs.Script.{value_text, value_lines, list_begin, listed_text, values_text, names_text, argument_text, child_text, options_text, flags_text, below_text, node_text, visit_text, front_text, key_condition, not_seen, spec_text, head_text, body_text, script_text, fish_script}
 use Rattle.cc_fish.specs.Table.{tables}
 use Rattle.cc_fish.specs.Reader.{no_record, records}

@@ -12,11 +12,11 @@ use Rattle.cc_command.specs.Tree.{Forest, none, more, Tree}
 use Rattle.cc_command.proofs.PlainParts.{plain_node, plain_tree, plain_full_name}
 use Rattle.cc_generator.specs.Generators.{Generates}
 use Rattle.cc_quote.specs.FishTokens.{fish_commands}
-use Rattle.cc_visits.specs.Visits.{Keyed, path_visits, path_steps, longer_path, rekeyed, where_entered}
-use Rattle.cc_visits.proofs.Entered.{entered_visits}
-use Rattle.cc_visits.proofs.PlainVisits.{IsPlainVisit, plain_visits}
-use Rattle.cc_visits.proofs.SameVisits.{rekeyed-path_visits}
-use Rattle.cc_visits.proofs.VisitedPaths.{paths_cover}
+use Rattle.cc_generator.specs.Visits.{Keyed, path_visits, path_steps, longer_path, rekeyed, where_entered}
+use Rattle.cc_generator.proofs.Entered.{entered_visits}
+use Rattle.cc_generator.proofs.PlainVisits.{IsPlainVisit, plain_visits}
+use Rattle.cc_generator.proofs.SameVisits.{rekeyed-path_visits}
+use Rattle.cc_generator.proofs.VisitedPaths.{paths_cover}
 use Rattle.cc_fish.specs.Reads.{FishReads, fish_spec}
 use Rattle.cc_fish.specs.Script.{seen_text, excluded_text, fish_key, key_condition, front_text, node_text, visit_text, head_text, body_text, script_text, fish_script}
 use Rattle.cc_fish.specs.Table.{function_name, condition_at, has_positionals, option_record, flag_record, child_record, child_records, node_records, table, tables}

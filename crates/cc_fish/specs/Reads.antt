@@ -4,8 +4,8 @@ use Rattle.std.specs.List.{AllByRecursion}
 use Rattle.cc_command.specs.Names.{full_name}
 use Rattle.cc_command.specs.Tree.{Tree}
 use Rattle.cc_generator.specs.Generators.{ShellSpec}
-use Rattle.cc_visits.specs.Paths.{CoversPaths}
-use Rattle.cc_visits.specs.Visits.{Keyed, path_visits, longer_path}
+use Rattle.cc_generator.specs.Paths.{CoversPaths}
+use Rattle.cc_generator.specs.Visits.{Keyed, path_visits, longer_path}
 use Rattle.cc_fish.specs.Script.{fish_script}
 use Rattle.cc_fish.specs.Table.{table, tables}
 use Rattle.cc_fish.specs.Reader.{records}

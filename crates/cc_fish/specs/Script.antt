@@ -13,7 +13,7 @@ use Rattle.cc_command.specs.Tree.{Forest, none, more, Tree, has_nodes}
 use Rattle.cc_base.specs.Bytes.{space, line_feed}
 use Rattle.cc_base.specs.Joined.{joined}
 use Rattle.cc_quote.specs.FishQuote.{fish_escaped, fish_quoted_for_eval, fish_help_for_eval_of}
-use Rattle.cc_visits.specs.Visits.{Keyed, path_visits}
+use Rattle.cc_generator.specs.Visits.{Keyed, path_visits}
 use Rattle.cc_generator.specs.Subcommands.{sibling_names}
 use Rattle.cc_fish.specs.Table.{function_name, has_positionals}
 

@@ -14,7 +14,7 @@ use Rattle.cc_command.specs.Tree.{Forest, none, more, Tree}
 use Rattle.cc_base.specs.Bytes.{tab, dash}
 use Rattle.cc_quote.specs.Escapes.{replace_byte}
 use Rattle.cc_quote.specs.QuotedWord.{line_feeds_as_spaces}
-use Rattle.cc_visits.specs.Visits.{Keyed, path_visits, longer_path}
+use Rattle.cc_generator.specs.Visits.{Keyed, path_visits, longer_path}
 use Rattle.cc_generator.specs.Subcommands.{sibling_names}
 use Rattle.cc_fish.specs.Records.{Condition, Marks, Record}
 

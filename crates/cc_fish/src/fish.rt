@@ -4,7 +4,7 @@ ghost use Rattle.std.specs.Prelude.{◌<◌, flat_map, length};
 ghost use Rattle.cc_base.specs.Writes.{Writes};
 ghost use Rattle.cc_command.specs.Names.{full_name};
 ghost use Rattle.cc_flat.specs.Flat.{tree_at};
-ghost use Rattle.cc_visits.specs.Visits.{where_entered};
+ghost use Rattle.cc_generator.specs.Visits.{where_entered};
 ghost use Rattle.cc_fish.specs.Script.{body_text, fish_script, script_text, visit_text};
 
 use crate::function::function_name;
@@ -14,8 +14,7 @@ use crate::lines::write_visit;
 use cc_base::{Error, Sink};
 use cc_command::{Command, full_name};
 use cc_flat::Flat;
-use cc_generator::Generator;
-use cc_visits::{PathStep, PathSteps};
+use cc_generator::{Generator, PathStep, PathSteps};
 use std::alloc::Global;
 
 /// The generator of fish scripts. The script of a program `N` goes into the file `N.fish`.

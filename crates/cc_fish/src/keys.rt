@@ -1,7 +1,7 @@
 //! The keys of nodes: the part of a condition that states the path.
 
 use cc_base::Text;
-use cc_visits::{Joined, KeyScheme};
+use cc_generator::{Joined, KeyScheme};
 use std::alloc::{AllocError, Global};
 
 const FIRST: Joined<'static> = Joined {

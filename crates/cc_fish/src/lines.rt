@@ -7,7 +7,7 @@ ghost use Rattle.cc_base.specs.Writes.{Writes, as_write};
 ghost use Rattle.cc_command.specs.Iterators.{arguments_left};
 ghost use Rattle.cc_command.specs.Names.{visible_names};
 ghost use Rattle.cc_command.specs.Tree.{forest_of};
-ghost use Rattle.cc_visits.specs.Meaning.{visit_of};
+ghost use Rattle.cc_generator.specs.Meaning.{visit_of};
 ghost use Rattle.cc_fish.specs.Script.{
   argument_text,
   below_text,
@@ -27,8 +27,8 @@ use crate::values::write_values;
 use cc_arg::{Arg, shown_longs, shown_shorts};
 use cc_base::{Error, Sink, put_around, put_piece};
 use cc_command::{Arguments, Command};
+use cc_generator::Visit;
 use cc_quote::{FishEscape, put_escaped};
-use cc_visits::Visit;
 use std::io::ErrorKind;
 
 /// Writes the records of a visit. `front` is a buffer for the beginning of each record; its old

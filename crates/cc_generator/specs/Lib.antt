@@ -1,3 +1,10 @@
 pub mod ArgumentNames
 pub mod Generators
+pub mod Meaning
+pub mod Paths
+pub mod Stack
+pub mod StepStack
 pub mod Subcommands
+pub mod TableStack
+pub mod VisitCode
+pub mod Visits

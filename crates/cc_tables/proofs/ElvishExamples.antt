@@ -8,7 +8,7 @@ use Rattle.cc_command.specs.Tree.{Tree, none, more}
 use Rattle.cc_quote.specs.Signs.{sign}
 use Rattle.cc_quote.specs.Tokens.{cut, is_word, strip_words, after_words}
 use Rattle.cc_quote.specs.ElvishTokens.{elvish_tokens}
-use Rattle.cc_visits.specs.Visits.{tables_below}
+use Rattle.cc_generator.specs.Visits.{tables_below}
 use Rattle.cc_tables.specs.ElvishReader.{part, step, spelling, tables_begin, elvish_tables}
 use Rattle.cc_tables.specs.ElvishScript.{Row, elvish_frame, elvish_named, offer_row, row_begin, row_end}
 use Rattle.cc_tables.specs.ElvishScript.{row_text, text_begin}

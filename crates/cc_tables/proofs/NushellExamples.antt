@@ -5,7 +5,7 @@ use Rattle.cc_arg.specs.declared.action.ArgAction.TheVariants.{SetTrue}
 use Rattle.cc_arg.specs.Arguments.{new_arg}
 use Rattle.cc_command.specs.Made.{new_node}
 use Rattle.cc_command.specs.Tree.{Tree, none, more}
-use Rattle.cc_visits.specs.Visits.{tables_below}
+use Rattle.cc_generator.specs.Visits.{tables_below}
 use Rattle.cc_base.specs.Found.{after, before_ending, after_mark, cut_at, with_front}
 use Rattle.cc_tables.specs.NushellReader.{after_name, closed}
 use Rattle.cc_tables.specs.NushellReader.{in_block_sign, key_sign, name_of, next}

@@ -13,10 +13,10 @@ use Rattle.cc_base.specs.PlainName.{name_byte, foreign}
 use Rattle.cc_command.specs.Tree.{Tree}
 use Rattle.cc_base.proofs.NameBytes.{plain_bytes}
 use Rattle.cc_command.proofs.PlainParts.{IsPlainBelow, IsPlainName, plain_full_name}
-use Rattle.cc_visits.specs.Visits.{Keyed, joined_path, longer_path, table_visits}
-use Rattle.cc_visits.proofs.DifferentKeys.{joined_keys_differ}
-use Rattle.cc_visits.proofs.PlainVisits.{IsPlainVisit, plain_visits}
-use Rattle.cc_visits.proofs.VisitedTables.{tables_cover}
+use Rattle.cc_generator.specs.Visits.{Keyed, joined_path, longer_path, table_visits}
+use Rattle.cc_generator.proofs.DifferentKeys.{joined_keys_differ}
+use Rattle.cc_generator.proofs.PlainVisits.{IsPlainVisit, plain_visits}
+use Rattle.cc_generator.proofs.VisitedTables.{tables_cover}
 use Rattle.cc_tables.specs.Offers.{node_offers}
 use Rattle.cc_tables.specs.TableReader.{ReadsTables}
 use Rattle.cc_tables.specs.Tables.{Table, offered, path_tables, table_of, tree_tables}

@@ -15,10 +15,10 @@ use Rattle.cc_quote.specs.PowershellQuote.{powershell_escaped}
 use Rattle.cc_quote.specs.PowershellTokens.{powershell_tokens}
 use Rattle.cc_quote.specs.Tokens.{after_words, cut}
 use Rattle.cc_quote.specs.Tokens.QuoteState.{between}
-use Rattle.cc_visits.specs.Paths.{CoversPaths, LeadsTo}
-use Rattle.cc_visits.specs.Visits.{Keyed, joined_path, longer_path, table_visits}
-use Rattle.cc_visits.proofs.PlainVisits.{IsPlainVisit, plain_visits}
-use Rattle.cc_visits.proofs.VisitedTables.{tables_cover}
+use Rattle.cc_generator.specs.Paths.{CoversPaths, LeadsTo}
+use Rattle.cc_generator.specs.Visits.{Keyed, joined_path, longer_path, table_visits}
+use Rattle.cc_generator.proofs.PlainVisits.{IsPlainVisit, plain_visits}
+use Rattle.cc_generator.proofs.VisitedTables.{tables_cover}
 use Rattle.cc_tables.specs.Offers.{node_offers, word}
 use Rattle.cc_tables.specs.PowershellReader.{PowershellReads, ReadsByAllQuotes, powershell_tables, spelling, tables_begin}
 use Rattle.cc_tables.specs.PowershellScript.{ResultKind, capital_space, details_text, kind_begin, kind_text, list_begin, offer_row, offer_text, parameter_name, parameter_value, powershell_frame, powershell_named, powershell_script, row_begin, row_end, row_text, shown_text, text_begin, words_text}

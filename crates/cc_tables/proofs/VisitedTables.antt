@@ -3,8 +3,8 @@ use Rattle.std.proofs.Common.{◌≡◌, ℕ, List, [], ◌++◌, flat_map, appe
 use Rattle.std.proofs.lemmas.List.Folds.{flat_map-map}
 use Rattle.cc_command.specs.Tree.{Tree}
 use Rattle.cc_command.specs.Names.{full_name}
-use Rattle.cc_visits.specs.Visits.{Keyed, joined, joined_path, longer_path, rekeyed, table_visits}
-use Rattle.cc_visits.proofs.SameVisits.{joined_path-longer, rekeyed-table_visits}
+use Rattle.cc_generator.specs.Visits.{Keyed, joined, joined_path, longer_path, rekeyed, table_visits}
+use Rattle.cc_generator.proofs.SameVisits.{joined_path-longer, rekeyed-table_visits}
 use Rattle.cc_tables.specs.Script.{head_text, node_text, script_text, table_text, tree_script}
 use Rattle.cc_tables.specs.Tables.{Table, path_tables, table_of}
 use Rattle.cc_tables.specs.declared.tables.Frame.{Frame}

@@ -5,8 +5,8 @@ use Rattle.std.specs.Prelude.{bytes_eq, codes}
 use Rattle.cc_base.specs.Differ.{AllDifferBy}
 use Rattle.cc_command.specs.Tree.{Tree}
 use Rattle.cc_quote.specs.Tokens.{Token}
-use Rattle.cc_visits.specs.Paths.{CoversPaths}
-use Rattle.cc_visits.specs.Visits.{longer_path, table_visits}
+use Rattle.cc_generator.specs.Paths.{CoversPaths}
+use Rattle.cc_generator.specs.Visits.{longer_path, table_visits}
 use Rattle.cc_tables.specs.Tables.{Table}
 
 -- the meaning of a token: a bare word, the key of a table, or an argument in a row

@@ -3,7 +3,7 @@
 use Rattle.std.specs.Prelude.{ℕ, List, [], map, codes}
 use Rattle.cc_command.specs.Tree.{Tree}
 use Rattle.cc_command.specs.Names.{full_name}
-use Rattle.cc_visits.specs.Visits.{joined_path, longer_path, table_visits}
+use Rattle.cc_generator.specs.Visits.{joined_path, longer_path, table_visits}
 use Rattle.cc_tables.specs.Offers.{node_offers}
 use Rattle.cc_tables.specs.declared.offers.Offer.{Offer}
 

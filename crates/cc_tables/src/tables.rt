@@ -7,7 +7,7 @@ ghost use Rattle.cc_tables.specs.Script.{head_text, named_text, node_text, tree_
 use cc_base::{Error, Sink, Text, TextRef, put_around, put_piece};
 use cc_command::{Command, full_name};
 use cc_flat::Flat;
-use cc_visits::{Joined, KeyScheme, TableVisits};
+use cc_generator::{Joined, KeyScheme, TableVisits};
 use std::alloc::{AllocError, Global};
 use std::io::ErrorKind;
 
@@ -31,7 +31,7 @@ pub struct Frame<'a> {
 }
 
 impl<'a> KeyScheme for Frame<'a> {
-    ghost use Rattle.cc_visits.specs.Visits.{joined};
+    ghost use Rattle.cc_generator.specs.Visits.{joined};
 
     ghost child_key = { λ frame. joined frame.separator };
 

@@ -6,7 +6,7 @@ use Rattle.cc_base.specs.Bytes.{line_feed}
 use Rattle.cc_command.specs.declared.node.Node.{Node}
 use Rattle.cc_command.specs.Names.{visible_names}
 use Rattle.cc_command.specs.Tree.{Forest, none, more, Tree, has_nodes}
-use Rattle.cc_visits.specs.Visits.{Keyed, keyed, Step, enter, leave, steps_below}
+use Rattle.cc_generator.specs.Visits.{Keyed, keyed, Step, enter, leave, steps_below}
 use Rattle.cc_zsh.specs.Functions.{entries_of, has_entries}
 use Rattle.cc_zsh.specs.Nested.{arm_begins, arm_ends, arm_text, arms_text, block_text, nested_ends, nested_begins, nested_line}
 use Rattle.cc_zsh.specs.Steps.{enter_text, last_name, leave_text, nested_closes, nested_opens, step_text}

@@ -16,7 +16,7 @@ use Rattle.cc_quote.specs.PosixTokens.{cut, between}
 use Rattle.cc_quote.specs.Tokens.{is_word}
 use Rattle.cc_quote.specs.Tokens.Piece.{bare}
 use Rattle.cc_quote.proofs.PosixCutting.{IsOther, IsKept-IsOther, tokens_from, bare_run, double_run}
-use Rattle.cc_visits.specs.Visits.{Keyed, keyed, keys_below, longer_path, paths_below}
+use Rattle.cc_generator.specs.Visits.{Keyed, keyed, keys_below, longer_path, paths_below}
 use Rattle.cc_generator.proofs.ReadInTurn.{in_parts}
 use Rattle.cc_zsh.specs.Nested.{block_text, case_text, case_state, set_words, set_context, context_command, case_line, case_line_in, nested_ends, index_text, context_text, nested_begins, nested_text, nested_line, arm_ends, arm_text, arms_text}
 use Rattle.cc_zsh.specs.Reader.{Block, Path, State, arm_word, is_line, next, next_arm, read}

@@ -21,8 +21,8 @@ use Rattle.cc_command.specs.Names.{full_name}
 use Rattle.cc_command.specs.Plain.{is_plain_tree}
 use Rattle.cc_command.specs.Tree.{Forest, none, more, Tree, has_nodes}
 use Rattle.cc_command.proofs.PlainParts.{plain_tree}
-use Rattle.cc_visits.specs.Visits.{Keyed, keyed, keys_below, longer_path, path_visits, paths_below}
-use Rattle.cc_visits.proofs.VisitedPaths.{paths_cover}
+use Rattle.cc_generator.specs.Visits.{Keyed, keyed, keys_below, longer_path, path_visits, paths_below}
+use Rattle.cc_generator.proofs.VisitedPaths.{paths_cover}
 use Rattle.cc_zsh.specs.Functions.{Function, entries_of, function_of, functions_below, function_below, is_again, once_after, sorted_functions, tree_functions}
 use Rattle.cc_quote.specs.Escapes.{replace_byte}
 use Rattle.cc_zsh.specs.Nested.{function_label}

@@ -14,7 +14,7 @@ use Rattle.cc_quote.specs.PosixTokens.{cut, posix_tokens, between, in_bare}
 use Rattle.cc_quote.specs.Tokens.{is_word}
 use Rattle.cc_quote.specs.Tokens.Piece.{bare}
 use Rattle.cc_quote.proofs.PosixCutting.{IsOther, IsKept-IsOther, tokens_from, bare_word, bare_run, double_run}
-use Rattle.cc_visits.specs.Visits.{longer_path, path_visits, paths_below}
+use Rattle.cc_generator.specs.Visits.{longer_path, path_visits, paths_below}
 use Rattle.cc_generator.proofs.ReadInTurn.{in_parts}
 use Rattle.cc_zsh.specs.Functions.{function_text, tree_functions}
 use Rattle.cc_zsh.specs.Nested.{block_text, nested_begins, case_text, case_state, nested_ends, nested_text, arms_text, root_text, context_text}

@@ -2,8 +2,8 @@
 use Rattle.std.specs.Prelude.{◌≡◌, [], ◌++◌, map, option_map, None, Some, codes}
 use Rattle.cc_command.specs.Tree.{Tree}
 use Rattle.cc_generator.specs.Generators.{ShellSpec}
-use Rattle.cc_visits.specs.Paths.{CoversPaths}
-use Rattle.cc_visits.specs.Visits.{longer_path, path_visits}
+use Rattle.cc_generator.specs.Paths.{CoversPaths}
+use Rattle.cc_generator.specs.Visits.{longer_path, path_visits}
 use Rattle.cc_zsh.specs.Functions.{tree_functions}
 use Rattle.cc_zsh.specs.Reader.{zsh_parts, zsh_shown}
 use Rattle.cc_zsh.specs.Script.{zsh_script}

@@ -2,7 +2,7 @@
 use Rattle.std.specs.Prelude.{ℕ, List, [], ◌∷◌, ◌++◌, if◌then◌else◌}
 use Rattle.cc_command.specs.Tree.{Tree, has_nodes}
 use Rattle.cc_base.specs.Bytes.{line_feed}
-use Rattle.cc_visits.specs.Visits.{Keyed, Step, enter, leave}
+use Rattle.cc_generator.specs.Visits.{Keyed, Step, enter, leave}
 use Rattle.cc_zsh.specs.Nested.{arm_begins, arm_ends, block_text, nested_ends, nested_begins}
 
 -- the key of a node is the name by which it is reached

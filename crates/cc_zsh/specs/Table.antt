@@ -11,7 +11,7 @@ use Rattle.cc_command.specs.declared.node.Node.{Node}
 use Rattle.cc_command.specs.ArgumentLists.{flags, options}
 use Rattle.cc_command.specs.Tree.{Tree}
 use Rattle.cc_quote.specs.QuotedWord.{line_feeds_as_spaces}
-use Rattle.cc_visits.specs.Visits.{Keyed, longer_path, path_visits}
+use Rattle.cc_generator.specs.Visits.{Keyed, longer_path, path_visits}
 use Rattle.cc_zsh.specs.Conflicts.{conflict_words, conflicts_of}
 use Rattle.cc_zsh.specs.Functions.{Entry, Function, entries_of}
 use Rattle.cc_zsh.specs.Nested.{function_label}

@@ -66,8 +66,8 @@ pub use Rattle.cc_command.specs.declared.node.Node
 pub use Rattle.cc_generator.specs.ArgumentNames
 pub use Rattle.cc_generator.specs.Generators
 pub use Rattle.cc_generator.specs.Subcommands
-pub use Rattle.cc_visits.specs.Paths
-pub use Rattle.cc_visits.specs.Visits
+pub use Rattle.cc_generator.specs.Paths
+pub use Rattle.cc_generator.specs.Visits
 -- Elvish, Nushell and PowerShell
 pub use Rattle.cc_tables.specs.ElvishReader
 pub use Rattle.cc_tables.specs.ElvishScript

@@ -1,5 +1,5 @@
 use Rattle.std.proofs.Common.{◌≡◌, ◌++◌, flat_map, length}
-use Rattle.cc_visits.specs.Visits.{where_entered}
+use Rattle.cc_generator.specs.Visits.{where_entered}
 use Rattle.cc_fish.specs.Script.{visit_text}
 use Rattle.cc_fish.proofs.fish.write_steps.Given as goal
 

@@ -2,7 +2,7 @@ use Rattle.std.proofs.Common.{◌++◌, flat_map, ap, subst, ◌∙◌}
 use Rattle.cc_base.specs.Writes.{Writes}
 use Rattle.cc_tables.specs.Script.{head_text, node_text}
 use Rattle.cc_tables.proofs.VisitedTables.{script_of_visits}
-use Rattle.cc_visits.specs.Visits.{joined, table_visits}
+use Rattle.cc_generator.specs.Visits.{joined, table_visits}
 use Rattle.cc_tables.proofs.tables.write_tables.Goals as goal
 
 pub returns : goal.returns
