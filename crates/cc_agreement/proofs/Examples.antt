@@ -1,4 +1,4 @@
--- Where the cases of a small tree's script lead.
+-- The labels to which the cases of a small tree's script lead.
 use Rattle.std.proofs.Common.{◌≡◌, ℕ, List, [], ◌∷◌, codes, refl}
 use Rattle.std.specs.Fmt.{digits}
 use Rattle.std.specs.Char.{encode_utf8}

@@ -1,4 +1,4 @@
--- What a call that writes the bash script and then completes a word does.
+-- The effects of a call that writes the bash script and then completes a word.
 use Rattle.std.proofs.Common.{◌≡◌, ◌∙◌, ap, sym, subst, inl, inr, ℕ, List, ◌++◌, Some}
 use Rattle.std.proofs.Common.{Result, Ok, Err, IfErr, IfOk, IsTrue, OnOk}
 use Rattle.cc_base.specs.declared.error.Error.{Error}

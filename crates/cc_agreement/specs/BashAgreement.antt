@@ -1,4 +1,4 @@
--- Where the cases of a bash script lead, and the candidates there.
+-- The label to which the cases of a bash script lead, and the candidates there.
 use Rattle.std.specs.Prelude.{◌≡◌, ◌⊎◌, ◌++◌, ℕ, List, [], false, get_or, Some, IsTrue}
 use Rattle.cc_base.specs.declared.error.Error.{Error}
 use Rattle.cc_base.specs.declared.error.Error.TheVariants.{LabelClash, Memory, NoCompletion, Write}
@@ -28,7 +28,7 @@ pub record BashLeadsTo (root : Tree) (words : List (List ℕ)) (tree : Tree) : T
       ≡ Some (path_node_arm root (walk (root_path_node root) words))
 
 -- The tree and the bin name are plain, and none of the words before the index is a hidden alias at
--- the command where it is read.
+-- the command that reads it.
 pub record ArePlain (root : Tree) (bin_name : List ℕ) (words : List (List ℕ)) (index : ℕ)
     : Type 0 where
   pub tree : IsTrue (is_plain_tree root)

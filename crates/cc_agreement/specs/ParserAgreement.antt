@@ -29,7 +29,7 @@ pub record IsLongTaken (tree : Tree) (app : App) (candidate : CompletionCandidat
   pub value : candidate.value ≡ codes "--" ++ name
   pub known : KnowsLong app name
 
--- likewise a short, after a dash or after the word
+-- the same of a short, after a dash or after the word
 pub record IsShortTaken (tree : Tree) (app : App) (candidate : CompletionCandidate) : Type 0 where
   pub argument : Arg
   pub there : Contains tree.node.arguments argument
@@ -45,7 +45,7 @@ IsTaken tree app values candidate =
     (KnowsChild app candidate.value ⊎ IsLongTaken tree app candidate)
     ⊎ (IsShortTaken tree app candidate ⊎ Contains values candidate)
 
--- what the word matches, where it is values
+-- the values among what the word matches
 abbrev pub match_values : OptionMatch → List CompletionCandidate → List CompletionCandidate
 match_values (Listed found) returned = []
 match_values (ValuesOf wanted) returned = match_candidates (ValuesOf wanted) returned
@@ -62,8 +62,8 @@ values_among tree state word returned =
     ++ opened_values state.pending word returned.opened))
 
 -- The words before the index lead to one node and one state, and to no others. The candidates are
--- some that may be offered there. Where that node is the root, the parser of the root takes each
--- of them.
+-- some that may be offered there. If that node is the root, the parser of the root takes each of
+-- them.
 pub record AgreesWithParser (sources : MayReturn) (root : Tree) (app : App) (words : List (List ℕ))
     (index : ℕ) (found : List CompletionCandidate) : Type 0 where
   pub tree : Tree

@@ -1,4 +1,4 @@
-//! Whether words are hidden aliases.
+//! A test for hidden aliases among words.
 
 ghost use Rattle.std.specs.Prelude.{◌≡◌, None, Some, if◌then◌else◌, map, string_bytes, unwrap_or};
 ghost use Rattle.std.specs.Option.{option_copied};
@@ -7,12 +7,12 @@ ghost use Rattle.cc_walk.specs.Visible.{has_no_hidden_alias, shows};
 
 use cc_command::{Command, contains_name};
 
-/// Whether none of the words is a hidden alias at the command where it is read. The words are read
-/// from this command on: each that names a child, by its name or an alias, leads to the child, and
-/// is a hidden alias where the child does not show it as a name.
+/// Returns whether none of `words` is a hidden alias at the command that reads it. The words are
+/// read from `command` on. A word that names a child, by its name or an alias, leads to the child.
+/// It is a hidden alias if the child does not show it as a name.
 ///
-/// Where none is, live completion goes down the tree by the names that scripts show. The command
-/// may be built or not. Allocates nothing.
+/// If none is, live completion goes down the tree by the names that scripts show. The command may
+/// be built or not. Allocates nothing.
 pub fn has_no_hidden_alias(command: &Command, words: &[String]) -> bool
     ensures { result ≡ has_no_hidden_alias command.now (map string_bytes words.now) }
 {
@@ -26,8 +26,8 @@ pub fn has_no_hidden_alias(command: &Command, words: &[String]) -> bool
     true
 }
 
-// The child that the word names, else the command itself. There is none where the child does not
-// show the word.
+// Returns the child that `word` names, or the command itself if it names none; `None` if the child
+// does not show the word.
 fn shown_step<'c>(command: &'c Command, word: &str) -> Option<&'c Command>
     ensures { option_copied result
         ≡ (if shows (find_child command.now.children word.now) word.now

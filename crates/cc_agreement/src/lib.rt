@@ -1,5 +1,18 @@
-//! Live completion agrees with what else is made of a command: with its bash script on the command
-//! that words lead to, and with its parser, which takes what is offered.
+//! Live completion agrees with a command's bash script on the command to which words lead, and with
+//! its parser, which accepts what is offered.
+//!
+//! ```rattle
+//! fn write<L: Lookup, W: Sink>(
+//!     alloc: Global,
+//!     command: &mut Command,
+//!     words: Vec<String>,
+//!     lookup: &L,
+//!     sink: &mut W,
+//! ) -> Result<Vec<CompletionCandidate>, Error> {
+//!     let bin_name = String::from_str(alloc, "app")?;
+//!     bash_script_and_candidates(alloc, command, bin_name, words, 1, lookup, sink)
+//! }
+//! ```
 #![tactic(auto)]
 
 mod hidden;

@@ -1,4 +1,4 @@
--- What is offered where the name of a tool is typed, and a program knows the names.
+-- The candidates for the name of a tool, in a program that knows the names.
 use Rattle.std.specs.Prelude.{◌≡◌, ℕ, ◌==◌, List, [], ◌∷◌, Bool, true, false, not, Some, codes}
 use Rattle.std.specs.Prelude.{filter, map, nat_eq}
 use Rattle.std.specs.List.{starts_with}

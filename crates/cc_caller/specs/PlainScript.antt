@@ -1,4 +1,4 @@
--- What a call that writes an Elvish script of plain commands alone does.
+-- The effects of a call that writes an Elvish script of plain commands alone.
 use Rattle.std.specs.Prelude.{◌≡◌, ℕ, List, ◌++◌, Bool, true, false, Some, Result, Ok, ⊤}
 use Rattle.clap_complete.specs.ElvishReader.{elvish_tables, offer_read}
 use Rattle.clap_complete.specs.ElvishScript.{elvish_script}

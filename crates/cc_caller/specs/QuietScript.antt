@@ -1,4 +1,4 @@
--- What a call that writes a bash script of plain commands with quiet values alone does.
+-- The effects of a call that writes a bash script of plain commands with quiet values alone.
 use Rattle.std.specs.Prelude.{◌≡◌, ℕ, List, ◌++◌, Bool, true, false, Some, Result, Ok, ⊤}
 use Rattle.clap_complete.specs.BashArms.{tree_arms}
 use Rattle.clap_complete.specs.BashCaseTable.{tree_cases}

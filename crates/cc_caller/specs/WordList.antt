@@ -14,7 +14,7 @@ line long = long_word long ++ codes "\n"
 abbrev pub word_list : Tree → List ℕ
 word_list tree = flat_map line (all_longs tree.node.arguments)
 
--- one byte more at the beginning of the first line, where there is a whole line
+-- one byte more at the beginning of the first line, if there is a whole line
 abbrev pub with_byte : ℕ → List (List ℕ) → List (List ℕ)
 with_byte byte [] = []
 with_byte byte (first ∷ lines) = (byte ∷ first) ∷ lines

@@ -13,11 +13,13 @@ use clap_complete::command::{Command, is_plain_name};
 use clap_complete::{Error, generate};
 use std::alloc::Global;
 
-/// Writes the bash script of a plain command with quiet possible values under a plain bin name, and
-/// returns whether it did: `Ok(false)` where the command or the name is not so, and then nothing is
-/// written.
+/// Writes the bash script of `command` under `bin_name` to `sink`, and returns `true`, if the command
+/// is plain, has quiet possible values, and the bin name is plain. Otherwise returns `false` and
+/// writes nothing.
 ///
-/// Fails with `Memory`, `Write` and `LabelClash` as `generate` does.
+/// # Errors
+///
+/// `Memory`, `Write` and `LabelClash`, as those of `generate`.
 pub fn write_bash_if_quiet<W: Sink>(
     alloc: Global,
     command: &mut Command,

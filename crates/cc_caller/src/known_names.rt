@@ -11,7 +11,7 @@ use clap_complete::engine::{
 };
 use std::alloc::{AllocError, Global};
 
-/// Completes with the names that begin with what is typed, in their order.
+/// A completer with the names that begin with the typed text, in their order.
 #[derive(Drop)]
 pub struct KnownNames {
     /// The names, in the order in which they are offered.
@@ -39,7 +39,7 @@ impl ValueCompleter for KnownNames {
     }
 }
 
-// `run` with an argument `tool`, whose values this completer returns.
+// Returns `run` with an argument `tool`, whose values the completer returns.
 fn runner(alloc: Global, completer: ArgValueCompleter) -> Result<Command, Error>
     ensures ok { IfOk result (λ command. command ≡ runner completer) }
     ensures memory { IfErr result (λ error. error ≡ Error.Memory) }
@@ -49,7 +49,11 @@ fn runner(alloc: Global, completer: ArgValueCompleter) -> Result<Command, Error>
     command.arg(tool)
 }
 
-/// What `run` offers for the word where the tool is typed. Fails with `Memory` alone.
+/// Returns what `run` offers for `word`, at which a tool is typed, if the tools have these `names`.
+///
+/// # Errors
+///
+/// `Memory` if an allocation fails.
 pub fn tools<D: Folder>(
     alloc: Global,
     names: Vec<String>,

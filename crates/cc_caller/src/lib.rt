@@ -1,6 +1,6 @@
-//! Callers of the library: two whose contracts say what the script that they write reads to, one
-//! whose contract says which names it completes a word with, some that compare its values, and a
-//! generator outside it.
+//! Proved callers of the library. The contracts of two promise that the scripts that they write read
+//! back. The contract of one lists the names with which it completes a word. Others compare values,
+//! and one is a generator outside the library.
 #![tactic(auto)]
 
 ghost use Rattle.std.specs.Prelude.{◌≡◌, ◌&&◌, IfOk, Some};
@@ -24,10 +24,12 @@ use clap_complete::command::{Command, is_plain_name};
 use clap_complete::{Error, generate};
 use std::alloc::Global;
 
-/// Writes the Elvish script of a plain command under a plain bin name, and returns whether it did:
-/// `Ok(false)` where one of them is not plain, and then nothing is written.
+/// Writes the Elvish script of `command` under `bin_name` to `sink`, and returns `true`, if both are
+/// plain. Otherwise returns `false` and writes nothing.
 ///
-/// Fails with `Memory` and `Write` as `generate` does.
+/// # Errors
+///
+/// `Memory` and `Write`, as those of `generate`.
 pub fn write_if_plain<W: Sink>(
     alloc: Global,
     command: &mut Command,

@@ -1,4 +1,4 @@
-//! The bash script of a command beside what live completion offers.
+//! The bash script of a command compared with live completion.
 
 use crate::checks::{holds, is, same};
 use crate::fixtures::tree;
@@ -10,7 +10,8 @@ use clap_complete::Error;
 use clap_complete::aot::{Bash, Collected, Sink};
 use clap_complete::command::Command;
 use clap_complete::engine::{
-    Completers, CompletionCandidate, MemoryFolder, bash_script_and_candidates, has_no_hidden_alias,
+    Completers, CompletionCandidate, MemoryFolder, Sources, bash_script_and_candidates,
+    has_no_hidden_alias,
 };
 use std::alloc::{AllocError, Global};
 use std::fmt::Write;
@@ -47,7 +48,7 @@ fn a_hidden_alias_is_found_where_it_is_read(rt: HostRuntime) {
     has_none(&rt, CALLED, &["j", "--flag", "go"], false);
 }
 
-// What the call returns under the bin name `app`, without completers and folders.
+// Returns what the call returns under the bin name `app`, without completers and folders.
 fn call<W: Sink>(
     alloc: Global,
     command: &mut Command,
@@ -58,20 +59,15 @@ fn call<W: Sink>(
     let bin_name = String::from_str(alloc, "app")?;
     let folder = MemoryFolder::new(&[], &[]);
     let completers = Completers::none(alloc);
-    bash_script_and_candidates(
-        alloc,
-        command,
-        bin_name,
-        words,
-        index,
-        None,
-        &folder,
-        &completers,
-        sink,
-    )
+    let sources = Sources {
+        current_dir: None,
+        folder: &folder,
+        completers: &completers,
+    };
+    bash_script_and_candidates(alloc, command, bin_name, words, index, &sources, sink)
 }
 
-// What is set by the first case of a script for this label and word, and else the label itself.
+// Returns what the first case of a script sets for this label and word, or else the label itself.
 fn label_after<'a>(
     alloc: Global,
     script: &'a str,
@@ -97,7 +93,7 @@ fn label_at<'a>(alloc: Global, script: &'a str, words: &[&str]) -> Result<&'a st
     Ok(label)
 }
 
-// The words that the arm of a label offers; nothing where it has no arm.
+// Returns the words that the arm of a label offers; nothing if it has no arm.
 fn words_at<'a>(alloc: Global, script: &'a str, label: &str) -> Result<&'a str, AllocError> {
     let arm = format!(in alloc; "\n        {label})\n            opts=\"")?;
     let Some((_, rest)) = script.split_once(arm.as_str()) else {
@@ -180,7 +176,7 @@ fn a_hidden_alias_leads_the_candidates_alone(rt: HostRuntime) {
     leads(&rt, &["go"], false, "app: run r; job --out");
 }
 
-// Whether the call fails so, and how much it writes.
+// Checks that the call fails so, and how much it writes.
 fn failure<R: Abort + AllocGlobal>(rt: &R, text: &str, index: usize) -> (Option<Error>, usize) {
     let mut command = tree(rt, text);
     let mut sink = Collected::new(rt.alloc());

@@ -1,4 +1,4 @@
-//! What the completer of `cc_caller` offers.
+//! The candidates of the completer of `cc_caller`.
 
 use crate::checks::is;
 use cc_caller::tools;

@@ -11,13 +11,13 @@ use clap_complete::describe::{
     with_child,
 };
 use clap_complete::engine::{
-    ArgValueCompleter, Completers, CompletionCandidate, MemoryFolder, complete,
+    ArgValueCompleter, Completers, CompletionCandidate, MemoryFolder, Sources, complete,
 };
 use clap_complete::parser::{candidates_and_parser, parser};
 use std::alloc::{AllocError, Global};
 use std::fmt::Write;
 
-// Each call of `describe` stands once in this tree.
+// A tree that uses each call of `describe` once.
 fn app(alloc: Global) -> Result<Command, Error> {
     let colors = [
         ("auto", "Where the output is a terminal"),
@@ -59,7 +59,7 @@ fn values(alloc: Global, found: &[CompletionCandidate]) -> Result<String, AllocE
     Ok(values)
 }
 
-// What is offered for the last of these words.
+// Returns what is offered for the last of these words.
 fn offered(alloc: Global, words: &[&str]) -> Result<String, Error> {
     let mut app = app(alloc)?;
     let index = words.len().saturating_sub(1);
@@ -165,16 +165,12 @@ fn both_of(
     let store = Bump::new(alloc);
     let folder = MemoryFolder::new(&[], &[]);
     let completers = Completers::none(alloc);
-    let (found, parser, built) = candidates_and_parser(
-        alloc,
-        &store,
-        app,
-        words,
-        1,
-        None,
-        &folder,
-        &completers,
-    )?;
+    let sources = Sources {
+        current_dir: None,
+        folder: &folder,
+        completers: &completers,
+    };
+    let (found, parser, built) = candidates_and_parser(alloc, &store, app, words, 1, &sources)?;
     let offered = values(alloc, found.as_slice())?;
     let taken = taken(alloc, parser.try_get_matches_from(line))?;
     let name = built.get_name();

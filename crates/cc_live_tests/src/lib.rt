@@ -1,5 +1,5 @@
-//! Tests of live completion: what is offered for a word, and what a program writes where its shell
-//! wants a registration or a reply.
+//! Tests of live completion: the candidates for a word, and what a program writes if its shell
+//! requests a registration or a reply.
 #![tactic(auto)]
 
 #[cfg(test)]

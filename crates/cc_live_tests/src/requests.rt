@@ -1,4 +1,4 @@
-//! Tests of what a program writes where its environment asks for a completion.
+//! Tests of what a program writes if its environment requests a completion.
 
 mod refusals;
 mod registrations;

@@ -8,10 +8,11 @@ use cc_paths::{Folder, RealFolder};
 use cc_replies::{EnvValues, home, variables};
 use complgen_commands::{Refusal, error_refusal};
 use complgen_live::{
-    OWN_TREE, command_name, known_names, reply, request_words, tree_folders, tree_paths,
-    write_registrations,
+    BadTree, OWN_TREE, ReplyError, command_name, known_names, reply, request_words, tree_folders,
+    tree_paths, write_registrations,
 };
 use std::alloc::{AllocError, Global};
+use std::borrow::CowStr;
 use std::convert::AsStr;
 use std::env::{self, Env};
 use std::rt::Files;
@@ -68,7 +69,7 @@ fn print<R: Env + Files + Print + Eprint + AllocGlobal, D: Folder>(
     match write_requested(rt, env, words, folders, folder, &mut out) {
         Ok(true) => flush(&mut out),
         Ok(false) => Err(Refusal::from_static(1, "")),
-        Err(error) => Err(error_refusal(rt.alloc(), &error)),
+        Err(refusal) => Err(refusal),
     }
 }
 
@@ -81,20 +82,44 @@ fn write_requested<R: Env + Files + Eprint + AllocGlobal, D: Folder, W: Sink>(
     folders: &[String],
     folder: &D,
     out: &mut W,
-) -> Result<bool, Error> {
-    let alloc = rt.alloc();
+) -> Result<bool, Refusal> {
     let current = env::current_dir(rt).ok();
     let current_dir = current.as_ref().map(|path| path.as_str());
     let called = request_words(words.as_slice()).and_then(|words| words.first());
     let Some(word) = called else {
         let program = words.first().map_or("complgen", |program| program.as_str());
-        write_known(rt, env, program, current_dir, folder, folders, out)?;
-        return Ok(true);
+        return match write_known(rt, env, program, current_dir, folder, folders, out) {
+            Ok(()) => Ok(true),
+            Err(error) => Err(error_refusal(rt.alloc(), &error)),
+        };
     };
     let file = tree_file(rt, folders, word.as_str())?;
     let bytes = file.bytes.as_ref().map(Vec::as_slice);
-    let path = file.path.as_str();
-    reply(alloc, env, words, path, bytes, current_dir, folder, out)
+    match reply(rt.alloc(), env, words, bytes, current_dir, folder, out) {
+        Ok(written) => Ok(written),
+        Err(error) => Err(reply_refusal(rt.alloc(), file.path.as_str(), &error)),
+    }
+}
+
+// Returns what is printed if there is no reply, over the tree file at `path`.
+fn reply_refusal(alloc: Global, path: &str, error: &ReplyError) -> Refusal {
+    match error {
+        ReplyError::Library(error) => error_refusal(alloc, error),
+        ReplyError::Tree(problem) => match tree_line(alloc, path, *problem) {
+            Ok(text) => Refusal {
+                status: 1,
+                text: CowStr::Owned(text),
+            },
+            Err(failed) => Refusal::from(failed),
+        },
+    }
+}
+
+// Returns the message for the tree file at `path` as a line.
+fn tree_line(alloc: Global, path: &str, problem: BadTree) -> Result<String, AllocError> {
+    let mut line = problem.message(alloc, path)?.into_string();
+    line.push_str("\n")?;
+    Ok(line)
 }
 
 fn write_known<R: Eprint + AllocGlobal, D: Folder, W: Sink>(

@@ -1,4 +1,4 @@
--- What was handed in of a folder, and what is said of paths by it.
+-- The parts of a folder that the caller passes, and the facts about paths that follow.
 use Rattle.std.specs.Prelude.{◌≡◌, ℕ, Bool, List, Option, Some, map, string_bytes}
 use Rattle.std.specs.Borrow.{Bor}
 use Rattle.std.specs.BTreeSet.{keys}
@@ -23,9 +23,9 @@ handed slices = map (λ slice. slice.now) slices
 abbrev pub is_among : List (List ℕ) → List ℕ → Bool
 is_among paths path = list_any (bytes_eq path) paths
 
--- What is said of paths: the names are those that were handed in, and are those in that folder
--- alone; a path is a folder's where it is among the folders, a file's and an executable file's
--- where it is among the files.
+-- The facts about paths. Only the folder at the listing's path has names, and these are the
+-- listing's. A path is that of a folder if it is among the folders, and that of a file and of an
+-- executable file if it is among the files.
 abbrev pub facts_of : Listing → Option (List ℕ) → FolderFacts
 facts_of listing home = record {
   names = λ path names. (path ≡ listing.path) × (names ≡ Some listing.names);

@@ -1,15 +1,15 @@
--- How a live request in memory ends, where no write fails.
-use Rattle.std.specs.Prelude.{◌≡◌, ⊤, ℕ, Bool, true, false, List, [], Option, Some, Result, Ok, Err, codes}
-use Rattle.cc_base.specs.Sink.{none_failed}
-use Rattle.cc_base.specs.declared.error.Error.{Error}
-use Rattle.cc_base.specs.declared.error.Error.TheVariants as error
+-- The ends of a live request.
+use Rattle.std.specs.Prelude.{◌≡◌, ◌≢◌, ℕ, List, Option, None, Some, Result, Ok, Err, codes}
+use Rattle.cc_base.specs.declared.error.Error.TheVariants.{Memory}
 use Rattle.cc_engine.specs.Paths.{PathsOf}
 use Rattle.cc_paths.specs.Folders.{FolderFacts}
 use Rattle.cc_replies.specs.Environment.{value_of}
 use Rattle.cc_replies.specs.declared.environment.EnvValues.{EnvValues}
 use Rattle.complgen_commands.specs.Refusals.{IsOutOfMemory, IsRefusal}
 use Rattle.complgen_commands.specs.declared.refusals.Refusal.{Refusal}
-use Rattle.complgen_live.specs.Replies.{EndsReply}
+use Rattle.complgen_live.specs.Replies.{MakesReply as ReplyMade}
+use Rattle.complgen_live.specs.declared.reply_errors.ReplyError.{ReplyError}
+use Rattle.complgen_live.specs.declared.reply_errors.ReplyError.TheVariants.{Library, Tree}
 use Rattle.complgen_commands.specs.Refusals.{Reports}
 use Rattle.complgen_c.specs.Listings.{Listing, facts_of}
 use Rattle.complgen_c.specs.Requests.{HoldsVariables, NotUtf8Texts}
@@ -24,41 +24,32 @@ home_name = codes "HOME"
 abbrev pub current_dir : EnvValues → Option (List ℕ)
 current_dir env = value_of (codes "PWD") env
 
--- how replying to a request ends, as `complgen` does it, over what is said of paths, where all that
--- is written is this text and no write fails
-abbrev pub RepliesWithText : List ℕ → List (List ℕ) → EnvValues → FolderFacts → List ℕ
-    → Result Bool Error → Type 0
-RepliesWithText tree words env facts text result =
-    EndsReply (λ written. written) (λ written. none_failed) env (current_dir env)
-    (PathsOf facts (current_dir env)) words [] [] text (Some tree) result
-
 -- the line where the tree file describes no command
 abbrev pub no_command_line : List ℕ
 no_command_line = codes "tree: describes no command\n"
 
 -- what an error of the reply prints
-abbrev pub ReportsReply : Error → Refusal → Type 0
-ReportsReply (error.Write kind) refusal = IsOutOfMemory refusal
-ReportsReply (error.InvalidVariant text) refusal = IsRefusal no_command_line refusal
-ReportsReply error refusal = Reports error refusal
+abbrev pub ReportsReply : ReplyError → Refusal → Type 0
+ReportsReply (Tree problem) refusal = IsRefusal no_command_line refusal
+ReportsReply (Library error) refusal = Reports error refusal
 
--- How the call ends, by what the reply returns and the text that is written: the text is made; none
--- is requested; or there is none, and the message says why, or a folder is wanted, of which no
--- clause can say which it is.
-abbrev pub EndsBy : Result Bool Error → List ℕ → Outcome → Type 0
-EndsBy (Ok true) text outcome = outcome ≡ Made text
-EndsBy (Ok false) text outcome = outcome ≡ NotRequested
-EndsBy (Err error) text (Failed refusal) = ReportsReply error refusal
-EndsBy (Err error) text (WantsFolder path) = ⊤
-EndsBy (Err error) text _ = ⊥
+-- The ends of the call, by the path of the folder that the caller passed, and by the reply. The
+-- text is made; nothing is requested; or a message explains why there is no text. After the error of
+-- memory alone, the call may instead ask for another folder. No clause can say for which one.
+abbrev pub EndsBy : List ℕ → Result (Option (List ℕ)) ReplyError → Outcome → Type 0
+EndsBy listed (Ok (Some text)) outcome = outcome ≡ Made text
+EndsBy listed (Ok None) outcome = outcome ≡ NotRequested
+EndsBy listed (Err error) (Failed refusal) = ReportsReply error refusal
+EndsBy listed (Err (Library Memory)) (WantsFolder path) = path ≢ listed
+EndsBy listed (Err error) _ = ⊥
 
--- the call ends so by what the reply may return
+-- the call ends so after a reply that `complgen` may make, over these facts about paths
 pub record RepliesOver (tree : List ℕ) (words : List (List ℕ)) (env : EnvValues)
-    (facts : FolderFacts) (outcome : Outcome) : Type 0 where
-  pub text : List ℕ
-  pub result : Result Bool Error
-  pub replies : RepliesWithText tree words env facts text result
-  pub ends : EndsBy result text outcome
+    (facts : FolderFacts) (listed : List ℕ) (outcome : Outcome) : Type 0 where
+  pub result : Result (Option (List ℕ)) ReplyError
+  pub replies : ReplyMade env (current_dir env) (PathsOf facts (current_dir env)) words (Some tree)
+      result
+  pub ends : EndsBy listed result outcome
 
 -- how the call ends, of a tree file, words, variables and a listing
 pub data MakesReply (tree : List ℕ) (words variables : List (List ℕ)) (listing : Listing)
@@ -69,7 +60,7 @@ pub data MakesReply (tree : List ℕ) (words variables : List (List ℕ)) (listi
   -- out of memory before there is a request
   out_of_memory : (refusal : Refusal) → IsOutOfMemory refusal
       → MakesReply tree words variables listing (Failed refusal)
-  -- the reply, in the folder that was handed in and no other
+  -- the reply, in the folder that the caller passed and no other
   replied : (env : EnvValues) (outcome : Outcome) → HoldsVariables variables env
-      → RepliesOver tree words env (facts_of listing (value_of home_name env)) outcome
+      → RepliesOver tree words env (facts_of listing (value_of home_name env)) listing.path outcome
       → MakesReply tree words variables listing outcome

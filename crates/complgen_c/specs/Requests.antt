@@ -1,4 +1,4 @@
--- A request as texts, of bytes that were handed in.
+-- A request as texts, from the bytes that the caller passes.
 use Rattle.std.specs.Prelude.{◌≡◌, ℕ, List, [], ◌∷◌, Option, None, Some, String, Vec, map, string_bytes}
 use Rattle.std.specs.declared.alloc.Global.{Global}
 use Rattle.std.specs.List.{All}

@@ -1,4 +1,4 @@
--- How making a script in memory ends, where no write fails.
+-- The ends of making a script in memory, if no write fails.
 use Rattle.std.specs.Prelude.{ℕ, List, [], Some, Result, Ok, Err}
 use Rattle.std.specs.Str.{IsUtf8}
 use Rattle.cc_base.specs.Sink.{none_failed}

@@ -1,4 +1,4 @@
-//! A folder whose names were handed in.
+//! A folder whose names the caller passes.
 
 ghost use Rattle.std.specs.Prelude.{◌≡◌, ℕ, List, IfOk, map, string_bytes};
 ghost use Rattle.std.specs.BTreeSet.{keys};
@@ -26,8 +26,12 @@ pub struct Listed<'l, 'h> {
 }
 
 impl<'l, 'h> Listed<'l, 'h> {
-    /// The folder of a path, with the names in it, the paths of folders and of files, and the home
-    /// folder of the user. Fails where memory runs out.
+    /// Returns the folder at `path`, with the names in it, the paths of folders and of files, and the
+    /// home directory of the user.
+    ///
+    /// # Errors
+    ///
+    /// `AllocError` if an allocation fails.
     pub(crate) fn new(
         alloc: Global,
         path: &'l [u8],
@@ -55,8 +59,15 @@ impl<'l, 'h> Listed<'l, 'h> {
         })
     }
 
-    /// The path of the folder whose names were asked for and are not there. No clause can say which
-    /// it is, since a cell hides what it holds.
+    /// Returns the path of the folder.
+    pub(crate) fn path(&self) -> &'l [u8]
+        ensures { result.now ≡ self.now.path.now }
+    {
+        self.path
+    }
+
+    /// Returns the path of the folder whose names were asked for and are not there. No clause can
+    /// say which it is, since a cell hides what it holds.
     pub(crate) fn into_wanted(self) -> Option<Text> {
         self.wanted.into_inner()
     }
@@ -65,8 +76,9 @@ impl<'l, 'h> Listed<'l, 'h> {
 impl<'l, 'h> Folder for Listed<'l, 'h> {
     ghost facts = { λ folder. facts_of (listing_of folder) (option_copied folder.home) };
 
-    // The names of another folder are wanted, and then there is no reply: no error says that, so it
-    // is the one that ends the whole call.
+    // The names of another folder are wanted, and there is no reply without them. Of the errors of a
+    // folder `Memory` is the one that ends the whole call, so it is returned here. The outcome
+    // tells it from memory that ran out by the path that was noted.
     fn names(&self, alloc: Global, path: &str) -> Result<Vec<String>, FolderError> {
         if self.path == path.as_bytes() {
             return Ok(self.names.clone()?);
@@ -92,7 +104,7 @@ impl<'l, 'h> Folder for Listed<'l, 'h> {
     }
 }
 
-// The paths, among which one is found by halves.
+// Collects the paths into a set for fast lookup.
 fn path_set<'p>(alloc: Global, paths: &[&'p [u8]]) -> Result<BTreeSet<&'p [u8]>, AllocError>
     ensures { IfOk result (λ set. (path : List ℕ) →
         is_among (handed (keys set)) path ≡ is_among (handed paths.now) path) }

@@ -1,9 +1,11 @@
-//! Live requests.
+//! Live requests, by a function over bytes.
 
-ghost use Rattle.std.specs.Prelude.{[], map, string_bytes};
+ghost use Rattle.std.specs.Prelude.{Err, map, string_bytes};
 ghost use Rattle.std.specs.Option.{option_copied};
-ghost use Rattle.cc_base.specs.Collected.{collected_bytes};
+ghost use Rattle.cc_base.specs.declared.error.Error.TheVariants.{Memory};
 ghost use Rattle.cc_replies.specs.Environment.{value_of};
+ghost use Rattle.complgen_live.specs.Replies.{made_text};
+ghost use Rattle.complgen_live.specs.declared.reply_errors.ReplyError.TheVariants.{Library};
 ghost use Rattle.complgen_c.specs.Listings.{facts_of, handed, listing_of};
 ghost use Rattle.complgen_c.specs.Live.{EndsBy, MakesReply, RepliesOver, ReportsReply, home_name};
 ghost use Rattle.complgen_c.specs.Outcomes.{EndsAs};
@@ -14,7 +16,7 @@ use crate::requests::{Request, read_request};
 use cc_base::{Collected, Error, Items, Text};
 use cc_replies::EnvValues;
 use complgen_commands::{Refusal, error_refusal};
-use complgen_live::reply;
+use complgen_live::{ReplyError, reply_text};
 use std::alloc::{AllocError, Global};
 
 // The variable with the path of the user's home folder.
@@ -23,28 +25,32 @@ const HOME: &str = "HOME";
 // The variable with the path where relative paths begin.
 const CURRENT_DIR: &str = "PWD";
 
-// The path of the tree file, which has none: where it describes no command the message is another.
-const NO_PATH: &str = "";
-
+// The message for a tree file that describes no command.
 const NO_COMMAND: &str = "tree: describes no command\n";
 
 /// Makes what a shell requests of a program with the command in a tree file: the registration, or
-/// the reply with the candidates. Returns the length of its text, which is put at the start of the
-/// room where it fits there; else the room is left as it was, and the call can be made again with
-/// more room. Any bytes may be passed.
+/// the reply with the candidates. Returns the length of its text, which is put at the start of
+/// `room` if it fits there. Otherwise `room` is left as it was, and you can call again with more
+/// room. You may pass any bytes.
 ///
 /// `words` are the program's arguments, its name first. `variables` are names and values in turn:
-/// `COMPLETE` requests, by the name of the shell, with `_COMPLGEN_VALUES`, `_COMPLGEN_KEPT` and
-/// `_COMPLGEN_QUOTE` as the registration sets them, or with `_CLAP_COMPLETE_INDEX` and `_CLAP_IFS`
-/// as registrations of the original's form do; `HOME` is the user's home folder and `PWD` the folder where relative
-/// paths begin. `names` are those in the folder of the path `listed`, none where it can't be read;
-/// `folders` and `files` are paths of folders and of files, of that folder itself and of its names,
-/// each joined to `listed` by one slash. What is not among them is neither.
 ///
-/// The status is 0; or 1, and the text is a message, which ends in a line feed; or 2, where a word,
-/// a variable or a name is not UTF-8, and there is no text; or 3, where nothing is requested, and
-/// there is no text; or 4, and the text is the path of another folder, whose names are wanted: the
-/// call is then made again with these.
+/// - `COMPLETE` requests, by the name of the shell, with `_COMPLGEN_VALUES`, `_COMPLGEN_KEPT` and
+///   `_COMPLGEN_QUOTE` as the registration sets them, or with `_CLAP_COMPLETE_INDEX` and
+///   `_CLAP_IFS` as registrations of the original's form do.
+/// - `HOME` is the user's home directory, and `PWD` the directory where relative paths begin.
+///
+/// `names` are those in the folder at the path `listed`, none if it can't be read. `folders` and
+/// `files` are paths of folders and of files: of that folder itself and of its names, each joined
+/// to `listed` by one slash. Any other path is neither.
+///
+/// The `status` is:
+///
+/// - 0: the text is made.
+/// - 1: the text is a message, which ends in a line feed.
+/// - 2: a word, a variable or a name is not UTF-8, and there is no text.
+/// - 3: nothing is requested, and there is no text.
+/// - 4: the text is the path of another folder, whose names are wanted. Call again with these.
 #[unsafe(no_mangle)]
 pub extern "C" fn lagvtsune_live(
     alloc: Global,
@@ -65,34 +71,16 @@ pub extern "C" fn lagvtsune_live(
       files = handed files.now;
     })) room.old room.new status.new result }
 {
-    make_reply(alloc, tree, words, variables, listed, names, folders, files).put(room, status)
-}
-
-fn make_reply<'r>(
-    alloc: Global,
-    tree: &[u8],
-    words: &[&[u8]],
-    variables: &[&[u8]],
-    listed: &'r [u8],
-    names: &[&[u8]],
-    folders: &[&'r [u8]],
-    files: &[&'r [u8]],
-) -> Outcome
-    ensures { MakesReply tree.now (handed words.now) (handed variables.now) (record {
-      path = listed.now;
-      names = handed names.now;
-      folders = handed folders.now;
-      files = handed files.now;
-    }) result }
-{
     match read_request(alloc, words, variables, names) {
-        Ok(Some(request)) => reply_to(alloc, tree, request, listed, folders, files),
-        Ok(None) => Outcome::NotUtf8,
-        Err(failed) => Outcome::Failed(Refusal::from(failed)),
+        Ok(Some(request)) => {
+            reply_to(alloc, tree, request, listed, folders, files).put(room, status)
+        }
+        Ok(None) => Outcome::NotUtf8.put(room, status),
+        Err(failed) => Outcome::Failed(Refusal::from(failed)).put(room, status),
     }
 }
 
-// The reply to a request, over the folder that was handed in with its names.
+// Returns the outcome of a request, over the folder that was passed with its names.
 fn reply_to<'r>(
     alloc: Global,
     tree: &[u8],
@@ -107,7 +95,7 @@ fn reply_to<'r>(
           names = map string_bytes request.names.items;
           folders = handed folders.now;
           files = handed files.now;
-        }) (value_of home_name request.env)) result }
+        }) (value_of home_name request.env)) listed.now result }
 {
     let Request { words, env, names } = request;
     match Listed::new(alloc, listed, names, folders, files, env.get(HOME)) {
@@ -116,7 +104,7 @@ fn reply_to<'r>(
     }
 }
 
-// The reply in a folder, in memory.
+// Returns the outcome of a request in a folder.
 fn reply_in(
     alloc: Global,
     tree: &[u8],
@@ -125,57 +113,54 @@ fn reply_in(
     folder: Listed<'_, '_>,
 ) -> Outcome
     ensures { RepliesOver tree.now (map string_bytes words.items) env.now
-        (facts_of (listing_of folder.entry) (option_copied folder.entry.home)) result }
+        (facts_of (listing_of folder.entry) (option_copied folder.entry.home))
+        folder.entry.path.now result }
 {
-    let mut sink = Collected::new(alloc);
     let current_dir = env.get(CURRENT_DIR);
-    let replied = reply(
-        alloc,
-        env,
-        words,
-        NO_PATH,
-        Some(tree),
-        current_dir,
-        &folder,
-        &mut sink,
-    );
-    outcome(alloc, replied, folder.into_wanted(), sink)
+    let replied = reply_text(alloc, env, words, Some(tree), current_dir, &folder);
+    let path = folder.path();
+    outcome(alloc, replied, path, folder.into_wanted())
 }
 
-// How the call ends, by what the reply returned, the folder that it wants and what it wrote.
+// Returns how the call ends, by the reply, the path of the folder that was passed, and that of the
+// folder whose names the reply needs instead.
 fn outcome(
     alloc: Global,
-    replied: Result<bool, Error>,
+    replied: Result<Option<Collected>, ReplyError>,
+    listed: &[u8],
     wanted: Option<Text>,
-    sink: Collected,
 ) -> Outcome
-    ensures { EndsBy replied (collected_bytes sink) result }
+    ensures { EndsBy listed.now (made_text replied) result }
 {
     match replied {
-        Ok(true) => Outcome::Made(Items::from(sink.into_vec())),
-        Ok(false) => Outcome::NotRequested,
-        Err(error) => without_reply(alloc, &error, wanted),
+        Ok(Some(text)) => Outcome::Made(Items::from(text.into_vec())),
+        Ok(None) => Outcome::NotRequested,
+        Err(ReplyError::Library(Error::Memory)) => out_of_memory(listed, wanted),
+        Err(error) => Outcome::Failed(reply_refusal(alloc, &error)),
     }
 }
 
-// How the call ends where the reply fails.
-fn without_reply(alloc: Global, error: &Error, wanted: Option<Text>) -> Outcome
-    ensures { EndsBy (Err error.now) [] result }
+// Returns how the call ends if memory runs out, which is also how a folder ends it whose names are
+// not there.
+fn out_of_memory(listed: &[u8], wanted: Option<Text>) -> Outcome
+    ensures { EndsBy listed.now (Err (Library Memory)) result }
 {
-    match wanted {
-        Some(path) => Outcome::WantsFolder(path),
-        None => Outcome::Failed(reply_refusal(alloc, error)),
+    let Some(path) = wanted else {
+        return Outcome::Failed(Refusal::from(AllocError));
+    };
+    if path.as_str().as_bytes() == listed {
+        return Outcome::Failed(Refusal::from(AllocError));
     }
+    Outcome::WantsFolder(path)
 }
 
-// What is said of an error of the reply. A put into memory that failed is out of memory; and there
-// is no path of the tree file that a message could name.
-fn reply_refusal(alloc: Global, error: &Error) -> Refusal
+// Returns what is said of an error of the reply. The tree file has no path that a message could
+// name.
+fn reply_refusal(alloc: Global, error: &ReplyError) -> Refusal
     ensures { ReportsReply error.now result }
 {
     match error {
-        Error::Write(_) => Refusal::from(AllocError),
-        Error::InvalidVariant(_) => Refusal::from_static(1, NO_COMMAND),
-        _ => error_refusal(alloc, error),
+        ReplyError::Tree(_) => Refusal::from_static(1, NO_COMMAND),
+        ReplyError::Library(error) => error_refusal(alloc, error),
     }
 }

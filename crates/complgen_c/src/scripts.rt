@@ -1,4 +1,4 @@
-//! Scripts.
+//! Scripts, by a function over bytes.
 
 ghost use Rattle.std.specs.Prelude.{◌≡◌};
 ghost use Rattle.cc_base.specs.Collected.{collected_failures};
@@ -10,12 +10,16 @@ use cc_base::{Collected, Items, Sink};
 use complgen_commands::{Refusal, script};
 use std::alloc::{AllocError, Global};
 
-/// Makes the script for the shell of this name of the command in a tree file, under the bin name,
-/// and returns the length of its text. The text is put at the start of the room where it fits
-/// there; else the room is left as it was, and the call can be made again with more room.
+/// Makes the script for the shell with the name `shell`, of the command in the tree file `tree`,
+/// under the bin name `bin`. Returns the length of its text, which is put at the start of `room` if
+/// it fits there. Otherwise `room` is left as it was, and you can call again with more room. You may
+/// pass any bytes.
 ///
-/// The status is 0; or 1, and the text is a message, which ends in a line feed; or 2, where the
-/// name of the shell or the bin name is not UTF-8, and there is no text. Any bytes may be passed.
+/// The `status` is:
+///
+/// - 0: the text is the script.
+/// - 1: the text is a message, which ends in a line feed.
+/// - 2: `shell` or `bin` is not UTF-8, and there is no text.
 #[unsafe(no_mangle)]
 pub extern "C" fn lagvtsune_script(
     alloc: Global,
@@ -30,7 +34,7 @@ pub extern "C" fn lagvtsune_script(
     make_script(alloc, shell, bin, tree).put(room, status)
 }
 
-// The script, in memory.
+// Makes the script in memory.
 fn make_script(alloc: Global, shell: &[u8], bin: &[u8], tree: &[u8]) -> Outcome
     ensures { MakesScript shell.now bin.now tree.now result }
 {
@@ -44,7 +48,7 @@ fn make_script(alloc: Global, shell: &[u8], bin: &[u8], tree: &[u8]) -> Outcome
     }
 }
 
-// A put into memory that failed is out of memory.
+// Returns the refusal, or that memory ran out if a put into memory failed.
 fn in_memory(refusal: Refusal, sink: &Collected) -> Refusal
     ensures { FailsInMemory (collected_failures sink.now) (λ made. made ≡ refusal) result }
 {

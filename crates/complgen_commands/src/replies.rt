@@ -16,10 +16,15 @@ use cc_paths::Folder;
 use cc_replies::write_lines;
 use std::alloc::{AllocError, Global};
 
-// The folder that relative paths start from.
+// The directory where relative paths begin.
 const CURRENT_DIR: &str = ".";
 
-/// Writes the candidates for the word at the index, as the reply to fish.
+/// Writes the candidates for the word at `index`, of the command in the tree file `file`, as the
+/// reply to fish.
+///
+/// # Errors
+///
+/// The refusal of a file that describes no command, and of an error of `complete` or of `out`.
 pub(crate) fn reply<D: Folder, W: Sink>(
     alloc: Global,
     words: &[String],
@@ -53,7 +58,7 @@ fn copies(alloc: Global, words: &[String]) -> Result<Vec<String>, AllocError>
     Ok(copies)
 }
 
-// The candidates for the word at the index, without completers.
+// Returns the candidates for the word at `index`, without completers.
 fn candidates<D: Folder>(
     alloc: Global,
     mut command: Command,

@@ -4,9 +4,11 @@ use Rattle.std.specs.declared.io.ErrorKind.{ErrorKind}
 use Rattle.cc_env.specs.SafeShells.{all_safe, safe_spec}
 use Rattle.cc_env.specs.declared.safe_shell.SafeShell.{SafeShell}
 use Rattle.cc_arg.specs.declared.value_hint.ValueHint.{ValueHint}
+use Rattle.cc_base.specs.Collected.{collected_bytes}
 use Rattle.cc_base.specs.Sink.{add_failure}
+use Rattle.cc_base.specs.declared.collected.Collected.{Collected}
 use Rattle.cc_base.specs.declared.error.Error.{Error}
-use Rattle.cc_base.specs.declared.error.Error.TheVariants.{InvalidVariant, Memory, Write}
+use Rattle.cc_base.specs.declared.error.Error.TheVariants.{Memory, Write}
 use Rattle.cc_base.specs.declared.failures.Failures.{Failures}
 use Rattle.cc_candidates.specs.declared.candidate.CompletionCandidate.{CompletionCandidate}
 use Rattle.cc_command.specs.Tree.{Tree}
@@ -15,9 +17,12 @@ use Rattle.cc_env.specs.Wanted.{Wanted, IsUnknownShell, wanted_name, wanted_of, 
 use Rattle.cc_env.specs.Steps.{MakesText, names_of}
 use Rattle.cc_replies.specs.Environment.{value_of}
 use Rattle.cc_replies.specs.declared.environment.EnvValues.{EnvValues}
-use Rattle.complgen_tree_file.specs.TreeFile.{Describes, SpellsNone}
+use Rattle.complgen_tree_file.specs.TreeFile.{Describes}
 use Rattle.cc_gather.specs.Values.{MayReturn}
-use Rattle.complgen_live.specs.TreeErrors.{bad_form_text, not_json_text}
+use Rattle.complgen_live.specs.TreeErrors.{IsBad}
+use Rattle.complgen_live.specs.declared.reply_errors.BadTree.{BadTree}
+use Rattle.complgen_live.specs.declared.reply_errors.ReplyError.{ReplyError}
+use Rattle.complgen_live.specs.declared.reply_errors.ReplyError.TheVariants as failed
 
 -- the variable whose value names the shell
 abbrev pub variable : List ℕ
@@ -51,46 +56,55 @@ MakesFor env current Finds words shell tree result =
     MakesText (λ made. made ≡ Ok tree) (safe_spec shell) (names_of variable None None current)
     env (Completes (paths_alone Finds)) words result
 
--- How it ends, by what is requested and what the tree file holds: the command is the very one that
--- the bytes describe, and a text is begun only where it could be made whole.
-pub data EndsReply {S : Type 0} (taken : S → List ℕ) (failed : S → Failures) (env : EnvValues)
-    (current : Option (List ℕ)) (Finds : Paths) (words : List (List ℕ)) (path : List ℕ)
-    (old new : S) : Option (List ℕ) → Result Bool Error → Type 0 where
-  -- there is no tree file, and nothing is written
-  no_tree : new ≡ old
-      → EndsReply taken failed env current Finds words path old new None (Ok false)
-  -- nothing is requested, and nothing is written
-  no_request : (bytes : List ℕ) → requested env ≡ nothing → new ≡ old
-      → EndsReply taken failed env current Finds words path old new (Some bytes) (Ok false)
-  -- no shell has the name, and nothing is written
+-- How making the text ends, by what is requested and what the tree file holds: the command is the
+-- very one that the bytes describe.
+pub data MakesReply (env : EnvValues) (current : Option (List ℕ)) (Finds : Paths)
+    (words : List (List ℕ)) : Option (List ℕ) → Result (Option (List ℕ)) ReplyError → Type 0 where
+  -- there is no tree file
+  no_tree : MakesReply env current Finds words None (Ok None)
+  -- nothing is requested
+  no_request : (bytes : List ℕ) → requested env ≡ nothing
+      → MakesReply env current Finds words (Some bytes) (Ok None)
+  -- no shell has the name
   unknown_shell : (bytes name : List ℕ) (error : Error) → requested env ≡ unknown name
-      → IsUnknownShell shell_names name error → new ≡ old
-      → EndsReply taken failed env current Finds words path old new (Some bytes) (Err error)
-  -- the file is no JSON, and nothing is written
-  not_json : (bytes : List ℕ) → SpellsNone bytes → new ≡ old
-      → EndsReply taken failed env current Finds words path old new (Some bytes)
-      (Err (InvalidVariant (not_json_text path)))
-  -- its JSON describes no command, and nothing is written
-  bad_form : (bytes : List ℕ) → Describes bytes None → new ≡ old
-      → EndsReply taken failed env current Finds words path old new (Some bytes)
-      (Err (InvalidVariant (bad_form_text path)))
-  -- out of memory, and nothing is written
-  out_of_memory : (bytes : List ℕ) → new ≡ old
-      → EndsReply taken failed env current Finds words path old new (Some bytes) (Err Memory)
-  -- there is no text for the words, and nothing is written
+      → IsUnknownShell shell_names name error
+      → MakesReply env current Finds words (Some bytes) (Err (failed.Library error))
+  -- a shell requests it, and the file describes no command
+  bad_tree : (bytes : List ℕ) (shell : SafeShell) (problem : BadTree)
+      → requested env ≡ known shell → IsBad problem bytes
+      → MakesReply env current Finds words (Some bytes) (Err (failed.Tree problem))
+  -- out of memory
+  out_of_memory : (bytes : List ℕ)
+      → MakesReply env current Finds words (Some bytes) (Err (failed.Library Memory))
+  -- there is no text for the words
   no_text : (bytes : List ℕ) (tree : Tree) (shell : SafeShell) (error : Error)
       → requested env ≡ known shell → Describes bytes (Some tree)
-      → MakesFor env current Finds words shell tree (Err error) → new ≡ old
-      → EndsReply taken failed env current Finds words path old new (Some bytes) (Err error)
-  -- a write failed, which is counted with its kind
-  write_failed : (bytes text : List ℕ) (tree : Tree) (shell : SafeShell) (kind : ErrorKind)
-      → requested env ≡ known shell → Describes bytes (Some tree)
-      → MakesFor env current Finds words shell tree (Ok text)
-      → failed new ≡ add_failure kind (failed old)
-      → EndsReply taken failed env current Finds words path old new (Some bytes)
-      (Err (Write kind))
-  -- the text is written
-  written : (bytes text : List ℕ) (tree : Tree) (shell : SafeShell) → requested env ≡ known shell
+      → MakesFor env current Finds words shell tree (Err error)
+      → MakesReply env current Finds words (Some bytes) (Err (failed.Library error))
+  -- the text is made
+  made : (bytes text : List ℕ) (tree : Tree) (shell : SafeShell) → requested env ≡ known shell
       → Describes bytes (Some tree) → MakesFor env current Finds words shell tree (Ok text)
-      → taken new ≡ taken old ++ text → failed new ≡ failed old
-      → EndsReply taken failed env current Finds words path old new (Some bytes) (Ok true)
+      → MakesReply env current Finds words (Some bytes) (Ok (Some text))
+
+-- the bytes of a text that was made in memory, if there is one
+abbrev pub made_text : Result (Option Collected) ReplyError → Result (Option (List ℕ)) ReplyError
+made_text (Ok None) = Ok None
+made_text (Ok (Some text)) = Ok (Some (collected_bytes text))
+made_text (Err error) = Err error
+
+-- How writing it ends: a text is begun only if it could be made whole.
+pub data EndsReply {S : Type 0} (taken : S → List ℕ) (failures : S → Failures)
+    (Makes : Result (Option (List ℕ)) ReplyError → Type 0) (old new : S)
+    : Result Bool ReplyError → Type 0 where
+  -- there is no tree file or no request, and nothing is written
+  not_requested : Makes (Ok None) → new ≡ old → EndsReply taken failures Makes old new (Ok false)
+  -- there is no text, and nothing is written
+  not_made : (error : ReplyError) → Makes (Err error) → new ≡ old
+      → EndsReply taken failures Makes old new (Err error)
+  -- a write failed, which is counted with its kind
+  write_failed : (text : List ℕ) (kind : ErrorKind) → Makes (Ok (Some text))
+      → failures new ≡ add_failure kind (failures old)
+      → EndsReply taken failures Makes old new (Err (failed.Library (Write kind)))
+  -- the text is written
+  written : (text : List ℕ) → Makes (Ok (Some text)) → taken new ≡ taken old ++ text
+      → failures new ≡ failures old → EndsReply taken failures Makes old new (Ok true)

@@ -1,9 +1,12 @@
 -- What is printed of a tree file that describes no command.
-use Rattle.std.specs.Prelude.{◌≡◌, ◌⊎◌, ⊤, ◌++◌, ℕ, List, None, Some, Result, Ok, Err, codes}
-use Rattle.cc_base.specs.declared.error.Error.{Error}
-use Rattle.cc_base.specs.declared.error.Error.TheVariants.{InvalidVariant, Memory}
+use Rattle.std.specs.Prelude.{⊤, ◌++◌, ℕ, List, None, Some, Result, Ok, Err, codes}
+use Rattle.cc_base.specs.declared.error.Error.TheVariants.{Memory}
 use Rattle.cc_command.specs.Tree.{Tree}
 use Rattle.cc_base.specs.Shown.{on_one_line}
+use Rattle.complgen_live.specs.declared.reply_errors.BadTree.{BadTree}
+use Rattle.complgen_live.specs.declared.reply_errors.BadTree.TheVariants.{BadForm, NotJson}
+use Rattle.complgen_live.specs.declared.reply_errors.ReplyError.{ReplyError}
+use Rattle.complgen_live.specs.declared.reply_errors.ReplyError.TheVariants as failed
 use Rattle.complgen_tree_file.specs.TreeFile.{Describes, SpellsNone}
 
 -- before what is wrong, for a path as it is shown
@@ -20,14 +23,19 @@ bad_form_text path =
     ((about_tree (on_one_line path) ++ codes "bad form (run complgen check ") ++ on_one_line path)
     ++ codes ")"
 
--- the text says why these bytes, of the file at a path, describe no command
-abbrev pub SaysWhy : List ℕ → List ℕ → List ℕ → Type 0
-SaysWhy path bytes text = ((text ≡ not_json_text path) × SpellsNone bytes)
-    ⊎ ((text ≡ bad_form_text path) × Describes bytes None)
+-- the message for the file at a path
+abbrev pub bad_tree_text : BadTree → List ℕ → List ℕ
+bad_tree_text NotJson path = not_json_text path
+bad_tree_text BadForm path = bad_form_text path
 
--- the command that the bytes describe; or out of memory, or a text that says why there is none
-abbrev pub DescribedBy : List ℕ → List ℕ → Result Tree Error → Type 0
-DescribedBy path bytes (Ok tree) = Describes bytes (Some tree)
-DescribedBy path bytes (Err Memory) = ⊤
-DescribedBy path bytes (Err (InvalidVariant text)) = SaysWhy path bytes text
-DescribedBy path bytes (Err _) = ⊥
+-- this is wrong with the bytes of a file
+abbrev pub IsBad : BadTree → List ℕ → Type 0
+IsBad NotJson bytes = SpellsNone bytes
+IsBad BadForm bytes = Describes bytes None
+
+-- the command that the bytes describe; or out of memory, or what is wrong with them
+abbrev pub DescribedBy : List ℕ → Result Tree ReplyError → Type 0
+DescribedBy bytes (Ok tree) = Describes bytes (Some tree)
+DescribedBy bytes (Err (failed.Library Memory)) = ⊤
+DescribedBy bytes (Err (failed.Tree problem)) = IsBad problem bytes
+DescribedBy bytes (Err _) = ⊥

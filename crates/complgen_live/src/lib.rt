@@ -10,6 +10,7 @@ mod own_tree;
 mod plain_names;
 mod registrations;
 mod replies;
+mod reply_errors;
 mod requests;
 
 pub use crate::files::{command_name, tree_path, tree_paths, tree_stem};
@@ -18,5 +19,6 @@ pub use crate::known::{KnownNames, known_names};
 pub use crate::own_tree::OWN_TREE;
 pub use crate::plain_names::PlainNames;
 pub use crate::registrations::write_registrations;
-pub use crate::replies::reply;
+pub use crate::replies::{reply, reply_text};
+pub use crate::reply_errors::{BadTree, ReplyError};
 pub use crate::requests::{is_request, request_words};

@@ -1,106 +1,123 @@
 //! The reply to a request, over a tree file.
 
-ghost use Rattle.std.specs.Prelude.{◌≡◌, IfOk, map, string_bytes};
+ghost use Rattle.std.specs.Prelude.{map, string_bytes};
 ghost use Rattle.std.specs.Option.{option_copied};
 ghost use Rattle.cc_engine.specs.Paths.{PathsOf};
-ghost use Rattle.complgen_live.specs.Replies.{EndsReply};
-ghost use Rattle.complgen_live.specs.TreeErrors.{DescribedBy, about_tree, bad_form_text};
-ghost use Rattle.complgen_live.specs.TreeErrors.{not_json_text};
+ghost use Rattle.cc_env.specs.Steps.{made_bytes};
+ghost use Rattle.complgen_live.specs.Replies.{EndsReply, MakesFor, MakesReply, made_text};
+ghost use Rattle.complgen_live.specs.TreeErrors.{DescribedBy};
 
-use cc_base::{Error, Sink, Text, on_one_line};
+use crate::reply_errors::{BadTree, ReplyError};
+use cc_base::{Collected, Error, Sink, put_all};
 use cc_candidates::Completers;
 use cc_command::Command;
-use cc_env::CompleteEnv;
+use cc_engine::Sources;
+use cc_env::{SafeShell, ShellProgram, Shells, known_shell, wanted_name};
 use cc_paths::Folder;
 use cc_replies::EnvValues;
 use complgen_tree_file::{TreeError, read_tree};
-use std::alloc::{AllocError, Global};
+use std::alloc::Global;
 
-/// Writes the reply to a request for candidates, over the bytes of the tree file at a path; without
-/// a file nothing is written. Returns whether anything was. `words` are all those of this program:
-/// its name, a `--` and the words that are completed. `env`, `current_dir` and `folder` are as
-/// those of `CompleteEnv::try_complete`. Where no words follow the `--` the registration of the
-/// file's command is written.
+// The variable that requests a registration or a reply, by the name of a shell.
+const VARIABLE: &str = "COMPLETE";
+
+/// Writes to `out` what `reply_text` makes, and returns whether there is such a text. The text is
+/// made whole before any of it is written.
 ///
-/// Fails as `try_complete` does, and with `InvalidVariant` and a text that names the path where the
-/// file is not JSON or describes no command. Nothing is written where it fails, but for `Write`.
-pub fn reply<'f, D: Folder, W: Sink>(
+/// # Errors
+///
+/// Those of `reply_text`; nothing is written then. `Write` of the library if `out` fails, which may
+/// then hold part of the text.
+pub fn reply<D: Folder, W: Sink>(
     alloc: Global,
     env: &EnvValues,
     words: Vec<String>,
-    path: &'f str,
-    file: Option<&'f [u8]>,
+    file: Option<&[u8]>,
     current_dir: Option<&str>,
     folder: &D,
     out: &mut W,
-) -> Result<bool, Error>
-    ensures { EndsReply W.taken W.failed env.now (option_copied current_dir.entry)
+) -> Result<bool, ReplyError>
+    ensures { EndsReply W.taken W.failed (MakesReply env.now (option_copied current_dir.entry)
         (PathsOf (D.facts folder.now) (option_copied current_dir.entry))
-        (map string_bytes words.items) path.now out.old out.new (option_copied file.entry) result }
+        (map string_bytes words.items) (option_copied file.entry)) out.old out.new result }
 {
-    let Some(bytes) = file else {
+    let Some(text) = reply_text(alloc, env, words, file, current_dir, folder)? else {
         return Ok(false);
     };
+    put_all(out, text.as_slice())?;
+    Ok(true)
+}
+
+/// Returns the reply to a request for candidates, over the bytes of a tree file, or `None` without
+/// a file or a request. `words` are all those of this program: its name, a `--` and the words that
+/// are completed. If no words follow the `--`, the text is the registration of the command in the
+/// file. `env`, `current_dir` and `folder` are those of `CompleteEnv::try_complete`.
+///
+/// # Errors
+///
+/// `Tree` if the file is not JSON or describes no command, and otherwise `Library` with the error
+/// of `CompleteEnv::try_complete`, but never `Write`.
+pub fn reply_text<D: Folder>(
+    alloc: Global,
+    env: &EnvValues,
+    words: Vec<String>,
+    file: Option<&[u8]>,
+    current_dir: Option<&str>,
+    folder: &D,
+) -> Result<Option<Collected>, ReplyError>
+    ensures { MakesReply env.now (option_copied current_dir.entry)
+        (PathsOf (D.facts folder.now) (option_copied current_dir.entry))
+        (map string_bytes words.items) (option_copied file.entry) (made_text result) }
+{
+    let Some(bytes) = file else {
+        return Ok(None);
+    };
+    let Some(name) = wanted_name(env.get(VARIABLE)) else {
+        return Ok(None);
+    };
+    let shells = Shells::safe();
+    let shell = known_shell(alloc, &shells, name)?;
+    let command = described(alloc, bytes)?;
+    Ok(Some(text_for(alloc, shell, command, words, env, current_dir, folder)?))
+}
+
+// Returns the text for a shell and a command, without completers and lists.
+fn text_for<D: Folder>(
+    alloc: Global,
+    shell: &SafeShell,
+    command: Command,
+    words: Vec<String>,
+    env: &EnvValues,
+    current_dir: Option<&str>,
+    folder: &D,
+) -> Result<Collected, Error>
+    ensures { MakesFor env.now (option_copied current_dir.entry)
+        (PathsOf (D.facts folder.now) (option_copied current_dir.entry))
+        (map string_bytes words.items) shell.now command (made_bytes result) }
+{
     let completers = Completers::none(alloc);
-    let file = TreeFile { path, bytes };
-    CompleteEnv::safe(move |alloc: Global| described(alloc, file)).try_complete(
-        alloc,
-        words,
+    let sources = Sources {
         current_dir,
-        env,
         folder,
-        &completers,
-        out,
-    )
+        completers: &completers,
+    };
+    let program = ShellProgram {
+        shell,
+        variable: VARIABLE,
+        bin: None,
+        completer: None,
+    };
+    program.text(alloc, command, words, env, &sources)
 }
 
-// A tree file.
-#[derive(Clone, Copy)]
-struct TreeFile<'f> {
-    path: &'f str,
-    bytes: &'f [u8],
-}
-
-// The command that a tree file describes.
-fn described(alloc: Global, file: TreeFile<'_>) -> Result<Command, Error>
-    ensures { DescribedBy file.entry.path.now file.entry.bytes.now result }
+// Returns the command that a tree file describes.
+fn described(alloc: Global, bytes: &[u8]) -> Result<Command, ReplyError>
+    ensures { DescribedBy bytes.now result }
 {
-    match read_tree(alloc, file.bytes) {
+    match read_tree(alloc, bytes) {
         Ok(command) => Ok(command),
-        Err(TreeError::NotJson) => Err(Error::InvalidVariant(not_json(alloc, file.path)?)),
-        Err(TreeError::BadForm) => Err(Error::InvalidVariant(bad_form(alloc, file.path)?)),
-        Err(TreeError::Memory) => Err(Error::Memory),
+        Err(TreeError::NotJson) => Err(ReplyError::Tree(BadTree::NotJson)),
+        Err(TreeError::BadForm) => Err(ReplyError::Tree(BadTree::BadForm)),
+        Err(TreeError::Memory) => Err(ReplyError::Library(Error::Memory)),
     }
-}
-
-#[tactic(auto, unfolding(crate::specs::TreeErrors::not_json_text))]
-fn not_json(alloc: Global, path: &str) -> Result<Text, AllocError>
-    ensures { IfOk result (λ text. text ≡ not_json_text path.now) }
-{
-    let path = on_one_line(alloc, path)?;
-    let mut text = about_tree(alloc, path.as_str())?;
-    text.push_str("not JSON")?;
-    Ok(Text::from(text))
-}
-
-#[tactic(auto, unfolding(crate::specs::TreeErrors::bad_form_text))]
-fn bad_form(alloc: Global, path: &str) -> Result<Text, AllocError>
-    ensures { IfOk result (λ text. text ≡ bad_form_text path.now) }
-{
-    let path = on_one_line(alloc, path)?;
-    let mut text = about_tree(alloc, path.as_str())?;
-    text.push_str("bad form (run complgen check ")?;
-    text.push_str(path.as_str())?;
-    text.push_str(")")?;
-    Ok(Text::from(text))
-}
-
-#[tactic(auto, unfolding(crate::specs::TreeErrors::about_tree))]
-fn about_tree(alloc: Global, path: &str) -> Result<String, AllocError>
-    ensures { IfOk result (λ text. string_bytes text ≡ about_tree path.now) }
-{
-    let mut text = String::from_str(alloc, "complgen: ")?;
-    text.push_str(path)?;
-    text.push_str(": tree: ")?;
-    Ok(text)
 }

@@ -1,4 +1,4 @@
-//! Which candidates replies are sure to be read as.
+//! Tests of the candidates whose replies are sure to read back.
 
 use cc_candidates::CompletionCandidate;
 use cc_replies::{are_readable_lines, are_readable_values, are_readable_zsh_items};

@@ -10,7 +10,7 @@ use cc_replies::EnvValues;
 use std::alloc::{AllocError, Global};
 use std::process::Abort;
 
-/// Fails unless there is nothing to complete, and nothing is written.
+/// Fails unless the call finds nothing to complete and writes nothing.
 pub(crate) fn refuses<R: Abort + AllocGlobal, E: EnvCompleter>(
     rt: &R,
     shell: &E,
@@ -24,7 +24,7 @@ pub(crate) fn refuses<R: Abort + AllocGlobal, E: EnvCompleter>(
     assert!(rt; sink.as_slice().is_empty());
 }
 
-/// Writes the reply for the words, where its variable has the index.
+/// Writes the reply for the words, with `index` as the value of its variable.
 pub(crate) fn reply<E: EnvCompleter, W: Sink>(
     alloc: Global,
     shell: &E,

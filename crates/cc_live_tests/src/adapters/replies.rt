@@ -1,4 +1,4 @@
-//! Replies where there is no word.
+//! Replies without a word to complete.
 
 use crate::adapters::replied::refuses;
 use cc_env::{Bash, Elvish, Fish, Powershell, Zsh};

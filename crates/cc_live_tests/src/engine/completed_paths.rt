@@ -45,7 +45,7 @@ fn system_completer(rt: &HostRuntime) -> Result<Completers, Error> {
     Ok(completers)
 }
 
-// What an argument of this completer offers for a word, where the paths of hints have no folder.
+// Returns what an argument of this completer offers for a word, if the paths of hints have no folder.
 fn find(
     alloc: Global,
     completers: Result<Completers, Error>,

@@ -12,7 +12,7 @@ use cc_paths::MemoryFolder;
 use std::alloc::{AllocError, Global};
 use std::process::Abort;
 
-// What `app` offers where nothing is typed yet.
+// The values that `app` offers for an empty word.
 const ALL: &str = "--color --verbose --help ";
 
 // Fails unless `app` offers these values for the word, each with a space after it.

@@ -1,4 +1,4 @@
-//! What is offered, as one text.
+//! The candidates for a word, as one text.
 
 use cc_base::Error;
 use cc_candidates::{Completers, CompletionCandidate};
@@ -10,8 +10,8 @@ use cc_paths::{Folder, MemoryFolder};
 use std::alloc::{AllocError, Global};
 use std::process::Abort;
 
-/// The values that the command of a tree file offers for the last of the words, each with a space
-/// after it, where there are no folders.
+/// Returns the values that the command of a tree file offers for the last of the words, without
+/// folders, each with a space after it.
 pub(crate) fn candidates_for<R: Abort + AllocGlobal>(rt: &R, tree: &str, words: &[&str]) -> String {
     let alloc = rt.alloc();
     let folder = MemoryFolder::new(&[], &[]);
@@ -22,7 +22,7 @@ pub(crate) fn candidates_for<R: Abort + AllocGlobal>(rt: &R, tree: &str, words: 
     text_of(rt, found)
 }
 
-/// What a command offers for the last of the words.
+/// Returns what a command offers for the last of the words.
 pub(crate) fn find_last<D: Folder>(
     alloc: Global,
     command: &mut Command,
@@ -44,7 +44,7 @@ pub(crate) fn find_last<D: Folder>(
     )
 }
 
-/// The values of the candidates that were found, each with a space after it.
+/// Returns the values of the candidates that were found, each with a space after it.
 pub(crate) fn text_of<R: Abort + AllocGlobal>(
     rt: &R,
     found: Result<Vec<CompletionCandidate>, Error>,

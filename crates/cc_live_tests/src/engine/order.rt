@@ -1,4 +1,4 @@
-//! What a candidate holds, and the order of candidates.
+//! The parts of a candidate, and the order of candidates.
 
 use crate::checks::{is, same};
 use cc_base::{ArgValueCandidates, ArgValueCompleter, SubcommandCandidates};

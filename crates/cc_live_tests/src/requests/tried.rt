@@ -1,4 +1,4 @@
-//! What a program does whose environment may ask for a completion, as one text.
+//! The result of a program whose environment may request a completion, as one text.
 
 use crate::checks::is;
 use cc_base::{Collected, Error, Sink};
@@ -42,7 +42,7 @@ pub(crate) fn ends<R: Abort + AllocGlobal>(
     );
 }
 
-/// What the program writes, after what it returns where that isn't `true`.
+/// Returns what the program writes, after its result if that isn't `true`.
 pub(crate) fn end<F: Fn(Global) -> Result<Command, Error> + Drop>(
     alloc: Global,
     program: CompleteEnv<'static, F, Builtin>,
@@ -60,7 +60,7 @@ pub(crate) fn end<F: Fn(Global) -> Result<Command, Error> + Drop>(
     Ok(text)
 }
 
-/// What `try_complete` of the program returns.
+/// Returns the result of `try_complete` of the program.
 pub(crate) fn attempt<F: Fn(Global) -> Result<Command, Error> + Drop, W: Sink>(
     alloc: Global,
     program: CompleteEnv<'static, F, Builtin>,

@@ -6,4 +6,4 @@ returns-in-Ok c =
     over_listing c.args.tree.now _ _ _ _ _ _ c.get.ensures c.in-Ok.ensures c.reply_in.ensures
 
 pub returns-in-Err : goal.returns-in-Err
-returns-in-Err c = no_reply c.args.tree.now _ _ _ _ c.from.ensures
+returns-in-Err c = no_reply c.args.tree.now _ _ _ _ _ c.from.ensures
