@@ -153,6 +153,7 @@ pub use Rattle.cc_gather.specs.Values as ArgumentValues
 pub use Rattle.cc_engine.specs.Completion
 pub use Rattle.cc_engine.specs.OpenLists
 pub use Rattle.cc_engine.specs.Paths as HintPaths
+pub use Rattle.cc_engine.specs.Sources as LookupSources
 pub use Rattle.cc_agreement.specs.BashAgreement
 pub use Rattle.cc_program.specs.Described
 pub use Rattle.cc_program.specs.declared.description.ArgDescription

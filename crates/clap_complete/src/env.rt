@@ -2,7 +2,7 @@
 
 pub use cc_env::{
     Bash, Builtin, CompleteEnv, Elvish, EnvCompleter, Fish, Powershell, SafeShell, ShellNames,
-    Shells, Zsh,
+    ShellProgram, Shells, Zsh,
 };
 pub use cc_quote::is_plain_path;
 pub use cc_replies::{EnvValues, are_readable_lines, are_readable_values, are_readable_zsh_items};
