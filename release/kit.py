@@ -1,0 +1,117 @@
+"""What a release takes from the Rattle kit: the compiler, and the licences of the crates that are linked."""
+
+import os
+import pathlib
+import re
+import subprocess
+import sys
+
+from packing import run
+
+TARGET = "x86_64-unknown-linux-gnu"
+# The parts of a crate that a proof reads.
+PARTS = ("src", "specs", "proofs")
+# Archives in C that `rt` links into each program, below the kit.
+C_ARCHIVES = ("c/libos_c.a", "c/liblibc_c.a")
+
+
+def kit_folder():
+    """Returns the directory of the kit, which `rt doc` names."""
+    return pathlib.Path(run("rt", "doc").strip()).parent
+
+
+def crate_uses(source):
+    """Returns what each crate of the repository uses, by crates.txt."""
+    rows = [line.split("#")[0].partition(":") for line in (source / "crates.txt").read_text().splitlines()]
+    return {name.split()[0]: uses.split() for name, _, uses in rows if name.strip()}
+
+
+def below(crate, uses):
+    """Returns the crates of the repository below a crate, the lowest first."""
+    found = []
+    for name in filter(uses.__contains__, uses[crate]):
+        found += [it for it in [*below(name, uses), name] if it not in found]
+    return found
+
+
+def linked_of_kit(args, crate):
+    """Returns the kit's crates that a crate contains, sorted: those of crates.txt, and those that they use."""
+    uses, seen, left = crate_uses(args.source), set(), [crate]
+    while left:
+        name = left.pop()
+        if name in seen:
+            continue
+        seen.add(name)
+        if name in uses:
+            left += uses[name]
+        else:
+            left += re.findall(r"^dep (\S+)", (args.kit / f"rlibs/{name}.rlib/format").read_text(), re.MULTILINE)
+    return sorted(seen - uses.keys())
+
+
+def licences(args, crate):
+    """Returns the text of LICENSES-THIRD-PARTY for a crate: the parts without a licence, then each text once."""
+    texts, without = {}, []
+    for name in linked_of_kit(args, crate):
+        paths = sorted((args.kit / "rattle" / name).glob("LICENSE*"))
+        if not paths:
+            without.append(name)
+        for path in paths:
+            texts.setdefault(path.read_text().strip(), []).append(f"{name} ({path.name})")
+    without += [path for path in C_ARCHIVES if crate == "complgen"]
+    print(f"{crate}: linked from the kit without a licence: {' '.join(without)}", file=sys.stderr)
+    head = (
+        "The compiled files of this package may contain the parts of the Rattle toolchain kit\n"
+        "that this file names. The kit states no licence for these parts:\n\n"
+        f"    {' '.join(without)}\n\n"
+        "So you may pass the compiled files on only if the owners of the kit permit it.\n\n"
+        "The other parts are ports of published crates. Their licences follow.\n"
+    )
+    rule = "=" * 72
+    return head + "".join(
+        f"\n{rule}\n{', '.join(names)}\n{rule}\n\n{text}\n" for text, names in texts.items()
+    )
+
+
+def differing_crates(source, proved):
+    """Returns the crates whose files differ from those in the directory of the proof run."""
+    return [name for name in crate_uses(source) if files_of(source, name) != files_of(proved, name)]
+
+
+def files_of(top, crate):
+    """Returns what a proof reads of a crate, by path."""
+    folder = top / "crates" / crate
+    paths = [path for part in PARTS for path in (folder / part).rglob("*") if path.is_file()]
+    return {path.relative_to(folder): path.read_bytes() for path in paths}
+
+
+def build(args, crate, to, *flags):
+    """Proves and compiles a crate of the repository over the libraries that the proof run left.
+
+    Runs `rattle build` as `rt lib` does, but writes only the file `to`.
+    """
+    uses, kit, work = crate_uses(args.source), args.kit, args.work / "out"
+    folder = args.source / "crates" / crate
+    root = "src/main.rt" if (folder / "src/main.rt").exists() else "src/lib.rt"
+    words = [kit / "bin/rattle", "build", "--crate-name", crate, root, "--extern", f"std={kit}/rlibs/std.rlib"]
+    rlibs = {name: f"{args.proved}/crates/{name}/out/rlib" for name in below(crate, uses)}
+    for name in uses[crate]:
+        words += ["--extern", f"{name}={rlibs.get(name, f'{kit}/rlibs')}/{name}.rlib"]
+    for path in [f"{kit}/rlibs", *rlibs.values()]:
+        words += ["-L", f"dependency={path}"]
+    words += ["--antt-project", kit / "rattle/logic/antt-project.json", "--logic-built", kit / "logic_built"]
+    words += ["--links", f"{crate}=", "--jobs", args.jobs, *flags]
+    words += [*(["--cpu", args.cpu] if args.cpu else [])]
+    words += ["--toolchain", kit / "toolchain", "--backend", "llvm", "-o", to]
+    work.mkdir(exist_ok=True)
+    print(f"{crate}: proving and compiling it over the proved libraries", file=sys.stderr)
+    last = run(*words, cwd=folder, stderr=subprocess.STDOUT).splitlines()[-1]
+    if not last.startswith("logic=proved ") or not os.path.exists(to):
+        raise SystemExit(f"release: {crate} was not proved: {last}")
+    return last
+
+
+def link(args, compiled, to):
+    """Links a program as `rt run` does, and returns the linker's line."""
+    words = [args.kit / "bin/rattle-link", "--target", TARGET, "--toolchain", args.kit / "toolchain", "-o", to, compiled]
+    return run(*words, *(args.kit / path for path in C_ARCHIVES), stderr=subprocess.STDOUT).strip()

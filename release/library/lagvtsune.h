@@ -1,0 +1,151 @@
+/*
+ * lagvtsune.h - shell completions for a command that a tree file describes.
+ *
+ * The library has two functions: one makes scripts, the other one answers live requests of shells.
+ * They are those of the crate complgen_c of the Lagvtsune project. The comment of each function is
+ * that of its source, with its contract. The contract is proved for all arguments that meet the rules
+ * below. Nothing checks that your program meets these rules.
+ *
+ * release/declarations.py compares the comments, the contracts and the declarations with the source.
+ *
+ * SPDX-License-Identifier: MIT OR Apache-2.0
+ */
+#ifndef LAGVTSUNE_H
+#define LAGVTSUNE_H
+
+#include <stdbool.h>
+#include <stddef.h>
+#include <stdint.h>
+
+#ifdef __cplusplus
+extern "C" {
+#endif
+
+/*
+ * Your program must meet these rules at each call:
+ *
+ * - Each pointer points to as many bytes, or elements, as the length that follows it says. They do not
+ *   change until the function returns. No pointer is null, even if its length is 0. A length is at
+ *   most PTRDIFF_MAX.
+ * - `room` and `status` overlap neither each other nor another argument. They are memory that was
+ *   written before, with any contents.
+ * - The processor has the instructions of x86-64-v2. The library does not check that.
+ * - You may call the functions from any thread, and from several threads at once. Do not call them
+ *   from a signal handler, or in the child of a fork of a process that has threads.
+ *
+ * For its part, a function keeps no pointer. It frees the memory that it allocates, by the three
+ * functions at the end. It reads no file, no environment variable and no clock. It writes `*status`, and
+ * the first `result` bytes of `room` if they fit there, and nothing else. It returns if the stack
+ * suffices: each level of subcommands takes some of it.
+ *
+ * How to read a contract: `tree.now` is the bytes at `tree`, `room.old` and `room.new` are the bytes in
+ * the room before and after the call, and `result` is what the function returns. `EndsAs` states that
+ * an outcome exists that fits the arguments, and that the status, the length and the room are those of
+ * this outcome. A text that is longer than the room leaves the room unchanged. The definitions are in
+ * crates/complgen_c/specs.
+ */
+
+/* A slice in a list of slices. */
+typedef struct lagvtsune_bytes {
+    const uint8_t *start;
+    size_t length;
+} lagvtsune_bytes;
+
+/* The values of `*status`. */
+enum {
+    LAGVTSUNE_MADE = 0,          /* the text is the script, the registration or the reply */
+    LAGVTSUNE_FAILED = 1,        /* the text is a message that ends in a line feed */
+    LAGVTSUNE_NOT_UTF8 = 2,      /* an argument is not UTF-8; there is no text, and the result is 0 */
+    LAGVTSUNE_NOT_REQUESTED = 3, /* lagvtsune_live: no shell requests anything; the result is 0 */
+    LAGVTSUNE_WANTS_FOLDER = 4   /* lagvtsune_live: the text is the path of a directory; its names are needed */
+};
+
+/*
+ * Makes the script for the shell with the name `shell`, of the command in the tree file `tree`,
+ * under the bin name `bin`. Returns the length of its text, which is put at the start of `room` if
+ * it fits there. Otherwise `room` is left as it was, and you can call again with more room. You may
+ * pass any bytes.
+ *
+ * The `status` is:
+ *
+ * - 0: the text is the script.
+ * - 1: the text is a message, which ends in a line feed.
+ * - 2: `shell` or `bin` is not UTF-8, and there is no text.
+ *
+ * Proved (crates/complgen_c/src/scripts.rt):
+ *
+ *     EndsAs (MakesScript shell.now bin.now tree.now) room.old room.new status.new result
+ */
+size_t lagvtsune_script(const uint8_t *shell, size_t shell_length,
+                        const uint8_t *bin, size_t bin_length,
+                        const uint8_t *tree, size_t tree_length,
+                        uint8_t *room, size_t room_length,
+                        uint8_t *status);
+
+/*
+ * Makes what a shell requests of a program with the command in a tree file: the registration, or
+ * the reply with the candidates. Returns the length of its text, which is put at the start of
+ * `room` if it fits there. Otherwise `room` is left as it was, and you can call again with more
+ * room. You may pass any bytes.
+ *
+ * `words` are the program's arguments, its name first. `variables` are names and values in turn:
+ *
+ * - `COMPLETE` requests, by the name of the shell, with `_COMPLGEN_VALUES`, `_COMPLGEN_KEPT` and
+ *   `_COMPLGEN_QUOTE` as the registration sets them, or with `_CLAP_COMPLETE_INDEX` and
+ *   `_CLAP_IFS` as registrations of the original's form do.
+ * - `HOME` is the user's home directory, and `PWD` the directory where relative paths begin.
+ *
+ * `names` are those in the folder at the path `listed`, none if it can't be read. `folders` and
+ * `files` are paths of folders and of files: of that folder itself and of its names, each joined
+ * to `listed` by one slash. Any other path is neither.
+ *
+ * The `status` is:
+ *
+ * - 0: the text is made.
+ * - 1: the text is a message, which ends in a line feed.
+ * - 2: a word, a variable or a name is not UTF-8, and there is no text.
+ * - 3: nothing is requested, and there is no text.
+ * - 4: the text is the path of another folder, whose names are wanted. Call again with these.
+ *
+ * Proved (crates/complgen_c/src/live.rt):
+ *
+ *     EndsAs (MakesReply tree.now (handed words.now) (handed variables.now) (record { path =
+ *     listed.now; names = handed names.now; folders = handed folders.now; files = handed
+ *     files.now; })) room.old room.new status.new result
+ */
+size_t lagvtsune_live(const uint8_t *tree, size_t tree_length,
+                      const lagvtsune_bytes *words, size_t words_length,
+                      const lagvtsune_bytes *variables, size_t variables_length,
+                      const uint8_t *listed, size_t listed_length,
+                      const lagvtsune_bytes *names, size_t names_length,
+                      const lagvtsune_bytes *folders, size_t folders_length,
+                      const lagvtsune_bytes *files, size_t files_length,
+                      uint8_t *room, size_t room_length,
+                      uint8_t *status);
+
+/*
+ * The memory of the library. liblagvtsune.a defines these three functions by malloc, realloc and free,
+ * in an object file of its own. If your program defines all three, the linker takes yours instead.
+ * liblagvtsune.so always uses its own, and exports none of them.
+ *
+ * - rattle_alloc allocates `size` bytes, or at least one if `size` is 0. The block is aligned to
+ *   `align`, a power of two up to 16, and overlaps no other memory in use. If there is no memory, `ok`
+ *   is false, `block` is any pointer but null, and the library's call fails with "out of memory".
+ * - rattle_realloc changes the size of a block, of which `kept` bytes are in use. The new block starts
+ *   with the smaller number, of `kept` and `size`, of the old bytes. If it fails, the old block stays.
+ * - rattle_dealloc frees a block that one of the other two returned. None of the three may unwind.
+ */
+typedef struct lagvtsune_tried {
+    bool ok;
+    uint8_t *block;
+} lagvtsune_tried;
+
+lagvtsune_tried rattle_alloc(size_t size, size_t align);
+lagvtsune_tried rattle_realloc(uint8_t *block, size_t kept, size_t size, size_t align);
+void rattle_dealloc(uint8_t *block);
+
+#ifdef __cplusplus
+}
+#endif
+
+#endif

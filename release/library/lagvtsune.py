@@ -1,0 +1,137 @@
+"""Shell completions for Python programs, by the shared library liblagvtsune.so.0.
+
+`complete` answers a completion request of a shell, and `script` makes a script. Both take a tree file,
+as text or bytes. The library is looked up as the system does it, or the variable LAGVTSUNE_SO names it.
+
+SPDX-License-Identifier: MIT OR Apache-2.0
+"""
+
+import ctypes
+import os
+import sys
+
+MADE, FAILED, NOT_UTF8, NOT_REQUESTED, WANTS_FOLDER = range(5)
+# The variables that registrations set.
+REQUESTS = ("COMPLETE", "_COMPLGEN_VALUES", "_COMPLGEN_KEPT", "_COMPLGEN_QUOTE", "_CLAP_COMPLETE_INDEX", "_CLAP_IFS")
+# The size of the first room for a text. A longer text takes a second call.
+FIRST_ROOM = 1 << 16
+# The number of directories that one request may need. The library asks for at most one.
+MOST_DIRECTORIES = 4
+
+
+class Bytes(ctypes.Structure):
+    """A slice in a list of slices."""
+
+    _fields_ = [("start", ctypes.c_char_p), ("length", ctypes.c_size_t)]
+
+
+SLICE = [ctypes.c_char_p, ctypes.c_size_t]
+SLICES = [ctypes.POINTER(Bytes), ctypes.c_size_t]
+ROOM = [ctypes.c_char_p, ctypes.c_size_t, ctypes.POINTER(ctypes.c_uint8)]
+
+library = ctypes.CDLL(os.environ.get("LAGVTSUNE_SO", "liblagvtsune.so.0"))
+library.lagvtsune_script.argtypes = SLICE * 3 + ROOM
+library.lagvtsune_live.argtypes = SLICE + SLICES * 2 + SLICE + SLICES * 3 + ROOM
+for function in (library.lagvtsune_script, library.lagvtsune_live):
+    function.restype = ctypes.c_size_t
+
+
+class Failed(Exception):
+    """The library's message instead of a text."""
+
+
+def script(shell, bin_name, tree):
+    """Returns the script for a shell as text, of the command in a tree file. Raises `Failed`."""
+    arguments = [*_slice(shell), *_slice(bin_name), *_slice(tree)]
+    status, text = _call(library.lagvtsune_script, arguments)
+    if status != MADE:
+        raise _failure(status, text)
+    return text.decode()
+
+
+def reply(tree, words, variables, current_dir=None):
+    """Returns the bytes that a shell requests, or `None` if the variables request nothing.
+
+    `words` are the program's arguments, starting with its name. Raises `Failed`.
+    """
+    requests = {name: variables[name] for name in REQUESTS if name in variables}
+    places = {"HOME": variables.get("HOME"), "PWD": current_dir}
+    requests.update({name: path for name, path in places.items() if path and _is_utf8(path)})
+    pairs = [text for pair in requests.items() for text in pair]
+    listed, names, paths = "", [], []
+    for _ in range(1 + MOST_DIRECTORIES):
+        lists = [names, [it for it in paths if os.path.isdir(it)], [it for it in paths if os.path.isfile(it)]]
+        arguments = [*_slice(tree), *_slices(words), *_slices(pairs), *_slice(listed)]
+        arguments += [it for texts in lists for it in _slices(texts)]
+        status, text = _call(library.lagvtsune_live, arguments)
+        if status != WANTS_FOLDER:
+            break
+        listed = os.fsdecode(text)
+        names = _names(listed)
+        paths = [listed, *(os.path.join(listed, name) for name in names)]
+    if status == NOT_REQUESTED:
+        return None
+    if status != MADE:
+        raise _failure(status, text)
+    return text
+
+
+def complete(tree, words=None):
+    """Answers a completion request of a shell, if there is one, and ends the process.
+
+    Call it before your program does anything else. `tree` is a tree file, or a function that returns one.
+    The exit status is 0, or 2 after a message on stderr.
+    """
+    if os.environ.get("COMPLETE", "0") in ("", "0"):
+        return
+    try:
+        text = reply(tree() if callable(tree) else tree, words or sys.argv, os.environ, os.getcwd())
+    except (Failed, OSError) as error:
+        print(error, file=sys.stderr)
+        sys.exit(2)
+    if text is not None:
+        sys.stdout.buffer.write(text)
+        sys.stdout.flush()
+        sys.exit(0)
+
+
+def _failure(status, text):
+    return Failed("an argument is not UTF-8" if status == NOT_UTF8 else text.decode(errors="replace").strip())
+
+
+def _is_utf8(text):
+    try:
+        os.fsencode(text).decode()
+    except UnicodeDecodeError:
+        return False
+    return True
+
+
+def _names(directory):
+    """Returns the names in a directory that are UTF-8; none if it is unreadable."""
+    try:
+        return [name for name in os.listdir(directory) if _is_utf8(name)]
+    except OSError:
+        return []
+
+
+def _slice(text):
+    data = text if isinstance(text, bytes) else os.fsencode(text)
+    return data, len(data)
+
+
+def _slices(texts):
+    slices = [Bytes(*_slice(text)) for text in texts]
+    # The pointer must not be null, even if there are no slices.
+    return (Bytes * max(len(slices), 1))(*slices), len(slices)
+
+
+def _call(called, arguments):
+    """Makes a call, again if its text needs more room. Returns the status and the text."""
+    size, status = FIRST_ROOM, ctypes.c_uint8()
+    while True:
+        room = ctypes.create_string_buffer(size)
+        length = called(*arguments, room, size, ctypes.byref(status))
+        if length <= size:
+            return status.value, room.raw[:length]
+        size = length

@@ -1,0 +1,150 @@
+"""Packs the program: the archive with install.sh, and the Debian package."""
+
+import hashlib
+import os
+import re
+import subprocess
+import sys
+
+from kit import licences
+from man import schema_page, tree_page
+from packing import copy, copy_folder, gzipped, put, put_tar_xz, run
+
+# Where shells look for the completions of complgen, below share/.
+COMPLETIONS = {
+    "bash": "bash-completion/completions/complgen",
+    "zsh": "zsh/site-functions/_complgen",
+    "fish": "fish/vendor_completions.d/complgen.fish",
+    "elvish": "elvish/lib/complgen.elv",
+}
+DEBIAN_ZSH = "zsh/vendor-completions/_complgen"
+TOP_DOCUMENTS = ("README.md", "CHANGELOG.md", "NOTICE", "LICENSE-MIT", "LICENSE-APACHE")
+HOMEPAGE = "https://example.org/lagvtsune"
+
+
+def put_program(args, root, debian=False):
+    """Writes all files of the program below a prefix."""
+    stripped = args.work / "complgen.stripped"
+    run("strip", "-o", stripped, args.program)
+    copy(stripped, root / "bin/complgen", 0o755)
+    put_completions(args, root / "share", debian)
+    put_manuals(args, root / "share/man")
+    put_documents(args, root / "share/doc/complgen", debian)
+
+
+def put_completions(args, share, debian):
+    """Writes the completions of complgen itself, one file for each shell."""
+    tree = args.source / "examples/complgen.json"
+    for shell, place in COMPLETIONS.items():
+        text = run(args.program, "script", "--shell", shell, "--bin", "complgen", tree)
+        put(share / (DEBIAN_ZSH if debian and shell == "zsh" else place), text)
+
+
+def put_manuals(args, folder):
+    """Writes the man pages. complgen-import.1 follows if the repository has that program's tree file."""
+    date = run("date", "-u", "-d", f"@{args.time}", "+%Y-%m-%d").strip()
+    examples = args.source / "examples"
+    for name in ("complgen", "complgen-import"):
+        if (examples / f"{name}.json").exists():
+            page = tree_page.page(examples / f"{name}.json", name, date, args.version)
+            put(folder / f"man1/{name}.1", page)
+    schema = args.source / "docs/tree.schema.json"
+    put(folder / "man5/complgen-tree.5", schema_page.page(schema, date, args.version))
+
+
+def put_documents(args, folder, debian):
+    """Writes the documents, the schema, the example trees and the licences.
+
+    No tree file goes to share/complgen: it would replace the completion of that program for everybody.
+    """
+    for name in TOP_DOCUMENTS:
+        if not (debian and name.startswith("LICENSE")):
+            copy(args.source / name, folder / name)
+    copy_folder(args.source / "docs", folder / "docs")
+    for path in sorted((args.source / "examples").glob("*.json")):
+        copy(path, folder / "examples" / path.name)
+    copy(args.source / "examples/git-tree", folder / "examples/git-tree", 0o755)
+    put(folder / "LICENSES-THIRD-PARTY", licences(args, "complgen"))
+    for page in sorted(folder.rglob("*.md")):
+        put(page, with_live_links(page, folder))
+
+
+def with_live_links(page, folder):
+    """Returns a page without links to files that a release does not have: it keeps their texts."""
+
+    def kept(link):
+        file = link[2].partition("#")[0]
+        target = os.path.normpath(page.parent / file)
+        is_inside = target.startswith(str(folder)) and os.path.exists(target)
+        return link[0] if is_inside or not file or "://" in file else link[1]
+
+    return re.sub(r"(?<!!)\[([^\[\]\n]+)\]\(([^()\s]+)\)", kept, page.read_text())
+
+
+def put_archive(args):
+    """Writes complgen-VERSION-x86_64-linux.tar.xz."""
+    name = f"complgen-{args.version}-x86_64-linux"
+    root = args.work / name
+    put_program(args, root)
+    files = sorted(str(path.relative_to(root)) for path in root.rglob("*") if path.is_file())
+    put(root / "FILES", "".join(f"{path}\n" for path in files))
+    for script in ("install.sh", "uninstall.sh"):
+        copy(args.release / "prefix" / script, root / script, 0o755)
+    put_tar_xz(root, args.out / f"{name}.tar.xz", args.time)
+
+
+def put_debian_package(args):
+    """Writes complgen_VERSION_amd64.deb."""
+    root = args.work / "deb"
+    put_program(args, root / "usr", debian=True)
+    compress_manuals(root / "usr/share/man")
+    put_debian_documents(args, root / "usr/share/doc/complgen")
+    put(root / "DEBIAN/control", control(args, root))
+    put(root / "DEBIAN/md5sums", md5sums(root))
+    for path in [root, *root.rglob("*")]:
+        path.chmod(0o755 if path.is_dir() or path.stat().st_mode & 0o100 else 0o644)
+        os.utime(path, (args.time, args.time))
+    to = args.out / f"complgen_{args.version}_amd64.deb"
+    environment = {**os.environ, "SOURCE_DATE_EPOCH": str(args.time)}
+    run("dpkg-deb", "--root-owner-group", "-Zxz", "--threads-max=1", "-b", root, to, env=environment)
+
+
+def compress_manuals(folder):
+    """Compresses the man pages, as Debian wants it."""
+    for page in [path for path in folder.rglob("*") if path.is_file()]:
+        put(page.with_name(page.name + ".gz"), gzipped(page.read_bytes()))
+        page.unlink()
+
+
+def put_debian_documents(args, folder):
+    """Writes the files `copyright` and `changelog.gz`."""
+    date = run("date", "-R", "-u", "-d", f"@{args.time}").strip()
+    template = (args.release / "debian/copyright").read_text()
+    licence = (args.source / "LICENSE-MIT").read_text().strip().split("\n")
+    indented = "\n".join(f" {line}" if line.strip() else " ." for line in licence)
+    year = run("date", "-u", "-d", f"@{args.time}", "+%Y").strip()
+    put(folder / "copyright", template.replace("@YEAR@", year).replace("@HOMEPAGE@", HOMEPAGE).replace("@MIT@", indented))
+    # A version without a revision is that of a native package, which has only this changelog.
+    entry = f"complgen ({args.version}) unstable; urgency=medium\n\n  * Release {args.version}.\n\n -- {args.maintainer}  {date}\n"
+    put(folder / "changelog.gz", gzipped(entry.encode()))
+
+
+def control(args, root):
+    """Returns the control file. dpkg-shlibdeps computes the dependency on glibc."""
+    put(args.work / "debian/control", "Source: complgen\n\nPackage: complgen\nArchitecture: amd64\n")
+    needs = run("dpkg-shlibdeps", "-O", f"-e{root}/usr/bin/complgen", cwd=args.work, stderr=subprocess.DEVNULL)
+    kilobytes = sum((path.stat().st_size + 1023) // 1024 if path.is_file() else 1 for path in root.rglob("*"))
+    template = (args.release / "debian/control").read_text()
+    values = {
+        "VERSION": args.version, "MAINTAINER": args.maintainer, "SIZE": str(kilobytes), "HOMEPAGE": HOMEPAGE,
+        "DEPENDS": re.search("shlibs:Depends=(.*)", needs)[1],
+    }
+    for name, value in values.items():
+        template = template.replace(f"@{name}@", value)
+    return template
+
+
+def md5sums(root):
+    """Returns the sums of the package's files."""
+    paths = [path for path in sorted(root.rglob("*")) if path.is_file() and "DEBIAN" not in path.parts[-2:]]
+    return "".join(f"{hashlib.md5(path.read_bytes()).hexdigest()}  {path.relative_to(root)}\n" for path in paths)
