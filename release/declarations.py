@@ -54,7 +54,7 @@ class Export:
 
     def header_comment(self):
         """Returns the comment of the header."""
-        lines = [line.removeprefix("///").removeprefix(" ") for line in self.comment.splitlines()]
+        lines = [re.sub("^/// ?", "", line) for line in self.comment.splitlines()]
         clause = textwrap.wrap(self.contract(), 92, break_long_words=False)
         lines += ["", f"Proved ({self.file.relative_to(TOP)}):", "", *(f"    {line}" for line in clause)]
         return "\n".join(f" * {line}".rstrip() for line in lines)

@@ -5,6 +5,7 @@ import pathlib
 import re
 import subprocess
 import sys
+import textwrap
 
 from packing import run
 
@@ -13,6 +14,8 @@ TARGET = "x86_64-unknown-linux-gnu"
 PARTS = ("src", "specs", "proofs")
 # Archives in C that `rt` links into each program, below the kit.
 C_ARCHIVES = ("c/libos_c.a", "c/liblibc_c.a")
+# Files of glibc and GCC, of which `rattle-link` links into each program what it needs.
+START_FILES = "Scrt1.o crti.o crtbeginS.o crtendS.o crtn.o libc_nonshared.a libgcc.a".split()
 
 
 def kit_folder():
@@ -58,12 +61,14 @@ def licences(args, crate):
             without.append(name)
         for path in paths:
             texts.setdefault(path.read_text().strip(), []).append(f"{name} ({path.name})")
-    without += [path for path in C_ARCHIVES if crate == "complgen"]
+    if crate == "complgen":
+        without += [*C_ARCHIVES, *(f"toolchain/lib/{name}" for name in START_FILES)]
     print(f"{crate}: linked from the kit without a licence: {' '.join(without)}", file=sys.stderr)
+    wrapped = textwrap.fill(" ".join(without), 88, initial_indent="    ", subsequent_indent="    ", break_on_hyphens=False)
     head = (
         "The compiled files of this package may contain the parts of the Rattle toolchain kit\n"
         "that this file names. The kit states no licence for these parts:\n\n"
-        f"    {' '.join(without)}\n\n"
+        f"{wrapped}\n\n"
         "So you may pass the compiled files on only if the owners of the kit permit it.\n\n"
         "The other parts are ports of published crates. Their licences follow.\n"
     )
