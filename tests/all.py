@@ -46,6 +46,7 @@ def listed():
     """Returns all tests, the quick ones first."""
     runs = [
         ["tools/surface.py"], ["tools/calls.py", "--check"], ["tools/schema.py"], *keys(), ["tools/documents.py"],
+        ["release/declarations.py"],
         ["tests/first-minutes", "--without-rt"],
         ["tests/shell_syntax.py"], ["tests/bash_texts.py"], ["tests/check.py"], ["tests/folders"], ["tests/offered.py"],
         ["tests/live"], ["tests/hostile.py"], ["tests/running.py"], ["tests/refusals.py", *whole_runs()],
@@ -56,6 +57,7 @@ def listed():
         ("tests/compare.py", "needs another build of complgen"),
         ("tests/from_clap.py", "needs cargo and clap 4"),
         ("tests/rust.py", "needs rt, cargo and clap 4"),
+        ("tests/release.py", "needs the files that release/make.py makes"),
         ("tools/faults.py", "needs rt, and most of an hour"),
     ]
     return [Test(words, lacking(words[0])) for words in runs] + [Test([name], why) for name, why in skipped]

@@ -1,0 +1,497 @@
+#!/usr/bin/env python3
+"""Installs, uses and removes the files of a release, without `rt` and in an empty environment.
+
+    tests/release.py [--out DIR] [PART..]
+
+The files are those that release/make.py wrote to release/out, or to the directory that --out names. The
+parts, all by default:
+
+- sums: SHA256SUMS, and that the header and native.rs declare what the source exports;
+- archive: install.sh into a directory, also over an older version, and uninstall.sh. Nothing may be left;
+- debian: dpkg installs and removes the package below a root of its own. lintian checks it;
+- program: `script`, `check` and `--version` of the installed program;
+- manuals: `man --warnings` and `mandoc -Tlint` find nothing in the man pages;
+- live: live completion in bash, zsh, fish and Elvish, by the lines of docs/LIVE_TREES.md and docs/INSTALL.md;
+- own: the completions of complgen itself in the same shells, by the lines of docs/INSTALL.md;
+- library: symbols, pkg-config, the C examples under valgrind, memory of a program's own, the Python example;
+- tab: a Tab in bash and fish, for the examples in C and Python;
+- crate: a new cargo project builds offline with the Rust package, writes a script and answers a request.
+
+Prints a line for each part. A part whose tools are not installed is skipped. The status is 0 if none failed.
+"""
+
+import argparse
+import os
+import pty
+import re
+import select
+import shutil
+import signal
+import subprocess
+import sys
+import tarfile
+import tempfile
+import time
+
+sys.path.append(os.path.join(os.path.dirname(os.path.realpath(__file__)), "..", "tools"))
+import common
+
+SHELLS = ("bash", "zsh", "fish", "elvish")
+RELEASE = os.path.join(common.TOP, "release")
+START_FILES = {
+    "bash": ".bashrc", "zsh": ".zshrc", "fish": ".config/fish/config.fish", "elvish": ".config/elvish/rc.elv",
+}
+# The programs of the system, but nothing of /usr/local/bin, where `rt` may be.
+SYSTEM = "/usr/bin:/bin"
+BASH_COMPLETION = "/usr/share/bash-completion/bash_completion"
+# A program that writes its arguments to a file.
+RECORDER = '#!/bin/sh\nprintf "%s\\n" "$@" >"$RECORD.new"\nmv "$RECORD.new" "$RECORD"\n'
+TREE = '{"name": "app", "args": [{"id": "dir", "long": "dir", "value_hint": "DirPath"}]}'
+MANIFEST = """[package]
+name = "app"
+version = "0.1.0"
+edition = "2021"
+
+[dependencies]
+clap = {{ version = "4", features = ["derive"] }}
+lagvtsune = {{ path = "{}" }}
+"""
+
+
+class Wrong(Exception):
+    """A check that failed."""
+
+
+class Skipped(Exception):
+    """A part that lacks a tool."""
+
+
+def main():
+    parser = argparse.ArgumentParser(usage=common.usage(__doc__))
+    parser.add_argument("--out", default=os.path.join(RELEASE, "out"))
+    parser.add_argument("parts", nargs="*", metavar="PART", choices=[[], *PARTS])
+    given = parser.parse_args()
+    outcomes = []
+    with tempfile.TemporaryDirectory(prefix="release-") as folder:
+        files = Files(os.path.realpath(given.out), folder)
+        for name in given.parts or PARTS:
+            outcomes.append(outcome(name, PARTS[name], files))
+    print(", ".join(f"{outcomes.count(it)} {it}" for it in ("passed", "failed", "skipped")))
+    return 1 if "failed" in outcomes or "passed" not in outcomes else 0
+
+
+def outcome(name, part, files):
+    """Runs a part and prints its line. Returns whether it passed, failed or was skipped."""
+    started = time.monotonic()
+    try:
+        word, said = "passed", part(files)
+    except Skipped as skipped:
+        word, said = "skipped", skipped
+    except (Wrong, OSError, subprocess.SubprocessError) as error:
+        word, said = "failed", error
+    print(f"{word}   {name}, {time.monotonic() - started:.0f} s: {said}", flush=True)
+    return word
+
+
+class Files:
+    """The files of a release, and a directory to work in."""
+
+    def __init__(self, out, folder):
+        self.out, self.folder, self.number = out, folder, 0
+        names = os.listdir(out)
+        found = [re.fullmatch(r"complgen-(\d+\.\d+\.\d+)-x86_64-linux\.tar\.xz", name) for name in names]
+        self.version = next((match[1] for match in found if match), None)
+        if self.version is None:
+            sys.exit(f"{out} has no release: make it with release/make.py")
+
+    def path(self, name):
+        """Returns the path of a file of the release. `name` may contain VERSION."""
+        return os.path.join(self.out, name.replace("VERSION", self.version))
+
+    def room(self):
+        """Returns a new directory."""
+        self.number += 1
+        path = os.path.join(self.folder, str(self.number))
+        os.mkdir(path)
+        return path
+
+    def unpacked(self, name):
+        """Returns the directory that an archive contains, unpacked."""
+        room = self.room()
+        with tarfile.open(self.path(name)) as archive:
+            archive.extractall(room)
+        return os.path.join(room, os.listdir(room)[0])
+
+    def installed(self, prefix):
+        """Installs the program below a directory, and returns the directory."""
+        run([os.path.join(self.unpacked("complgen-VERSION-x86_64-linux.tar.xz"), "install.sh"), "--prefix", prefix])
+        return prefix
+
+
+def run(words, status=0, **how):
+    """Runs a program in an empty environment and returns its output, with stderr. Checks its status."""
+    how = {"env": {"PATH": SYSTEM}, "stdin": subprocess.DEVNULL, "stderr": subprocess.STDOUT, "timeout": 300, **how}
+    ran = subprocess.run(words, stdout=subprocess.PIPE, **how)
+    text = ran.stdout.decode(errors="replace")
+    if ran.returncode != status:
+        raise Wrong(f"{' '.join(words)}: status {ran.returncode}: {text[-2000:]}")
+    return text
+
+
+def check(holds, what):
+    if not holds:
+        raise Wrong(what)
+
+
+def need(*tools):
+    missing = [tool for tool in tools if not common.is_installed(tool)]
+    if missing:
+        raise Skipped(f"needs {' and '.join(missing)}")
+
+
+def write(path, text, mode=0o644):
+    os.makedirs(os.path.dirname(path), exist_ok=True)
+    with open(path, "w", encoding="utf-8") as file:
+        file.write(text)
+    os.chmod(path, mode)
+
+
+def names_below(folder):
+    """Returns the paths of all files and directories below a directory."""
+    return sorted(
+        os.path.relpath(os.path.join(at, name), folder)
+        for at, folders, names in os.walk(folder) for name in folders + names
+    )
+
+
+# ---- the files
+
+def sums(files):
+    run(["sha256sum", "--check", "--strict", "--quiet", "SHA256SUMS"], cwd=files.out)
+    run([sys.executable, "-B", os.path.join(RELEASE, "declarations.py")])
+    return f"version {files.version}"
+
+
+def archive(files):
+    prefix = os.path.join(files.room(), "a prefix")
+    write(os.path.join(prefix, "share/doc/other/kept"), "")
+    before = names_below(prefix)
+    unpacked = files.unpacked("complgen-VERSION-x86_64-linux.tar.xz")
+    install, uninstall = (os.path.join(unpacked, name) for name in ("install.sh", "uninstall.sh"))
+    run([install, "--prefix", prefix])
+    check(os.access(os.path.join(prefix, "bin/complgen"), os.X_OK), "the program was not installed")
+    check(not os.path.exists(os.path.join(prefix, "share/complgen")), "a tree file was installed")
+    installed = names_below(prefix)
+    remember_older(prefix)
+    run([install, "--prefix", prefix])
+    check(names_below(prefix) == installed, "a second installation differs from the first one")
+    run([uninstall, "--prefix", prefix])
+    check(names_below(prefix) == before, f"left after uninstall.sh: {set(names_below(prefix)) ^ set(before)}")
+    write(os.path.join(prefix, "bin/complgen"), "of somebody else")
+    run([install, "--prefix", prefix], status=1)
+    check("share/man" not in names_below(prefix), "install.sh replaced a file that it did not install")
+    return f"{len(installed) - len(before)} files and directories, and none of them afterwards"
+
+
+def remember_older(prefix):
+    """Adds a file to an installation, as if an older version had it."""
+    write(os.path.join(prefix, "bin/complgen-older"), "")
+    with open(os.path.join(prefix, "share/doc/complgen/INSTALLED"), "a", encoding="utf-8") as file:
+        file.write("file bin/complgen-older\n")
+
+
+def debian(files):
+    need("dpkg", "lintian")
+    if os.geteuid():
+        raise Skipped("needs root, for dpkg --root")
+    root, package = files.room(), files.path("complgen_VERSION_amd64.deb")
+    for name in ("updates", "info", "triggers"):
+        os.makedirs(os.path.join(root, "var/lib/dpkg", name))
+    libc = run(["dpkg-query", "-W", "-f", "${Version}", "libc6"])
+    status = f"Package: libc6\nStatus: install ok installed\nVersion: {libc}\nArchitecture: amd64\nMaintainer: x\nDescription: x\n"
+    write(os.path.join(root, "var/lib/dpkg/status"), status)
+    environment = {"PATH": "/usr/sbin:/usr/bin:/sbin:/bin"}
+    dpkg = ["dpkg", "--root", root, "--log", "/dev/null"]
+    run([*dpkg, "--install", package], env=environment)
+    run([os.path.join(root, "usr/bin/complgen"), "--version"])
+    check(not os.path.exists(os.path.join(root, "usr/share/complgen")), "a tree file was installed")
+    number = len(names_below(os.path.join(root, "usr")))
+    run([*dpkg, "--purge", "complgen"], env=environment)
+    left = names_below(os.path.join(root, "usr")) if os.path.exists(os.path.join(root, "usr")) else []
+    check(left == [], f"left after the removal: {left}")
+    found = run(["lintian", "--no-tag-display-limit", "--fail-on", "error,warning", package])
+    return f"{number} files and directories, lintian: {len(found.splitlines())} lines"
+
+
+def program(files):
+    prefix = files.installed(os.path.join(files.room(), "prefix"))
+    complgen, tree = os.path.join(prefix, "bin/complgen"), os.path.join(files.room(), "app.json")
+    write(tree, TREE)
+    said = run([complgen, "--version"], env={})
+    check(files.version in said, f"--version prints {said}")
+    for shell in common.SHELLS:
+        text = run([complgen, "script", "--shell", shell, "--bin", "app", tree], env={})
+        check("dir" in text, f"the script for {shell} lacks the option")
+    check(run([complgen, "check", tree], env={}) == "", "check reports something")
+    for name in ("LICENSES-THIRD-PARTY", "docs/tree.schema.json", "docs/INSTALL.md", "examples/tree.json", "NOTICE"):
+        check(os.path.exists(os.path.join(prefix, "share/doc/complgen", name)), f"{name} is missing")
+    return said.strip()
+
+
+def manuals(files):
+    need("man", "mandoc")
+    folder = os.path.join(files.unpacked("complgen-VERSION-x86_64-linux.tar.xz"), "share/man")
+    pages = [os.path.join(folder, name) for name in ("man1/complgen.1", "man5/complgen-tree.5")]
+    for page in pages:
+        environment = {"PATH": SYSTEM, "LC_ALL": "C.UTF-8", "MANROFFSEQ": "", "MANWIDTH": "80"}
+        ran = subprocess.run(["man", "--warnings", "-l", page], env=environment, capture_output=True, timeout=60)
+        check(ran.returncode == 0 and ran.stderr == b"", f"man: {ran.stderr.decode()}")
+        check(run(["mandoc", "-Tlint", page]) == "", "mandoc -Tlint reports something")
+    return f"{len(pages)} pages"
+
+
+# ---- shells
+
+def live_lines():
+    """Returns the lines that set up live completion, by shell."""
+    with open(os.path.join(common.TOP, "docs/LIVE_TREES.md"), encoding="utf-8") as file:
+        rows = re.findall(r"^\| (\w+) \| `(~/\S+)`[^|]*\| `(.*)` \|$", file.read(), re.MULTILINE)
+    lines = {shell.lower(): line.replace("\\|", "|") for shell, file, line in rows}
+    check(set(SHELLS) <= lines.keys(), f"docs/LIVE_TREES.md has lines for: {sorted(lines)}")
+    return lines
+
+
+def install_text():
+    with open(os.path.join(common.TOP, "docs/INSTALL.md"), encoding="utf-8") as file:
+        return file.read()
+
+
+def live(files):
+    home = files.room()
+    prefix = files.installed(os.path.join(home, ".local"))
+    write(os.path.join(home, ".local/share/complgen/app.json"), TREE)
+    tried = [(shell, line) for shell, line in live_lines().items() if shell in SHELLS]
+    without_proc = 'eval "$(COMPLETE=bash complgen)"'
+    check(without_proc in install_text(), "docs/INSTALL.md lacks the line for bash without /proc")
+    tried.append(("bash", without_proc))
+    done = []
+    for shell, line in tried:
+        if common.is_installed(shell):
+            before = "autoload -U compinit; compinit -u\n" if shell == "zsh" else ""
+            words = at_tab(files, shell, home, before + line, "app", "app --d", f"{prefix}/bin")
+            check(words == ["--dir"], f"{shell}: {line}: the program received {words}")
+            done.append(shell)
+    return ", ".join(done)
+
+
+def own(files):
+    home, other = files.room(), os.path.join(files.room(), "local")
+    files.installed(os.path.join(home, ".local"))
+    files.installed(other)
+    text = install_text()
+    zsh, elvish = "fpath=(~/.local/share/zsh/site-functions $fpath)", "use complgen"
+    fish = "set -a fish_complete_path /usr/local/share/fish/vendor_completions.d"
+    for line in (zsh, elvish, fish):
+        check(f"`{line}`" in text, f"docs/INSTALL.md lacks the line {line}")
+    tried = [
+        ("zsh", f"{zsh}\nautoload -U compinit; compinit -u"), ("elvish", elvish), ("fish", ""),
+        ("fish", fish.replace("/usr/local", other)),
+    ]
+    if os.path.exists(BASH_COMPLETION):
+        tried.append(("bash", f". {BASH_COMPLETION}"))
+    done = []
+    for shell, line in tried:
+        if common.is_installed(shell):
+            where = home if shell != "fish" or not line else files.room()
+            words = at_tab(files, shell, where, line, "complgen", "complgen cand")
+            check(words == ["candidates"], f"{shell}: {line}: the program received {words}")
+            done.append(shell)
+    return ", ".join(done)
+
+
+def at_tab(files, shell, home, line, name, typed, path="", extra=None, program_text=RECORDER):
+    """Returns the arguments that a program receives after a Tab in a shell whose start file has this line.
+
+    The program `name` writes its arguments to a file. A slow shell gets more time, up to some seconds.
+    """
+    room = files.room()
+    write(os.path.join(room, "bin", name), program_text, 0o755)
+    write(os.path.join(home, START_FILES[shell]), line + "\n")
+    record = os.path.join(room, "record")
+    environment = {
+        "HOME": home, "TERM": "xterm", "LC_ALL": "C.UTF-8", "RECORD": record, "PATH": f"{room}/bin:{path}:{SYSTEM}".replace("::", ":"),
+        **(extra or {}),
+    }
+    words = None
+    for seconds in (0.5, 1.5, 4):
+        words = typed_once(shell, room, environment, (name, typed, seconds))
+        if words and words != typed.split()[1:]:
+            return words
+    return words
+
+
+def typed_once(shell, room, environment, line):
+    """Starts a shell, types a line, a Tab and Enter, and returns the arguments that the program received."""
+    name, typed, seconds = line
+    record = environment["RECORD"]
+    process, terminal = pty.fork()
+    if process == 0:
+        os.chdir(room)
+        os.execvpe(shell, [shell] if shell == "elvish" else [shell, "-i"], environment)
+    try:
+        read_for(terminal, seconds)
+        recorded(terminal, record, f"{name} ready\r", seconds)
+        os.write(terminal, f"{typed}\t".encode())
+        read_for(terminal, seconds)
+        return recorded(terminal, record, "\r", seconds)
+    finally:
+        os.kill(process, signal.SIGKILL)
+        os.waitpid(process, 0)
+        os.close(terminal)
+
+
+def recorded(terminal, record, keys, seconds):
+    """Types keys, and returns the arguments that the program then receives, or `None`."""
+    if os.path.exists(record):
+        os.remove(record)
+    os.write(terminal, keys.encode())
+    until = time.monotonic() + 4 * seconds
+    while time.monotonic() < until and not os.path.exists(record):
+        read_for(terminal, 0.1)
+    if not os.path.exists(record):
+        return None
+    with open(record, encoding="utf-8") as file:
+        return file.read().split()
+
+
+def read_for(terminal, seconds):
+    """Reads what a shell prints, and answers its questions about the terminal."""
+    until = time.monotonic() + seconds
+    while time.monotonic() < until:
+        if not select.select([terminal], [], [], 0.05)[0]:
+            continue
+        try:
+            data = os.read(terminal, 65536)
+        except OSError:
+            return
+        if b"\x1b[6n" in data:
+            os.write(terminal, b"\x1b[1;1R")
+        if b"\x1b[c" in data or b"\x1b[0c" in data:
+            os.write(terminal, b"\x1b[?62c")
+
+
+# ---- the library
+
+def library(files):
+    need("cc", "nm", "pkg-config", "valgrind")
+    root = files.unpacked("liblagvtsune-VERSION-x86_64-linux.tar.xz")
+    exported = run(["nm", "-D", "--defined-only", "--format=just-symbols", f"{root}/lib/liblagvtsune.so"]).split()
+    exported = [name for name in exported if not name.startswith("LAGVTSUNE")]
+    check([name.split("@")[0] for name in exported] == ["lagvtsune_live", "lagvtsune_script"], f"exported: {exported}")
+    check(pkg_config(root, "--modversion").strip() == files.version, "lagvtsune.pc has another version")
+    greet = build_greet(files, root)
+    quiet = ["valgrind", "--quiet", "--error-exitcode=9", "--leak-check=full", "--show-leak-kinds=all"]
+    quiet.append("--errors-for-leak-kinds=all")
+    environment = {"PATH": SYSTEM, "LD_LIBRARY_PATH": f"{root}/lib", "COMPLETE": "fish", "_COMPLGEN_VALUES": "ask"}
+    script = run([*quiet, greet, "--completions", "bash"], env={**environment, "COMPLETE": ""})
+    check("--loud" in script, "greet writes no script")
+    reply = run([*quiet, greet, "--", "greet", f"{root}/include/lagv"], env=environment)
+    check("lagvtsune.h" in reply and "lagvtsune_posix.h" in reply, f"greet replies {reply!r}")
+    run([*quiet, greet, "--completions", "tcsh"], env={**environment, "COMPLETE": ""}, status=2)
+    numbers = own_memory(files, root, quiet)
+    python = run_pack(root, ["--completions", "fish"], {})
+    check("-l level" in python, "pack writes no script")
+    reply = run_pack(root, ["--", "pack", "add", "--level", ""], {"COMPLETE": "fish", "_COMPLGEN_VALUES": "ask"})
+    check("fast" in reply and "best" in reply, f"pack replies {reply!r}")
+    return f"two exports, both C examples under valgrind, {numbers} refused allocations, Python"
+
+
+def pkg_config(root, *words):
+    return run(["pkg-config", *words, "lagvtsune"], env={"PATH": SYSTEM, "PKG_CONFIG_PATH": f"{root}/lib/pkgconfig"})
+
+
+def build_greet(files, root):
+    """Compiles the example greet.c with the helper, and returns the path of the program."""
+    share, program = f"{root}/share/lagvtsune", os.path.join(files.room(), "greet")
+    sources = [f"{share}/examples/c/greet.c", f"{share}/lagvtsune_posix.c"]
+    flags = ["-std=c11", "-Wall", "-Wextra", "-Werror", *pkg_config(root, "--cflags").split()]
+    run(["cc", *flags, "-o", program, *sources, *pkg_config(root, "--libs").split()])
+    return program
+
+
+def own_memory(files, root, quiet):
+    """Lets the example own_memory.c refuse each allocation in turn. Returns their number."""
+    program = os.path.join(files.room(), "own_memory")
+    source = f"{root}/share/lagvtsune/examples/c/own_memory.c"
+    run(["cc", "-std=c11", "-o", program, source, *pkg_config(root, "--cflags").split(), f"{root}/lib/liblagvtsune.a"])
+    said = run([*quiet, program])
+    number = int(re.search(r"(\d+) allocations, 0 blocks are left", said)[1])
+    check(number > 0, "the library does not use the program's memory")
+    for refused in range(1, number + 1):
+        said = run([program, str(refused)], status=1)
+        check("out of memory" in said and " 0 blocks are left" in said, f"allocation {refused} refused: {said}")
+    run([*quiet, program, "5"], status=1)
+    return number
+
+
+def python_environment(root):
+    share = f"{root}/share/lagvtsune"
+    return {
+        "LAGVTSUNE_SO": f"{root}/lib/liblagvtsune.so.0", "PYTHONPATH": f"{share}:{share}/examples/python",
+        "PYTHONDONTWRITEBYTECODE": "1",
+    }
+
+
+def run_pack(root, words, environment):
+    pack = f"{root}/share/lagvtsune/examples/python/pack"
+    return run([sys.executable, pack, *words], env={"PATH": SYSTEM, **python_environment(root), **environment})
+
+
+def tab(files):
+    need("cc", "pkg-config")
+    root = files.unpacked("liblagvtsune-VERSION-x86_64-linux.tar.xz")
+    greet = build_greet(files, root)
+    pack = f"exec {sys.executable} {root}/share/lagvtsune/examples/python/pack"
+    programs = {
+        "greet": (f'exec {greet}', "greet --lo", ["--loud"]),
+        "pack": (pack, "pack add --le", ["add", "--level"]),
+    }
+    extra = {**python_environment(root), "LD_LIBRARY_PATH": f"{root}/lib"}
+    done = []
+    for shell, line in (("bash", "source <(COMPLETE=bash {})"), ("fish", "COMPLETE=fish {} | source")):
+        for name, (real, typed, expected) in programs.items():
+            if common.is_installed(shell):
+                text = RECORDER.replace("\n", f'\n[ -z "${{COMPLETE-}}" ] || {real} "$@"\n', 1)
+                words = at_tab(files, shell, files.room(), line.format(name), name, typed, extra=extra, program_text=text)
+                check(words == expected, f"{shell}: {name} received {words}")
+                done.append(f"{name} in {shell}")
+    return ", ".join(done)
+
+
+# ---- the Rust package
+
+def crate(files):
+    need("cargo")
+    if not common.cargo_flags():
+        raise Skipped("needs Debian's clap 4 (apt-get install librust-clap-dev)")
+    package, app = files.unpacked("lagvtsune-VERSION.crate"), files.room()
+    write(os.path.join(app, "Cargo.toml"), MANIFEST.format(package))
+    os.mkdir(os.path.join(app, "src"))
+    shutil.copy(os.path.join(common.EXAMPLES, "from-rust/src/main.rs"), os.path.join(app, "src"))
+    environment = {**os.environ, "CARGO_TARGET_DIR": os.path.join(app, "target")}
+    environment.pop("LAGVTSUNE_DIR", None)
+    run(["cargo", "build", "--quiet", *common.cargo_flags()], cwd=app, env=environment, timeout=600)
+    program = os.path.join(app, "target/debug/app")
+    check("complete" in run([program, "--completions", "fish"]), "the program writes no script")
+    reply = run([program, "--", "app", "--compl"], env={"COMPLETE": "fish", "_COMPLGEN_VALUES": "ask"})
+    check("--completions" in reply, f"the program replies {reply!r}")
+    return "a new project builds offline, writes a script and replies"
+
+
+PARTS = {
+    part.__name__: part for part in (sums, archive, debian, program, manuals, live, own, library, tab, crate)
+}
+
+
+if __name__ == "__main__":
+    sys.exit(main())
