@@ -2,12 +2,12 @@
 """Compares the declarations of the library's functions with the source.
 
     release/declarations.py             compares
-    release/declarations.py --write     writes the comments of the header from the source
+    release/declarations.py --write     writes the comments of the declarations from the source
 
 The source is crates/complgen_c/src. Each function that it exports must be declared in
-release/library/lagvtsune.h and in rust/lagvtsune/src/native.rs with these parameters, and nowhere may
-another function be declared. Its comment in the header must be the doc comment of the source, with the
-clause of its contract. A function must have a clause, and no precondition.
+release/library/lagvtsune.h and in rust/lagvtsune/src/native.rs with these parameters, and neither file may
+declare another function. Its comment there must be the doc comment of the source, and the clause of its
+contract. A function must have one clause, and no precondition.
 
 Prints a line for each difference. The status is 0 if there is none.
 """
@@ -22,7 +22,7 @@ SOURCES = TOP / "crates/complgen_c/src"
 HEADER = TOP / "release/library/lagvtsune.h"
 NATIVE = TOP / "rust/lagvtsune/src/native.rs"
 
-# How a parameter of each type is declared, and a result.
+# The declarations of a parameter and a result of each type.
 C = {
     "&[u8]": "const uint8_t *{0}, size_t {0}_length", "&[&[u8]]": "const lagvtsune_bytes *{0}, size_t {0}_length",
     "&mut [u8]": "uint8_t *{0}, size_t {0}_length", "&mut u8": "uint8_t *{0}", "Global": "", "usize": "size_t",
@@ -52,12 +52,31 @@ class Export:
         found = re.fullmatch(r"\s*ensures \{(.*)\}\s*", self.clauses, re.DOTALL)
         return flat(found[1]) if found else ""
 
+    def documented(self, width):
+        """Returns the lines of the doc comment, wrapped at a width, and where it is from."""
+        text = re.sub(r"^/// ?", "", self.comment, flags=re.MULTILINE).strip()
+        lines, was_item = [], False
+        for block in re.split(r"\n\n|\n(?=- )", text):
+            is_item = block.startswith("- ")
+            lines += [""] if lines and not (is_item and was_item) else []
+            indent = "  " if is_item else ""
+            lines += textwrap.wrap(flat(block), width, subsequent_indent=indent, break_on_hyphens=False)
+            was_item = is_item
+        return [*lines, "", f"Proved (`{self.file.relative_to(TOP)}`):", ""]
+
+    def clause(self, width):
+        """Returns the lines of the contract, wrapped at a width."""
+        return textwrap.wrap(self.contract(), width, break_long_words=False, break_on_hyphens=False)
+
     def header_comment(self):
         """Returns the comment of the header."""
-        lines = [re.sub("^/// ?", "", line) for line in self.comment.splitlines()]
-        clause = textwrap.wrap(self.contract(), 92, break_long_words=False)
-        lines += ["", f"Proved ({self.file.relative_to(TOP)}):", "", *(f"    {line}" for line in clause)]
-        return "\n".join(f" * {line}".rstrip() for line in lines)
+        lines = [*self.documented(97), *(f"    {line}" for line in self.clause(93))]
+        return "/*\n" + "\n".join(f" * {line}".rstrip() for line in lines) + "\n */\n"
+
+    def rust_comment(self):
+        """Returns the doc comment of the declaration in Rust."""
+        lines = [*self.documented(92), "```text", *self.clause(92), "```"]
+        return "".join(f"    /// {line}".rstrip() + "\n" for line in lines)
 
 
 def flat(text):
@@ -70,13 +89,15 @@ def exports():
     return [Export(path, found) for path in paths for found in EXPORT.findall(path.read_text(encoding="utf-8"))]
 
 
-def with_comments(header, found):
-    """Returns the header with the comments of the source."""
+def with_comments(header, native, found):
+    """Returns the header and native.rs with the comments of the source."""
     for export in found:
-        comment = f"/*\n{export.header_comment()}\n */\n"
+        in_c, in_rust = export.header_comment(), export.rust_comment()
         pattern = rf"/\*\n(?:(?!\*/).)*? \*/\n(?=size_t {export.name}\()"
-        header = re.sub(pattern, lambda _, text=comment: text, header, flags=re.DOTALL)
-    return header
+        header = re.sub(pattern, lambda _, text=in_c: text, header, flags=re.DOTALL)
+        pattern = rf"(?: +///.*\n)*(?= +fn {export.name}\()"
+        native = re.sub(pattern, lambda _, text=in_rust: text, native, count=1)
+    return header, native
 
 
 def faults(header, native, found):
@@ -88,9 +109,8 @@ def faults(header, native, found):
         rust = f"fn {export.name}( {export.declared(RUST)}, ) -> {RUST[export.result]};"
         lines += [f"{HEADER.name} does not declare: {c}"] * (c not in flat(header))
         lines += [f"{NATIVE.name} does not declare: {rust}"] * (rust not in flat(native))
-        lines += [f"{HEADER.name}: the comment of {export.name} is not that of the source"] * (
-            export.header_comment() not in header
-        )
+        for name, has_comment in ((HEADER.name, export.header_comment() in header), (NATIVE.name, export.rust_comment() in native)):
+            lines += [] if has_comment else [f"{name}: the comment of {export.name} is not that of the source"]
         lines += [f"{export.name} has no contract of one clause without a precondition"] * (not export.contract())
     for name, declared in ((HEADER.name, re.findall(r"^\w.*\b(lagvtsune_\w+)\(", header, re.MULTILINE)),
                            (NATIVE.name, re.findall(r"fn (lagvtsune_\w+)\(", native))):
@@ -101,11 +121,13 @@ def faults(header, native, found):
 def main():
     if sys.argv[1:] not in ([], ["--write"]):
         sys.exit(__doc__)
-    found, header = exports(), HEADER.read_text(encoding="utf-8")
+    found = exports()
+    header, native = (path.read_text(encoding="utf-8") for path in (HEADER, NATIVE))
     if sys.argv[1:]:
-        header = with_comments(header, found)
+        header, native = with_comments(header, native, found)
         HEADER.write_text(header, encoding="utf-8")
-    wrong = faults(header, NATIVE.read_text(encoding="utf-8"), found)
+        NATIVE.write_text(native, encoding="utf-8")
+    wrong = faults(header, native, found)
     print("\n".join(wrong) or f"{len(found)} functions: the same in the source, the header and native.rs")
     return 1 if wrong else 0
 

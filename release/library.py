@@ -2,15 +2,16 @@
 
 import os
 import shutil
+import subprocess
 
 import kit
-from packing import copy, gzipped, put, put_tar_xz, run, tar
+from packing import copy, put, put_tar_xz, run
 
 TARGET = kit.TARGET
 ARCHIVE = "libcomplgen_c.a"
 LICENCES = ("NOTICE", "LICENSE-MIT", "LICENSE-APACHE")
-# Not part of the Rust package.
-LEFT_OUT = shutil.ignore_patterns("target", "native", "Cargo.lock")
+# Not part of the Rust package. Its example shares a file with another package of the repository.
+LEFT_OUT = shutil.ignore_patterns("target", "native", "Cargo.lock", "examples")
 PKG_CONFIG = """prefix=${{pcfiledir}}/../..
 libdir=${{prefix}}/lib
 includedir=${{prefix}}/include
@@ -77,16 +78,17 @@ def put_shared(args, folder):
 
 
 def put_crate(args):
-    """Writes lagvtsune-VERSION.crate, the Rust package with the archive in it.
+    """Writes lagvtsune-VERSION.crate by `cargo package`: the Rust package with the archive in it.
 
-    The layout is that of `cargo package`, which is not called: with Debian's crates it would write a
-    manifest that needs a network to be checked, and its output has times of its own.
+    cargo needs no network and no crates for this. It gives all files one time of its own.
     """
-    name = f"lagvtsune-{args.version}"
-    root = args.work / name
+    root, target = args.work / "crate", args.work / "target"
     shutil.copytree(args.source / "rust/lagvtsune", root, ignore=LEFT_OUT)
     put_licences(args, root)
     copy(args.archive, root / "native" / TARGET / ARCHIVE)
     for path in root.rglob("*"):
         path.chmod(0o755 if path.is_dir() else 0o644)
-    put(args.out / f"{name}.crate", gzipped(tar(root, args.time)))
+    words = ["cargo", "package", "--quiet", "--offline", "--no-verify", "--allow-dirty", "--exclude-lockfile"]
+    run(*words, cwd=root, env={**os.environ, "CARGO_TARGET_DIR": str(target)}, stderr=subprocess.DEVNULL)
+    name = f"lagvtsune-{args.version}.crate"
+    copy(target / "package" / name, args.out / name)

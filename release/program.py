@@ -10,7 +10,7 @@ from kit import licences
 from man import schema_page, tree_page
 from packing import copy, copy_folder, gzipped, put, put_tar_xz, run
 
-# Where shells look for the completions of complgen, below share/.
+# The files below share/ in which shells look for the completions of complgen.
 COMPLETIONS = {
     "bash": "bash-completion/completions/complgen",
     "zsh": "zsh/site-functions/_complgen",

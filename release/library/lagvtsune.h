@@ -72,7 +72,7 @@ enum {
  * - 1: the text is a message, which ends in a line feed.
  * - 2: `shell` or `bin` is not UTF-8, and there is no text.
  *
- * Proved (crates/complgen_c/src/scripts.rt):
+ * Proved (`crates/complgen_c/src/scripts.rt`):
  *
  *     EndsAs (MakesScript shell.now bin.now tree.now) room.old room.new status.new result
  */
@@ -91,13 +91,13 @@ size_t lagvtsune_script(const uint8_t *shell, size_t shell_length,
  * `words` are the program's arguments, its name first. `variables` are names and values in turn:
  *
  * - `COMPLETE` requests, by the name of the shell, with `_COMPLGEN_VALUES`, `_COMPLGEN_KEPT` and
- *   `_COMPLGEN_QUOTE` as the registration sets them, or with `_CLAP_COMPLETE_INDEX` and
- *   `_CLAP_IFS` as registrations of the original's form do.
+ *   `_COMPLGEN_QUOTE` as the registration sets them, or with `_CLAP_COMPLETE_INDEX` and `_CLAP_IFS`
+ *   as registrations of the original's form do.
  * - `HOME` is the user's home directory, and `PWD` the directory where relative paths begin.
  *
  * `names` are those in the folder at the path `listed`, none if it can't be read. `folders` and
- * `files` are paths of folders and of files: of that folder itself and of its names, each joined
- * to `listed` by one slash. Any other path is neither.
+ * `files` are paths of folders and of files: of that folder itself and of its names, each joined to
+ * `listed` by one slash. Any other path is neither.
  *
  * The `status` is:
  *
@@ -107,11 +107,11 @@ size_t lagvtsune_script(const uint8_t *shell, size_t shell_length,
  * - 3: nothing is requested, and there is no text.
  * - 4: the text is the path of another folder, whose names are wanted. Call again with these.
  *
- * Proved (crates/complgen_c/src/live.rt):
+ * Proved (`crates/complgen_c/src/live.rt`):
  *
  *     EndsAs (MakesReply tree.now (handed words.now) (handed variables.now) (record { path =
- *     listed.now; names = handed names.now; folders = handed folders.now; files = handed
- *     files.now; })) room.old room.new status.new result
+ *     listed.now; names = handed names.now; folders = handed folders.now; files = handed files.now;
+ *     })) room.old room.new status.new result
  */
 size_t lagvtsune_live(const uint8_t *tree, size_t tree_length,
                       const lagvtsune_bytes *words, size_t words_length,

@@ -1,15 +1,33 @@
 //! The archive of the proved library: its functions over bytes, and the memory that they request.
 //! All unsafe code of this package is here.
 //!
-//! Nothing compares the declarations with `crates/complgen_c/src`, but the tests call each
-//! function. The library does not unwind. The memory functions that it calls let no panic out: a
-//! panic of the program's allocator ends the process at the edge of an `extern "C"` function.
+//! `release/declarations.py` compares the declarations with `crates/complgen_c/src`, including their
+//! comments, and the tests call each function. The library does not unwind. The memory functions
+//! that it calls let no panic out: a panic of the program's allocator ends the process at the edge
+//! of an `extern "C"` function.
 
 use std::alloc::{self, Layout};
 use std::marker::PhantomData;
 
 extern "C" {
     // Each slice is passed as its start and its length.
+
+    /// Makes the script for the shell with the name `shell`, of the command in the tree file
+    /// `tree`, under the bin name `bin`. Returns the length of its text, which is put at the start
+    /// of `room` if it fits there. Otherwise `room` is left as it was, and you can call again with
+    /// more room. You may pass any bytes.
+    ///
+    /// The `status` is:
+    ///
+    /// - 0: the text is the script.
+    /// - 1: the text is a message, which ends in a line feed.
+    /// - 2: `shell` or `bin` is not UTF-8, and there is no text.
+    ///
+    /// Proved (`crates/complgen_c/src/scripts.rt`):
+    ///
+    /// ```text
+    /// EndsAs (MakesScript shell.now bin.now tree.now) room.old room.new status.new result
+    /// ```
     fn lagvtsune_script(
         shell: *const u8,
         shell_length: usize,
@@ -22,6 +40,38 @@ extern "C" {
         status: *mut u8,
     ) -> usize;
 
+    /// Makes what a shell requests of a program with the command in a tree file: the registration,
+    /// or the reply with the candidates. Returns the length of its text, which is put at the start
+    /// of `room` if it fits there. Otherwise `room` is left as it was, and you can call again with
+    /// more room. You may pass any bytes.
+    ///
+    /// `words` are the program's arguments, its name first. `variables` are names and values in
+    /// turn:
+    ///
+    /// - `COMPLETE` requests, by the name of the shell, with `_COMPLGEN_VALUES`, `_COMPLGEN_KEPT`
+    ///   and `_COMPLGEN_QUOTE` as the registration sets them, or with `_CLAP_COMPLETE_INDEX` and
+    ///   `_CLAP_IFS` as registrations of the original's form do.
+    /// - `HOME` is the user's home directory, and `PWD` the directory where relative paths begin.
+    ///
+    /// `names` are those in the folder at the path `listed`, none if it can't be read. `folders`
+    /// and `files` are paths of folders and of files: of that folder itself and of its names, each
+    /// joined to `listed` by one slash. Any other path is neither.
+    ///
+    /// The `status` is:
+    ///
+    /// - 0: the text is made.
+    /// - 1: the text is a message, which ends in a line feed.
+    /// - 2: a word, a variable or a name is not UTF-8, and there is no text.
+    /// - 3: nothing is requested, and there is no text.
+    /// - 4: the text is the path of another folder, whose names are wanted. Call again with these.
+    ///
+    /// Proved (`crates/complgen_c/src/live.rt`):
+    ///
+    /// ```text
+    /// EndsAs (MakesReply tree.now (handed words.now) (handed variables.now) (record { path =
+    /// listed.now; names = handed names.now; folders = handed folders.now; files = handed
+    /// files.now; })) room.old room.new status.new result
+    /// ```
     fn lagvtsune_live(
         tree: *const u8,
         tree_length: usize,
