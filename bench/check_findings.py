@@ -1,7 +1,7 @@
 #!/usr/bin/env python3
 """Measures how long `complgen check` takes on files with many mistakes.
 
-    bench/check_findings.py [--program FILE] [--write FOLDER] [COUNT ..]
+    bench/check_findings.py [--write FOLDER] [COUNT ..]
 
 For each COUNT, which is 100, 1,000 and 10,000 by default, the script makes a tree file with COUNT
 mistakes, checks it with `complgen check`, and prints the best processor time of five runs. Each
@@ -20,7 +20,9 @@ import subprocess
 import sys
 import tempfile
 
-TOP = os.path.dirname(os.path.dirname(os.path.realpath(__file__)))
+sys.path.append(os.path.join(os.path.dirname(os.path.realpath(__file__)), "..", "tools"))
+import common
+
 RUNS = 5
 
 
@@ -40,13 +42,11 @@ def seconds(program, path):
 
 
 def main():
-    parser = argparse.ArgumentParser(usage=__doc__.split("\n")[2].strip())
-    default = os.path.join(TOP, "crates", "complgen", "out", "complgen")
-    parser.add_argument("--program", default=default, type=os.path.realpath)
+    parser = argparse.ArgumentParser(usage=common.usage(__doc__))
     parser.add_argument("--write")
     parser.add_argument("counts", nargs="*", type=int, default=[100, 1000, 10000])
     options = parser.parse_args()
-    good = True
+    program, good = common.program("complgen"), True
     with tempfile.TemporaryDirectory() as temporary:
         folder = options.write or temporary
         for layout, indent in (("lines", 1), ("one-line", None)):
@@ -55,7 +55,7 @@ def main():
                 path = os.path.join(folder, f"findings-{layout}-{count}.json")
                 with open(path, "w", encoding="utf-8") as file:
                     json.dump(tree(count), file, indent=indent)
-                runs = [seconds(options.program, path) for _ in range(RUNS)]
+                runs = [seconds(program, path) for _ in range(RUNS)]
                 best = min(used for used, _ in runs)
                 size = os.path.getsize(path)
                 print(f"{layout:9} {count:7,} findings  {size:10,} bytes  {best * 1000:9.1f} ms")

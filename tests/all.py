@@ -45,7 +45,7 @@ def main():
 def listed():
     """Returns all tests, the quick ones first."""
     runs = [
-        ["tools/surface.py"], ["tools/calls.py", "--check"], ["tools/schema.py"], *keys(), ["tools/documents.py"],
+        ["tools/surface.py"], ["tools/calls.py", "--check"], ["tools/schema.py"], ["tools/keys.py", "--check"], ["tools/documents.py"],
         ["release/declarations.py"],
         ["tests/first-minutes", "--without-rt"],
         ["tests/shell_syntax.py"], ["tests/bash_texts.py"], ["tests/check.py"], ["tests/folders"], ["tests/offered.py"],
@@ -61,14 +61,6 @@ def listed():
         ("tools/faults.py", "needs rt, and most of an hour"),
     ]
     return [Test(words, lacking(words[0])) for words in runs] + [Test([name], why) for name, why in skipped]
-
-
-def keys():
-    """Returns the call that checks the generated tables of keys, if the repository has that tool."""
-    for name in ("tools/keys.py", "tools/keys.py"):
-        if os.path.exists(os.path.join(common.TOP, name)):
-            return [[name, "--check"]]
-    return []
 
 
 def whole_runs():

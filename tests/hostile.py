@@ -63,7 +63,7 @@ REFUSALS = {
     },
 }
 
-# What is printed where names of tree files are not plain.
+# The text for tree files whose names are not plain.
 PASSED_OVER = r"complgen: tree files skipped because their names are not plain: [0-9]+\n"
 
 # A line of `complgen check`.

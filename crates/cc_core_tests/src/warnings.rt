@@ -50,27 +50,27 @@ const WRONG: &str = r#"{"name": "my app", "version": "1", "args": [
 const WARNED: &str = "\
 name: the name `my app` is not plain (letters and digits, with single - or _ between them): \
     scripts may break at it
-1/visible_aliases[0]: `a` is also a name of the command `add` before it
-args[0].id: the id holds a ', which ends a text of the zsh script: the shell may run what follows
-args[0].short: the short `é` is no ASCII letter or digit: scripts may break at it
-args[0].long: the long `--label` begins with a hyphen: write it without
+args[0].id: the id contains a ', which ends a text of the zsh script: the shell may run what follows
+args[0].short: the short `é` is not an ASCII letter or digit: scripts may break at it
+args[0].long: the long `--label` begins with a hyphen (write it without): scripts may break at it
 args[0].aliases[0]: the alias `a b` is not plain (letters and digits, with single - or _ \
     between them): scripts may break at it
-args[1].possible_values[0]: bash may split or change the value `dark red` (safe are letters, \
-    digits and +-./:@_,=)
-args[0].help: PowerShell takes ‘ for the end of the text, and may run what follows
-args[1].global: global and required
-args[1].value_names: 2 value names, and at most 1 value
-args[2].last: only a positional, without short and long, can be last
-args[2].index: an index of an option means nothing
-args[2].short: the short `V` is also that of the flag that is added; disable_version_flag \
-    leaves it out
-args[4].required: a required positional after the optional one `in`
+1/visible_aliases[0]: the command `add` also has the name `a`
+args[1].possible_values[0]: bash may split or change the value `dark red` (letters, digits \
+    and +-./:@_,= are safe)
+args[0].help: PowerShell takes ‘ as the end of the text, and may run what follows
+args[1].global: an argument can't be both global and required
+args[1].value_names: 2 value names, but the argument takes at most 1
+args[2].last: only a positional (no short, no long) can be last
+args[2].index: an index has no effect on an option
+args[2].short: the generated version flag also has the short `V`; disable_version_flag \
+    omits that flag
+args[4].required: a required positional can't follow the optional positional `in`
 args[2].id: an earlier argument has the id `to`
-args[1].conflicts_with[0]: an argument in conflict with itself
+args[1].conflicts_with[0]: the argument conflicts with itself
 args[1].conflicts_with[1]: no argument here has the id `no`
-0/args[0].visible_aliases[0]: the long `to` is also one of argument `to`
-args[2].hide: a script offers a hidden argument all the same; live completion hides it
+0/args[0].visible_aliases[0]: the argument `to` also has the long `to`
+args[2].hide: scripts still offer a hidden argument; live completion hides it
 ";
 
 #[test]

@@ -99,7 +99,7 @@ fn with_warnings(
     mut findings: Vec<Finding<'_>>,
 ) -> Result<Vec<PlacedFinding>, AllocError>
     ensures { IfOk result (λ placed. map shown_placed placed.items
-        ≡ map shown findings.items ++ map shown_warning (warnings_of (option_copied bin.entry)
+        ≡ map shown findings.entry.items ++ map shown_warning (warnings_of (option_copied bin.entry)
         command)) }
 {
     let warnings = tree_warnings(alloc, bin, &mut command)?;

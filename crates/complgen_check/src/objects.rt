@@ -3,6 +3,7 @@
 ghost use Rattle.std.specs.Prelude.{◌≡◌, IfOk, Some, decimal};
 ghost use Rattle.std.specs.String.{string_bytes};
 ghost use Rattle.json.specs.Json.{document};
+ghost use Rattle.json.specs.Print.{IsNumber};
 ghost use Rattle.json.specs.Value.{value_view};
 ghost use Rattle.complgen_check.specs.Objects.{finding_json, finding_object, object_with};
 
@@ -34,7 +35,8 @@ pub(crate) fn object(
 }
 
 fn digits(alloc: Global, number: usize) -> Result<String, AllocError>
-    ensures { IfOk result (λ digits. string_bytes digits ≡ decimal number) }
+    ensures text { IfOk result (λ digits. string_bytes digits ≡ decimal number) }
+    ensures number { IfOk result (λ digits. IsNumber (string_bytes digits)) }
 {
     format!(in alloc; "{number}")
 }
@@ -49,12 +51,14 @@ fn value<'f>(
     ensures { IfOk result (λ value. value_view value
         ≡ object_with line.now column.now finding.now) }
 {
+    let level = level_text(finding.level);
+    let (path, text) = (finding.path.as_str(), finding.text.as_str());
     let members = vec![in alloc;
         ("line", Value::Number(line)),
         ("column", Value::Number(column)),
-        ("level", Value::String(level_text(finding.level))),
-        ("path", Value::String(finding.path.as_str())),
-        ("text", Value::String(finding.text.as_str())),
+        ("level", Value::String(level)),
+        ("path", Value::String(path)),
+        ("text", Value::String(text)),
     ]?;
     Ok(Value::Object(members))
 }

@@ -20,22 +20,22 @@ known_same seen names h id =
     ap (λ found. is_some found || (bytes_eq id (codes "help") || bytes_eq id (codes "version"))) (h id)
 
 pub same_conflicts : (seen : BTreeMap (Bor (List ℕ)) (List ℕ)) (names : List PlacedName) →
-    ((word : List ℕ) → owner_in seen word ≡ owner_with names word) → (path : List ℕ) (arguments : List Arg) →
-    each_from (conflicts_of (is_known_in seen) path) 0 arguments ≡ each_from (conflicts_of (is_known names) path) 0 arguments
-same_conflicts seen names h path arguments =
-    each_same (conflicts_of (is_known_in seen) path) (conflicts_of (is_known names) path)
+    ((word : List ℕ) → owner_in seen word ≡ owner_with names word) → (arguments : List Arg) →
+    each_from (conflicts_of (is_known_in seen)) 0 arguments ≡ each_from (conflicts_of (is_known names)) 0 arguments
+same_conflicts seen names h arguments =
+    each_same (conflicts_of (is_known_in seen)) (conflicts_of (is_known names))
     (λ index argument. each_same
-    (λ item id. conflict_list path index item (conflict_kind (is_known_in seen id) (bytes_eq id argument.id) id))
-    (λ item id. conflict_list path index item (conflict_kind (is_known names id) (bytes_eq id argument.id) id))
-    (λ item id. ap (λ known. conflict_list path index item (conflict_kind known (bytes_eq id argument.id) id)) (known_same seen names h id))
+    (λ item id. conflict_list index item (conflict_kind (is_known_in seen id) (bytes_eq id argument.id) id))
+    (λ item id. conflict_list index item (conflict_kind (is_known names id) (bytes_eq id argument.id) id))
+    (λ item id. ap (λ known. conflict_list index item (conflict_kind known (bytes_eq id argument.id) id)) (known_same seen names h id))
     0 argument.conflicts)
     0 arguments
 
-no_conflicts_of : (known : List ℕ → Bool) (path : List ℕ) (index : ℕ) (argument : Arg) (conflicts : List (List ℕ)) →
+no_conflicts_of : (known : List ℕ → Bool) (index : ℕ) (argument : Arg) (conflicts : List (List ℕ)) →
     has_conflicts conflicts ≡ false →
-    each_from (λ item id. conflict_list path index item (conflict_kind (known id) (bytes_eq id argument.id) id)) 0 conflicts ≡ []
-no_conflicts_of known path index argument [] h = refl
-no_conflicts_of known path index argument (id ∷ ids) h = cc
+    each_from (λ item id. conflict_list index item (conflict_kind (known id) (bytes_eq id argument.id) id)) 0 conflicts ≡ []
+no_conflicts_of known index argument [] h = refl
+no_conflicts_of known index argument (id ∷ ids) h = cc
 
 neither : (a b : Bool) → (a || b) ≡ false → (a ≡ false) × (b ≡ false)
 neither false false h = (refl, refl)
@@ -43,10 +43,10 @@ neither false true h = cc
 neither true b h = cc
 
 -- without conflicts nothing is wrong with them
-pub none_of_none : (known : List ℕ → Bool) (path : List ℕ) (index : ℕ) (arguments : List Arg) → have_conflicts arguments ≡ false →
-    each_from (conflicts_of known path) index arguments ≡ []
-none_of_none known path index [] h = refl
-none_of_none known path index (argument ∷ arguments) h =
+pub none_of_none : (known : List ℕ → Bool) (index : ℕ) (arguments : List Arg) → have_conflicts arguments ≡ false →
+    each_from (conflicts_of known) index arguments ≡ []
+none_of_none known index [] h = refl
+none_of_none known index (argument ∷ arguments) h =
     let each = neither (has_conflicts argument.conflicts) (have_conflicts arguments) h in
-    ap₂ (λ a b. a ++ b) (no_conflicts_of known path index argument argument.conflicts each.0)
-    (none_of_none known path (suc index) arguments each.1)
+    ap₂ (λ a b. a ++ b) (no_conflicts_of known index argument argument.conflicts each.0)
+    (none_of_none known (suc index) arguments each.1)

@@ -6,26 +6,25 @@ use Rattle.cc_command.specs.Plain.{is_plain_forest, is_plain_node, passes_if_som
 use Rattle.cc_command.specs.Quiet.{is_quiet_tree}
 use Rattle.cc_command.specs.Tree.{Tree}
 use Rattle.cc_base.specs.PlainName.{is_plain_name}
-use Rattle.complgen_lints.specs.CommandWarnings.{clap_list, command_list, hidden_argument, hidden_command, zsh_list}
-use Rattle.complgen_lints.specs.Notes.{are_notes}
-use Rattle.complgen_lints.specs.PlainWarnings.{plain_argument, plain_command}
-use Rattle.complgen_lints.specs.Premises.{bin_list, holds_premises, own_bin_list, premise_list}
-use Rattle.complgen_lints.specs.QuietWarnings.{quiet_argument}
-use Rattle.complgen_lints.specs.QuoteWarnings.{quotes_argument, quotes_command}
+use Rattle.complgen_lints.specs.CommandWarnings.{clap_list, command_list, hidden_list}
+use Rattle.complgen_lints.specs.Notes.{are_notes, is_note}
+use Rattle.complgen_lints.specs.Premises.{bin_kind, bin_list, holds_premises, names_list, premise_list}
+use Rattle.complgen_lints.specs.Scopes.{scope_list}
+use Rattle.complgen_lints.specs.TextLints.{text_list}
 use Rattle.complgen_lints.specs.Walk.{tree_list}
 use Rattle.complgen_lints.specs.declared.place.Key.{Key}
-use Rattle.complgen_lints.proofs.PlainFound.{name_notes, plain_notes}
-use Rattle.complgen_lints.proofs.QuietFound.{quiet_notes}
-use Rattle.complgen_lints.proofs.QuotesFound.{quotes_notes}
+use Rattle.complgen_lints.specs.declared.text_lints.TextLint.TheVariants.{Quiet, Quotes, Zsh}
+use Rattle.complgen_lints.specs.declared.warning.Warning.{Warning}
+use Rattle.complgen_lints.proofs.TextsFound.{plain_notes, quiet_notes, quotes_notes}
 use Rattle.complgen_lints.proofs.Walked.{notes_append, unless_notes}
 
-bin_notes : (bin : Option (List ℕ)) → are_notes (bin_list bin) ≡ passes_if_some is_plain_name bin
-bin_notes None = refl
-bin_notes (Some name) = unless_notes (is_plain_name name) _ refl
+bin_kind_warns : (key : Option Key) (name : List ℕ) → is_note (bin_kind key name) ≡ false
+bin_kind_warns None name = refl
+bin_kind_warns (Some key) name = refl
 
-own_bin_notes : (bin : Option (List ℕ)) → are_notes (own_bin_list bin) ≡ passes_if_some is_plain_name bin
-own_bin_notes None = refl
-own_bin_notes (Some name) = name_notes [] None Key.BinName None name
+bin_notes : (key : Option Key) (bin : Option (List ℕ)) → are_notes (bin_list key bin) ≡ passes_if_some is_plain_name bin
+bin_notes key None = refl
+bin_notes key (Some name) = unless_notes (is_plain_name name) _ (bin_kind_warns key name)
 
 regroup : (a b c d e : Bool) → ((((a && b) && c) && d) && e) ≡ (a && ((b && c) && (d && e)))
 regroup false b c d e = refl
@@ -35,18 +34,18 @@ regroup true true true d e = refl
 
 pub premise_notes : (bin : Option (List ℕ)) (tree : Tree) → are_notes (premise_list bin tree) ≡ holds_premises bin tree
 premise_notes bin tree =
-    let names = bin_list bin ++ own_bin_list tree.node.bin_name in
-    let plain = tree_list plain_command plain_argument [] tree in
-    let quiet = tree_list (λ path tree. []) quiet_argument [] tree in
-    let quotes = tree_list quotes_command quotes_argument [] tree in
-    notes_append ((names ++ plain) ++ quiet) quotes
+    let own = bin_list (Some Key.BinName) tree.node.bin_name in
+    let names = bin_list None bin ++ own in
+    let plain = tree_list names_list [] tree in
+    let quiet = tree_list (text_list Quiet) [] tree in
+    notes_append ((names ++ plain) ++ quiet) (tree_list (text_list Quotes) [] tree)
     ∙ ap₂ (λ a b. a && b)
     (notes_append (names ++ plain) quiet
     ∙ ap₂ (λ a b. a && b)
     (notes_append names plain
     ∙ ap₂ (λ a b. a && b)
-    (notes_append (bin_list bin) (own_bin_list tree.node.bin_name)
-    ∙ ap₂ (λ a b. a && b) (bin_notes bin) (own_bin_notes tree.node.bin_name))
+    (notes_append (bin_list None bin) own
+    ∙ ap₂ (λ a b. a && b) (bin_notes None bin) (bin_notes (Some Key.BinName) tree.node.bin_name))
     (plain_notes [] tree))
     (quiet_notes [] tree))
     (quotes_notes [] tree)
@@ -54,14 +53,16 @@ premise_notes bin tree =
     (is_plain_node tree.node && (siblings_differ tree.children && is_plain_forest tree.children))
     (is_quiet_tree tree) (is_escaped_tree tree)
 
+-- where a list and what follows it are notes, the list is
+first_notes : (some others : List Warning) → IsTrue (are_notes (some ++ others)) → IsTrue (are_notes some)
+first_notes some others h = (and_parts (are_notes some) (are_notes others) (subst IsTrue (notes_append some others) h)).0
+
 pub premises_hold : (bin : Option (List ℕ)) (tree : Tree) → IsTrue (are_notes (command_list bin tree)) → IsTrue (holds_premises bin tree)
 premises_hold bin tree h =
-    let hidden = tree_list hidden_command hidden_argument [] tree in
-    let scripts = premise_list bin tree ++ zsh_list tree in
-    let both = and_parts (are_notes (scripts ++ clap_list tree)) (are_notes hidden)
-    (subst IsTrue (notes_append (scripts ++ clap_list tree) hidden) h) in
-    let second = and_parts (are_notes scripts) (are_notes (clap_list tree))
-    (subst IsTrue (notes_append scripts (clap_list tree)) both.0) in
-    let first = and_parts (are_notes (premise_list bin tree)) (are_notes (zsh_list tree))
-    (subst IsTrue (notes_append (premise_list bin tree) (zsh_list tree)) second.0) in
-    subst IsTrue (premise_notes bin tree) first.0
+    let zsh = premise_list bin tree ++ tree_list (text_list Zsh) [] tree in
+    let clap = zsh ++ tree_list clap_list [] tree in
+    subst IsTrue (premise_notes bin tree)
+    (first_notes (premise_list bin tree) (tree_list (text_list Zsh) [] tree)
+    (first_notes zsh (tree_list clap_list [] tree)
+    (first_notes clap (scope_list [] [] tree)
+    (first_notes (clap ++ scope_list [] [] tree) (tree_list hidden_list [] tree) h))))

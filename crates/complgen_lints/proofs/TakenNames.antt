@@ -10,14 +10,15 @@ use Rattle.cc_command.specs.declared.node.Node.{Node}
 use Rattle.cc_command.specs.Names.{contains_name}
 use Rattle.cc_command.specs.Plain.{all_differ, names_of_all, siblings_differ, names_of as node_names}
 use Rattle.cc_command.specs.Tree.{Forest, none, more}
-use Rattle.complgen_lints.specs.Notes.{are_notes}
-use Rattle.complgen_lints.specs.PlacedNames.{aliases_of, owner_with, placed_name, taken_by, taken_from}
+use Rattle.complgen_lints.specs.Parts.{content_text, listed_text, listed_texts, text_part}
+use Rattle.complgen_lints.specs.PlacedNames.{named_part, owner_with, taken_by, taken_from}
 use Rattle.complgen_lints.specs.SiblingNames.{names_from, names_of, taken_names}
 use Rattle.complgen_lints.specs.Walk.{each_from}
-use Rattle.complgen_lints.specs.declared.names.Owners.TheVariants.{Children}
+use Rattle.complgen_lints.specs.declared.names.Named.TheVariants.{Child}
 use Rattle.complgen_lints.specs.declared.place.Key.{Key}
 use Rattle.complgen_lints.specs.declared.names.PlacedName.{PlacedName}
-use Rattle.complgen_lints.proofs.Walked.{notes_append}
+use Rattle.complgen_lints.specs.declared.parts.Part.{Part}
+use Rattle.complgen_lints.proofs.Walked.{only_append, only_notes}
 
 -- the texts of some names
 abbrev texts : List PlacedName → List (List ℕ)
@@ -45,22 +46,22 @@ found_some found (name ∷ names) word =
 owner_some : (before : List PlacedName) (word : List ℕ) → is_some (owner_with before word) ≡ contains_name (texts before) word
 owner_some before word = found_some None before word
 
-by_notes : (path : List ℕ) (found : Option (List ℕ)) (name : PlacedName) → are_notes (taken_by Children path found name) ≡ not (is_some found)
-by_notes path None name = refl
-by_notes path (Some command) name = refl
+by_notes : (found : Option (List ℕ)) (name : PlacedName) → only_notes (taken_by Child found name) ≡ not (is_some found)
+by_notes None name = refl
+by_notes (Some command) name = refl
 
 -- none of some texts is among those before it
 abbrev fresh : List (List ℕ) → List (List ℕ) → Bool
 fresh before [] = true
 fresh before (text ∷ others) = not (contains_name before text) && fresh (before ++ text ∷ []) others
 
-taken_notes : (path : List ℕ) (before names : List PlacedName) →
-    are_notes (taken_from Children path before names) ≡ fresh (texts before) (texts names)
-taken_notes path before [] = refl
-taken_notes path before (name ∷ names) =
-    notes_append (taken_by Children path (owner_with before name.name) name) (taken_from Children path (before ++ name ∷ []) names)
-    ∙ ap₂ (λ a b. a && b) (by_notes path (owner_with before name.name) name ∙ ap not (owner_some before name.name))
-    (taken_notes path (before ++ name ∷ []) names
+taken_notes : (before names : List PlacedName) →
+    only_notes (taken_from Child before names) ≡ fresh (texts before) (texts names)
+taken_notes before [] = refl
+taken_notes before (name ∷ names) =
+    only_append (taken_by Child (owner_with before name.name) name) (taken_from Child (before ++ name ∷ []) names)
+    ∙ ap₂ (λ a b. a && b) (by_notes (owner_with before name.name) name ∙ ap not (owner_some before name.name))
+    (taken_notes (before ++ name ∷ []) names
     ∙ ap (λ before. fresh before (texts names)) (map-append (λ name. name.name) before (name ∷ [])))
 
 same_or_none : (same : Bool) (c : Bool) → (not (same || false) && not c) ≡ not (same || c)
@@ -88,16 +89,22 @@ fresh_differ before (text ∷ others) =
     ∙ fresh_differ (before ++ text ∷ []) others
     ∙ ap all_differ (append_assoc before (text ∷ []) others)
 
+-- the texts of parts that are names of one owner
+part_texts : (index : ℕ) (owner : List ℕ) (parts others : List Part) →
+    texts (map (named_part index owner) (parts ++ others)) ≡ texts (map (named_part index owner) parts) ++ texts (map (named_part index owner) others)
+part_texts index owner [] others = refl
+part_texts index owner (part ∷ parts) others = ap (λ rest. content_text part.content ∷ rest) (part_texts index owner parts others)
+
 alias_texts : (child : ℕ) (key : Key) (command : List ℕ) (index : ℕ) (aliases : List (List ℕ)) →
-    texts (each_from (λ index alias. placed_name child key (Some index) alias command ∷ []) index aliases) ≡ aliases
+    texts (map (named_part child command) (each_from (listed_text key) index aliases)) ≡ aliases
 alias_texts child key command index [] = refl
 alias_texts child key command index (alias ∷ aliases) = ap (λ others. alias ∷ others) (alias_texts child key command (suc index) aliases)
 
 node_texts : (child : ℕ) (node : Node) → texts (names_of child node) ≡ node_names node
 node_texts child node =
-    map-append (λ name. name.name) (placed_name child Key.Name None node.name node.name ∷ aliases_of child Key.VisibleAliases node.name node.visible_aliases)
-    (aliases_of child Key.Aliases node.name node.aliases)
-    ∙ ap₂ (λ visible hidden. node.name ∷ (visible ++ hidden))
+    let visible = listed_texts Key.VisibleAliases node.visible_aliases in
+    part_texts child node.name (text_part Key.Name None node.name ∷ [] ++ visible) (listed_texts Key.Aliases node.aliases)
+    ∙ ap₂ (λ shown hidden. node.name ∷ (shown ++ hidden))
     (alias_texts child Key.VisibleAliases node.name 0 node.visible_aliases)
     (alias_texts child Key.Aliases node.name 0 node.aliases)
 
@@ -107,9 +114,9 @@ forest_texts index (more node below rest) =
     map-append (λ name. name.name) (names_of index node) (names_from (suc index) rest)
     ∙ ap₂ (λ a b. a ++ b) (node_texts index node) (forest_texts (suc index) rest)
 
-pub siblings_notes : (path : List ℕ) (children : Forest) → are_notes (taken_names path children) ≡ siblings_differ children
+pub siblings_notes : (children : Forest) → only_notes (taken_names children) ≡ siblings_differ children
 unfolding siblings_differ
-siblings_notes path children =
-    taken_notes path [] (names_from 0 children)
+siblings_notes children =
+    taken_notes [] (names_from 0 children)
     ∙ fresh_differ [] (texts (names_from 0 children))
     ∙ ap all_differ (forest_texts 0 children)

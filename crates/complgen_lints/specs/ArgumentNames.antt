@@ -1,47 +1,15 @@
 -- The names of arguments that an earlier argument has: their ids, longs, shorts and indexes.
-use Rattle.std.specs.Prelude.{ℕ, Bool, true, List, [], ◌∷◌, ◌++◌, decimal, encode_utf8, Option, Some, None}
+use Rattle.std.specs.Prelude.{ℕ, Bool, true, List, [], ◌∷◌, decimal, map, Option, Some, None}
 use Rattle.cc_arg.specs.declared.parts.ArgParts.{ArgParts as Arg}
 use Rattle.cc_arg.specs.Arguments.{is_positional}
-use Rattle.complgen_lints.specs.PlacedNames.{aliases_of, placed_name, taken_from}
+use Rattle.complgen_lints.specs.Parts.{long_parts, short_parts, text_part}
+use Rattle.complgen_lints.specs.PlacedNames.{named_part, placed_name, taken_from}
 use Rattle.complgen_lints.specs.Walk.{each_from}
+use Rattle.complgen_lints.specs.declared.found.Finding.{Finding}
 use Rattle.complgen_lints.specs.declared.names.Named.{Named}
 use Rattle.complgen_lints.specs.declared.names.Named.TheVariants as named
-use Rattle.complgen_lints.specs.declared.names.Owners.TheVariants.{Arguments}
 use Rattle.complgen_lints.specs.declared.names.PlacedName.{PlacedName}
-use Rattle.complgen_lints.specs.declared.place.Key.{Key}
 use Rattle.complgen_lints.specs.declared.place.Key.TheVariants as key
-use Rattle.complgen_lints.specs.declared.warning.Warning.{Warning}
-
--- the id of an argument
-abbrev pub id_of : ℕ → Arg → List PlacedName
-id_of index argument = placed_name index key.Id None argument.id argument.id ∷ []
-
--- the long of an argument, where there is one, and its aliases
-abbrev pub some_long : ℕ → List ℕ → Option (List ℕ) → List PlacedName
-some_long index id None = []
-some_long index id (Some long) = placed_name index key.Long None long id ∷ []
-
-abbrev pub longs_of : ℕ → Arg → List PlacedName
-longs_of index argument = (some_long index argument.id argument.long
-    ++ aliases_of index key.VisibleAliases argument.id argument.visible_aliases)
-    ++ aliases_of index key.Aliases argument.id argument.aliases
-
--- the short of an argument, where there is one, and its aliases
-abbrev pub short_name : ℕ → Key → Option ℕ → ℕ → List ℕ → PlacedName
-short_name index key item short id = placed_name index key item (encode_utf8 short) id
-
-abbrev pub some_short : ℕ → List ℕ → Option ℕ → List PlacedName
-some_short index id None = []
-some_short index id (Some short) = short_name index key.Short None short id ∷ []
-
-abbrev pub short_aliases_of : ℕ → Key → List ℕ → List ℕ → List PlacedName
-short_aliases_of index key id shorts =
-    each_from (λ item short. short_name index key (Some item) short id ∷ []) 0 shorts
-
-abbrev pub shorts_of : ℕ → Arg → List PlacedName
-shorts_of index argument = (some_short index argument.id argument.short
-    ++ short_aliases_of index key.VisibleShortAliases argument.id argument.visible_short_aliases)
-    ++ short_aliases_of index key.ShortAliases argument.id argument.short_aliases
 
 -- the index of a positional, where one is given
 abbrev pub index_name : ℕ → ℕ → List ℕ → PlacedName
@@ -53,11 +21,13 @@ some_index _ argument id _ = []
 
 -- the names of this kind that an argument has
 abbrev pub names_of : Named → ℕ → Arg → List PlacedName
-names_of named.Id index argument = id_of index argument
-names_of named.Long index argument = longs_of index argument
-names_of named.Short index argument = shorts_of index argument
+names_of named.Id index argument =
+    map (named_part index argument.id) (text_part key.Id None argument.id ∷ [])
+names_of named.Long index argument = map (named_part index argument.id) (long_parts argument)
+names_of named.Short index argument = map (named_part index argument.id) (short_parts argument)
 names_of named.Index index argument =
     some_index (is_positional argument) index argument.id argument.index
+names_of named.Child index argument = []
 
 -- those of some arguments
 abbrev pub all_names : Named → List Arg → List PlacedName
@@ -65,6 +35,6 @@ all_names named arguments = each_from (names_of named) 0 arguments
 
 -- the names of this kind of a command's arguments that an earlier one of them has, or one of these
 -- arguments, which are global and from the commands above
-abbrev pub taken_of : Named → List ℕ → List Arg → List Arg → List Warning
-taken_of named path inherited arguments =
-    taken_from (Arguments named) path (all_names named inherited) (all_names named arguments)
+abbrev pub taken_of : Named → List Arg → List Arg → List Finding
+taken_of named inherited arguments =
+    taken_from named (all_names named inherited) (all_names named arguments)

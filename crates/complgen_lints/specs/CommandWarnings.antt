@@ -1,39 +1,45 @@
 -- All warnings about a tree, that about labels of bash not counted.
-use Rattle.std.specs.Prelude.{ℕ, List, [], ◌++◌, Option, Some, None}
+use Rattle.std.specs.Prelude.{ℕ, List, [], ◌++◌, Option, None}
 use Rattle.cc_arg.specs.declared.parts.ArgParts.{ArgParts as Arg}
 use Rattle.cc_command.specs.Tree.{Tree}
-use Rattle.complgen_lints.specs.InCommandWarnings.{of_command}
-use Rattle.complgen_lints.specs.LoneWarnings.{lone_argument}
-use Rattle.complgen_lints.specs.Places.{warning}
-use Rattle.complgen_lints.specs.PositionalWarnings.{positional_command}
-use Rattle.complgen_lints.specs.Premises.{premise_list}
+use Rattle.complgen_lints.specs.ArgumentLints.{arguments_list}
+use Rattle.complgen_lints.specs.Findings.{finding}
+use Rattle.complgen_lints.specs.PositionalLints.{positional_list}
+use Rattle.complgen_lints.specs.Premises.{names_list, premise_list}
 use Rattle.complgen_lints.specs.Scopes.{scope_list}
-use Rattle.complgen_lints.specs.Walk.{tree_list, when}
-use Rattle.complgen_lints.specs.ZshWarnings.{zsh_argument}
+use Rattle.complgen_lints.specs.TextLints.{text_list}
+use Rattle.complgen_lints.specs.Walk.{each_from, tree_list, when}
+use Rattle.complgen_lints.specs.declared.found.Finding.{Finding}
+use Rattle.complgen_lints.specs.declared.found.Spot.TheVariants.{Command, Argument}
+use Rattle.complgen_lints.specs.declared.lints.Lint.{Lint}
+use Rattle.complgen_lints.specs.declared.lints.Lint.TheVariants as lint
 use Rattle.complgen_lints.specs.declared.place.Key.TheVariants.{Hide}
+use Rattle.complgen_lints.specs.declared.text_lints.TextLint.TheVariants.{Zsh}
 use Rattle.complgen_lints.specs.declared.warning.Kind.TheVariants.{HiddenCommand, HiddenArgument}
 use Rattle.complgen_lints.specs.declared.warning.Warning.{Warning}
 
--- what clap refuses: of one argument, then of an argument in its command, then of the positionals
--- of a command together, and of its arguments
-abbrev pub clap_list : Tree → List Warning
-clap_list tree = ((tree_list (λ path tree. []) lone_argument [] tree
-    ++ tree_list of_command (λ path index argument. []) [] tree)
-    ++ tree_list positional_command (λ path index argument. []) [] tree) ++ scope_list [] [] tree
+-- what clap refuses of the arguments of a command, and of its positionals together
+abbrev pub clap_list : Tree → List Finding
+clap_list tree = arguments_list tree ++ positional_list tree.node.arguments
 
--- a hidden command and a hidden argument
-abbrev pub hidden_command : List ℕ → Tree → List Warning
-hidden_command path tree = when tree.node.hide (warning path None Hide None HiddenCommand)
+-- a hidden command, and its hidden arguments
+abbrev pub hidden_argument : ℕ → Arg → List Finding
+hidden_argument index argument =
+    when argument.hide (finding (Argument index) Hide None HiddenArgument)
 
-abbrev pub hidden_argument : List ℕ → ℕ → Arg → List Warning
-hidden_argument path index argument =
-    when argument.hide (warning path (Some index) Hide None HiddenArgument)
+abbrev pub hidden_list : Tree → List Finding
+hidden_list tree = when tree.node.hide (finding Command Hide None HiddenCommand)
+    ++ each_from hidden_argument 0 tree.node.arguments
 
--- names and helps that end a text of the zsh script
-abbrev pub zsh_list : Tree → List Warning
-zsh_list tree = tree_list (λ path tree. []) zsh_argument [] tree
+-- what a lint finds in a command
+abbrev pub lint_list : Lint → Tree → List Finding
+lint_list lint.Names = names_list
+lint_list (lint.Texts texts) = text_list texts
+lint_list lint.Clap = clap_list
+lint_list lint.Hidden = hidden_list
 
--- all of them
+-- all of them: what the promises of scripts take for granted, texts that end a text of the zsh
+-- script, what clap refuses, with the arguments that a command inherits, and what is hidden
 abbrev pub command_list : Option (List ℕ) → Tree → List Warning
-command_list bin tree = ((premise_list bin tree ++ zsh_list tree) ++ clap_list tree)
-    ++ tree_list hidden_command hidden_argument [] tree
+command_list bin tree = (((premise_list bin tree ++ tree_list (text_list Zsh) [] tree)
+    ++ tree_list clap_list [] tree) ++ scope_list [] [] tree) ++ tree_list hidden_list [] tree

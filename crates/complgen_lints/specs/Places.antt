@@ -1,9 +1,7 @@
--- The keys as they are written, and a warning at its place.
-use Rattle.std.specs.Prelude.{ℕ, List, Option, Some, codes}
+-- The keys as they are written.
+use Rattle.std.specs.Prelude.{ℕ, List, codes}
 use Rattle.complgen_lints.specs.declared.place.Key.{Key}
 use Rattle.complgen_lints.specs.declared.place.Key.TheVariants.{Name, BinName, About, Aliases, VisibleAliases, Hide, Id, Short, Long, ShortAliases, VisibleShortAliases, Help, Action, NumArgs, ValueNames, PossibleValues, ValueHint, Index, ConflictsWith, Required, Last, Global}
-use Rattle.complgen_lints.specs.declared.warning.Kind.{Kind}
-use Rattle.complgen_lints.specs.declared.warning.Warning.{Warning}
 
 -- a key as it is written
 abbrev pub key_text : Key → List ℕ
@@ -29,11 +27,3 @@ key_text ConflictsWith = codes "conflicts_with"
 key_text Required = codes "required"
 key_text Last = codes "last"
 key_text Global = codes "global"
-
--- a warning of a kind about a key of the command at a path, or of an argument of that command, or
--- about an item there
-abbrev pub warning : List ℕ → Option ℕ → Key → Option ℕ → Kind → Warning
-warning path argument key item kind = record {
-  place = record { command = path; argument = argument; key = Some key; item = item };
-  kind = kind;
-}

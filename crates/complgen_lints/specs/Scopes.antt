@@ -1,6 +1,6 @@
--- The warnings about what clap refuses of the arguments of a command together, with the global ones
+-- What clap refuses of the arguments of a command together, with the global ones
 -- of the commands above it.
-use Rattle.std.specs.Prelude.{ℕ, suc, Bool, true, false, not, ◌||◌, List, [], ◌∷◌, ◌++◌, codes, filter, is_some, Option, Some, None}
+use Rattle.std.specs.Prelude.{ℕ, suc, Bool, true, false, not, ◌||◌, List, [], ◌∷◌, ◌++◌, codes, filter, is_some, map, Option, Some, None}
 use Rattle.std.specs.Borrow.{Bor}
 use Rattle.std.specs.BTreeMap.{BTreeMap}
 use Rattle.std.specs.List.{list_any}
@@ -11,8 +11,10 @@ use Rattle.cc_command.specs.Names.{has_id}
 use Rattle.cc_command.specs.Tree.{Forest, none, more, Tree}
 use Rattle.complgen_lints.specs.ArgumentNames.{all_names, taken_of}
 use Rattle.complgen_lints.specs.PlacedNames.{owner_in, owner_with}
-use Rattle.complgen_lints.specs.Places.{warning}
+use Rattle.complgen_lints.specs.Findings.{placed, some_finding}
 use Rattle.complgen_lints.specs.Walk.{each_from}
+use Rattle.complgen_lints.specs.declared.found.Finding.{Finding}
+use Rattle.complgen_lints.specs.declared.found.Spot.TheVariants.{Argument}
 use Rattle.complgen_lints.specs.declared.names.PlacedName.{PlacedName}
 use Rattle.complgen_lints.specs.declared.names.Named.TheVariants as named
 use Rattle.complgen_lints.specs.declared.place.Key.TheVariants.{ConflictsWith}
@@ -35,15 +37,13 @@ conflict_kind false same id = Some (UnknownConflict id)
 conflict_kind true true id = Some SelfConflict
 conflict_kind true false id = None
 
-abbrev pub conflict_list : List ℕ → ℕ → ℕ → Option Kind → List Warning
-conflict_list path index item None = []
-conflict_list path index item (Some kind) =
-    warning path (Some index) ConflictsWith (Some item) kind ∷ []
+abbrev pub conflict_list : ℕ → ℕ → Option Kind → List Finding
+conflict_list index item kind = some_finding (Argument index) ConflictsWith (Some item) kind
 
 -- the conflicts of an argument, where these ids are known
-abbrev pub conflicts_of : (List ℕ → Bool) → List ℕ → ℕ → Arg → List Warning
-conflicts_of known path index argument = each_from (λ item id.
-    conflict_list path index item (conflict_kind (known id) (bytes_eq id argument.id) id))
+abbrev pub conflicts_of : (List ℕ → Bool) → ℕ → Arg → List Finding
+conflicts_of known index argument = each_from (λ item id.
+    conflict_list index item (conflict_kind (known id) (bytes_eq id argument.id) id))
     0 argument.conflicts
 
 -- an argument has the id, or it is that of a flag that building may add
@@ -66,23 +66,25 @@ have_conflicts arguments = list_any (λ argument. has_conflicts argument.conflic
 
 -- the conflicts of a command's arguments that no argument of the command has, and those of an
 -- argument with itself
-abbrev pub all_conflicts : List ℕ → List Arg → List Arg → List Warning
-all_conflicts path inherited arguments = each_from (conflicts_of
-    (is_known (all_names named.Id inherited ++ all_names named.Id arguments)) path) 0 arguments
+abbrev pub all_conflicts : List Arg → List Arg → List Finding
+all_conflicts inherited arguments = each_from (conflicts_of
+    (is_known (all_names named.Id inherited ++ all_names named.Id arguments))) 0 arguments
 
 -- of the arguments of a command: ids that an earlier one has; longs, then shorts that an earlier
 -- one or an inherited one has; and conflicts
-abbrev pub together_list : List ℕ → List Arg → List Arg → List Warning
-together_list path inherited arguments = ((taken_of named.Id path [] arguments
-    ++ taken_of named.Long path inherited arguments)
-    ++ taken_of named.Short path inherited arguments)
-    ++ all_conflicts path inherited arguments
+abbrev pub together_list : List Arg → List Arg → List Finding
+together_list inherited arguments = ((taken_of named.Id [] arguments
+    ++ taken_of named.Long inherited arguments)
+    ++ taken_of named.Short inherited arguments)
+    ++ all_conflicts inherited arguments
 
--- of siblings that may inherit these arguments, from this index on, and of all below them
+-- the warnings about the arguments of siblings together, which may inherit these arguments, from
+-- this index on, and of all below them
 abbrev pub scopes_list : List Arg → List ℕ → ℕ → Forest → List Warning
 scopes_list others path index none = []
 scopes_list others path index (more node below rest) =
-    (together_list (path ++ index ∷ []) (inherited_with node.arguments others) node.arguments
+    (map (placed (path ++ index ∷ []))
+    (together_list (inherited_with node.arguments others) node.arguments)
     ++ scopes_list (passed_on (inherited_with node.arguments others) node.arguments)
     (path ++ index ∷ []) 0 below)
     ++ scopes_list others path (suc index) rest
@@ -90,6 +92,7 @@ scopes_list others path index (more node below rest) =
 -- the same of a command
 abbrev pub scope_list : List Arg → List ℕ → Tree → List Warning
 scope_list others path tree =
-    together_list path (inherited_with tree.node.arguments others) tree.node.arguments
+    map (placed path)
+    (together_list (inherited_with tree.node.arguments others) tree.node.arguments)
     ++ scopes_list (passed_on (inherited_with tree.node.arguments others) tree.node.arguments)
     path 0 tree.children

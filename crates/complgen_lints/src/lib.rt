@@ -2,23 +2,21 @@
 //! fails at: a list of warnings, each with its place and a text for a reader.
 #![tactic(auto)]
 
-mod hidden;
-mod in_command;
-mod lone;
+mod argument_lints;
+mod found;
+mod lints;
 mod names;
+mod parts;
 mod place;
-mod plain;
 mod positionals;
 mod premises;
-mod quiet;
-mod quotes;
 mod running;
 mod scopes;
 mod siblings;
+mod text_lints;
 mod texts;
 mod walk;
 mod warning;
-mod zsh;
 
 pub use crate::place::{Key, Place};
 pub use crate::premises::{command_warnings, premise_warnings};

@@ -4,7 +4,6 @@ ghost use Rattle.std.specs.Prelude.{◌≡◌};
 ghost use Rattle.complgen_lints.specs.Places.{key_text};
 
 use cc_base::Items;
-use std::alloc::Global;
 
 /// A key of a command, of an argument or of a possible value, as a tree file has it.
 #[derive(Clone, Copy, PartialEq, Eq, Debug)]
@@ -85,14 +84,6 @@ impl Key {
             Key::Global => "global",
         }
     }
-}
-
-/// The command that warnings are about, and what allocates their parts.
-#[derive(Clone, Copy)]
-pub(crate) struct At<'a> {
-    pub(crate) alloc: Global,
-    /// The command: from the root on, which of the children, counted from 0.
-    pub(crate) path: &'a [usize],
 }
 
 /// A place in a tree: a command, one of its arguments, a key of that, an item of the key's list.

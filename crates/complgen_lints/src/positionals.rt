@@ -3,100 +3,36 @@
 ghost use Rattle.std.specs.Prelude.{◌≡◌, ◌<◌, ◌-◌, ◌^◌, ◌++◌, IfOk, OnOk, decimal, false};
 ghost use Rattle.std.specs.Option.{option_copied};
 ghost use Rattle.cc_arg.specs.Arguments.{is_positional};
-ghost use Rattle.cc_command.specs.Built.{lacks_index, next_index};
-ghost use Rattle.complgen_lints.specs.PositionalWarnings.{count_positionals, counted_index, counted_with};
-ghost use Rattle.complgen_lints.specs.PositionalWarnings.{each_numbered, ends_before};
-ghost use Rattle.complgen_lints.specs.PositionalWarnings.{ends_itself, ends_list, index_of, indexes_list, is_append};
-ghost use Rattle.complgen_lints.specs.PositionalWarnings.{is_last, is_outside, last_list};
-ghost use Rattle.complgen_lints.specs.PositionalWarnings.{many_end, many_list, outside_list};
-ghost use Rattle.complgen_lints.specs.PositionalWarnings.{positional_list, takes_many};
-ghost use Rattle.complgen_lints.specs.PositionalWarnings.{with_index};
+ghost use Rattle.cc_command.specs.Built.{next_index};
 ghost use Rattle.complgen_lints.specs.ArgumentNames.{all_names};
 ghost use Rattle.complgen_lints.specs.PlacedNames.{taken_from};
+ghost use Rattle.complgen_lints.specs.PositionalLints.{count_positionals, counted_index};
+ghost use Rattle.complgen_lints.specs.PositionalLints.{counted_with, each_numbered, ends_before};
+ghost use Rattle.complgen_lints.specs.PositionalLints.{ends_itself, index_of, is_append, is_last};
+ghost use Rattle.complgen_lints.specs.PositionalLints.{is_outside, last_list, many_end, many_list};
+ghost use Rattle.complgen_lints.specs.PositionalLints.{outside_list, positional_list, takes_many};
+ghost use Rattle.complgen_lints.specs.PositionalLints.{with_index};
 ghost use Rattle.complgen_lints.specs.Walk.{each_from};
 ghost use Rattle.complgen_lints.specs.declared.names.Named.TheVariants as named;
-ghost use Rattle.complgen_lints.specs.declared.names.Owners.TheVariants as owners;
 
-use crate::lone::{count_key, push_if};
-use crate::names::{Named, Owners, PlacedName, push_all_names, push_index, push_taken};
-use crate::place::{At, Key};
-use crate::walk::Check;
-use crate::warning::{Kind, Warning, push_warning};
+use crate::argument_lints::count_key;
+use crate::found::{Added, Found, Spot};
+use crate::names::{Named, PlacedName, number_text, push_all_names, push_index, push_taken};
+use crate::place::Key;
+use crate::warning::Kind;
 use cc_arg::{Arg, ArgAction, counted_range};
-use cc_base::Text;
-use cc_command::Command;
+use cc_command::lacks_index;
 use std::alloc::{AllocError, Global};
 
-/// What clap refuses of the positionals of a command together.
-pub(crate) struct Positionals;
-
-impl Check for Positionals {
-    ghost use Rattle.std.specs.Prelude.{[]};
-    ghost use Rattle.complgen_lints.specs.PositionalWarnings.{positional_command};
-
-    ghost of_command = { λ _. positional_command };
-
-    ghost of_argument = { λ _ path index argument. [] };
-
-    fn push_command(
-        &self,
-        found: &mut Vec<Warning>,
-        at: At<'_>,
-        command: &Command,
-    ) -> Result<(), AllocError> {
-        push_positionals(found, at, command.get_arguments())
-    }
-
-    fn push_argument(
-        &self,
-        _found: &mut Vec<Warning>,
-        _at: At<'_>,
-        _index: usize,
-        _argument: &Arg,
-    ) -> Result<(), AllocError> {
-        Ok(())
-    }
-}
-
-fn push_positionals(
-    found: &mut Vec<Warning>,
-    at: At<'_>,
-    arguments: &[Arg],
-) -> Result<(), AllocError>
-    ensures { OnOk result (found.new.items
-        ≡ found.old.items ++ positional_list at.entry.path.now arguments.now) }
+/// Adds what clap refuses of the positionals of a command together.
+pub(crate) fn push_positionals(found: &mut Found, arguments: &[Arg]) -> Added
+    ensures { OnOk result (found.new ≡ found.old ++ positional_list arguments.now) }
 {
     let count = count_positionals(arguments);
-    push_indexes(found, at, count, arguments)?;
-    push_ends(found, at, count, arguments)
-}
-
-// Indexes that no positional can have, or that another one has.
-fn push_indexes(
-    found: &mut Vec<Warning>,
-    at: At<'_>,
-    count: usize,
-    arguments: &[Arg],
-) -> Result<(), AllocError>
-    ensures { OnOk result (found.new.items
-        ≡ found.old.items ++ indexes_list at.entry.path.now count arguments.now) }
-{
-    push_outside(found, at, count, arguments)?;
-    push_taken_indexes(found, at, arguments)
-}
-
-// Positionals of many values, and those that are last.
-fn push_ends(
-    found: &mut Vec<Warning>,
-    at: At<'_>,
-    count: usize,
-    arguments: &[Arg],
-) -> Result<(), AllocError>
-    ensures { OnOk result (found.new.items
-        ≡ found.old.items ++ ends_list at.entry.path.now count arguments.now) }
-{
-    push_many(found, at, count, arguments)?;
-    push_last(found, at, arguments)
+    push_outside(found, count, arguments)?;
+    push_taken_indexes(found, arguments)?;
+    push_many(found, count, arguments)?;
+    push_last(found, arguments)
 }
 
 fn count_positionals(arguments: &[Arg]) -> usize
@@ -109,7 +45,6 @@ fn count_positionals(arguments: &[Arg]) -> usize
     count
 }
 
-// How many there are with one more argument.
 fn counted_with(count: usize, argument: &Arg) -> usize
     requires { count < 2 ^ 64 - 1 }
     ensures { result ≡ counted_with count argument.now }
@@ -121,33 +56,21 @@ fn counted_with(count: usize, argument: &Arg) -> usize
     }
 }
 
-// Indexes that are 0, or greater than the number of positionals.
-fn push_outside(
-    found: &mut Vec<Warning>,
-    at: At<'_>,
-    count: usize,
-    arguments: &[Arg],
-) -> Result<(), AllocError>
-    ensures { OnOk result (found.new.items ≡ found.old.items
-        ++ each_from (λ index argument. outside_list at.entry.path.now count index
-        (is_positional argument) argument.index) 0 arguments.now) }
+// Adds indexes that are 0, or greater than the number of positionals.
+fn push_outside(found: &mut Found, count: usize, arguments: &[Arg]) -> Added
+    ensures { OnOk result (found.new ≡ found.old
+        ++ each_from (λ index argument. outside_list count index (is_positional argument)
+        argument.index) 0 arguments.now) }
 {
     for (index, argument) in arguments.iter().enumerate() {
-        push_if_outside(found, at, count, index, argument)?;
+        push_if_outside(found, count, index, argument)?;
     }
     Ok(())
 }
 
-fn push_if_outside(
-    found: &mut Vec<Warning>,
-    at: At<'_>,
-    count: usize,
-    argument_index: usize,
-    argument: &Arg,
-) -> Result<(), AllocError>
-    ensures { OnOk result (found.new.items ≡ found.old.items
-        ++ outside_list at.entry.path.now count argument_index (is_positional argument.now)
-        argument.now.index) }
+fn push_if_outside(found: &mut Found, count: usize, argument_index: usize, argument: &Arg) -> Added
+    ensures { OnOk result (found.new ≡ found.old
+        ++ outside_list count argument_index (is_positional argument.now) argument.now.index) }
 {
     if !argument.is_positional() {
         return Ok(());
@@ -158,8 +81,8 @@ fn push_if_outside(
     if !is_outside(count, index) {
         return Ok(());
     }
-    let kind = outside_kind(at.alloc, index, count)?;
-    push_warning(found, at, Some(argument_index), Key::Index, None, kind)
+    let kind = outside_kind(found.allocator(), index, count)?;
+    found.note(Spot::Argument(argument_index), Key::Index, None, kind)
 }
 
 fn is_outside(count: usize, index: usize) -> bool
@@ -176,36 +99,22 @@ fn outside_kind(alloc: Global, index: usize, count: usize) -> Result<Kind, Alloc
     Ok(Kind::IndexOutOfRange(index, count))
 }
 
-fn number_text(alloc: Global, number: usize) -> Result<Text, AllocError>
-    ensures { IfOk result (λ text. text ≡ decimal number) }
-{
-    Ok(Text::from(format!(in alloc; "{number}")?))
-}
-
-// Indexes that are given, which another positional has.
-fn push_taken_indexes(
-    found: &mut Vec<Warning>,
-    at: At<'_>,
-    arguments: &[Arg],
-) -> Result<(), AllocError>
-    ensures { OnOk result (found.new.items ≡ found.old.items
-        ++ taken_from (owners.Arguments named.Index) at.entry.path.now
-        (each_numbered counted_index 1 0 arguments.now)
+// Adds given indexes that another positional has.
+fn push_taken_indexes(found: &mut Found, arguments: &[Arg]) -> Added
+    ensures { OnOk result (found.new ≡ found.old
+        ++ taken_from named.Index (each_numbered counted_index 1 0 arguments.now)
         (all_names named.Index arguments.now)) }
 {
-    let mut counted = Vec::new(at.alloc);
-    push_counted(&mut counted, at.alloc, arguments)?;
-    let mut given = Vec::new(at.alloc);
-    push_all_names(&mut given, at.alloc, Named::Index, arguments)?;
-    push_taken(found, at, Owners::Arguments(Named::Index), &counted, &given)
+    let alloc = found.allocator();
+    let mut counted = Vec::new(alloc);
+    push_counted(&mut counted, alloc, arguments)?;
+    let mut given = Vec::new(alloc);
+    push_all_names(&mut given, alloc, Named::Index, arguments)?;
+    push_taken(found, Named::Index, &counted, &given)
 }
 
-// The indexes of the positionals for which none is given.
-fn push_counted<'a>(
-    names: &mut Vec<PlacedName<'a>>,
-    alloc: Global,
-    arguments: &'a [Arg],
-) -> Result<(), AllocError>
+// Adds the indexes of the positionals for which none is given.
+fn push_counted<'a>(names: &mut Vec<PlacedName<'a>>, alloc: Global, arguments: &'a [Arg]) -> Added
     ensures { OnOk result (names.new.items
         ≡ names.old.items ++ each_numbered counted_index 1 0 arguments.now) }
 {
@@ -223,7 +132,7 @@ fn push_if_counted<'a>(
     number: usize,
     index: usize,
     argument: &'a Arg,
-) -> Result<(), AllocError>
+) -> Added
     ensures { OnOk result (names.new.items
         ≡ names.old.items ++ counted_index number index argument.now) }
 {
@@ -233,13 +142,7 @@ fn push_if_counted<'a>(
     push_index(names, alloc, index, number, argument.get_id())
 }
 
-fn lacks_index(argument: &Arg) -> bool
-    ensures { result ≡ lacks_index argument.now }
-{
-    argument.is_positional() && argument.get_index().is_none()
-}
-
-// The index that is free after an argument.
+// Returns the index that is free after an argument.
 fn next_index(number: usize, argument: &Arg) -> usize
     requires { number < 2 ^ 64 - 1 }
     ensures { result ≡ next_index number argument.now }
@@ -251,41 +154,35 @@ fn next_index(number: usize, argument: &Arg) -> usize
     }
 }
 
-// Positionals of many values that are not the last one, unless it is known where these end.
-fn push_many(
-    found: &mut Vec<Warning>,
-    at: At<'_>,
-    count: usize,
-    arguments: &[Arg],
-) -> Result<(), AllocError>
-    ensures { OnOk result (found.new.items ≡ found.old.items ++ each_numbered
-        (many_list at.entry.path.now count (many_end count arguments.now)) 1 0 arguments.now) }
+// Adds positionals of many values that are not the last one, unless it is known where these end.
+fn push_many(found: &mut Found, count: usize, arguments: &[Arg]) -> Added
+    ensures { OnOk result (found.new ≡ found.old
+        ++ each_numbered (many_list count (many_end count arguments.now)) 1 0 arguments.now) }
 {
     let end = many_end(count, arguments);
     let mut number = 1;
     for (index, argument) in arguments.iter().enumerate() {
-        push_if_many(found, at, count, end, number, index, argument)?;
+        push_if_many(found, count, end, number, index, argument)?;
         number = next_index(number, argument);
     }
     Ok(())
 }
 
 fn push_if_many(
-    found: &mut Vec<Warning>,
-    at: At<'_>,
+    found: &mut Found,
     count: usize,
     end: bool,
     number: usize,
     index: usize,
     argument: &Arg,
-) -> Result<(), AllocError>
-    ensures { OnOk result (found.new.items ≡ found.old.items
-        ++ many_list at.entry.path.now count end number index argument.now) }
+) -> Added
+    ensures { OnOk result (found.new ≡ found.old
+        ++ many_list count end number index argument.now) }
 {
     let inside = index_of(number, argument) != count && !end;
     let many = argument.is_positional() && (takes_many(argument) && inside);
     let kind = Kind::ManyBeforeLast;
-    push_if(many, found, at, index, count_key(argument), kind)
+    found.note_if(many, Spot::Argument(index), count_key(argument), kind)
 }
 
 fn takes_many(argument: &Arg) -> bool
@@ -300,14 +197,14 @@ fn is_append(argument: &Arg) -> bool
     matches!(argument.get_action(), ArgAction::Append)
 }
 
-// The index of a positional, where this one is the next that is free.
+// Returns the index of a positional, where `number` is the next that is free.
 fn index_of(number: usize, argument: &Arg) -> usize
     ensures { result ≡ index_of number argument.now }
 {
     argument.get_index().unwrap_or(number)
 }
 
-// Whether it is known where the values of a positional that is not the last one end.
+// Returns whether it is known where the values of a positional that is not the last one end.
 fn many_end(count: usize, arguments: &[Arg]) -> bool
     ensures { result ≡ many_end count arguments.now }
 {
@@ -333,7 +230,7 @@ fn ends_itself(argument: Option<&Arg>) -> bool
     }
 }
 
-// The first positional with an index.
+// Returns the first positional with the index `wanted`.
 fn with_index(wanted: usize, arguments: &[Arg]) -> Option<&Arg>
     ensures { option_copied result ≡ with_index wanted 1 arguments.now }
 {
@@ -347,15 +244,14 @@ fn with_index(wanted: usize, arguments: &[Arg]) -> Option<&Arg>
     None
 }
 
-// Positionals that are last, but for the first one.
-fn push_last(found: &mut Vec<Warning>, at: At<'_>, arguments: &[Arg]) -> Result<(), AllocError>
-    ensures { OnOk result (found.new.items
-        ≡ found.old.items ++ last_list at.entry.path.now false 0 arguments.now) }
+// Adds positionals that are last, but for the first one.
+fn push_last(found: &mut Found, arguments: &[Arg]) -> Added
+    ensures { OnOk result (found.new ≡ found.old ++ last_list false 0 arguments.now) }
 {
     let mut before = false;
     for (index, argument) in arguments.iter().enumerate() {
         let second = before && is_last(argument);
-        push_if(second, found, at, index, Key::Last, Kind::SecondLast)?;
+        found.note_if(second, Spot::Argument(index), Key::Last, Kind::SecondLast)?;
         before = before || is_last(argument);
     }
     Ok(())

@@ -1,56 +1,55 @@
 //! What clap refuses of the arguments of a command together, with the global ones of the commands
 //! above it.
 
-ghost use Rattle.std.specs.Prelude.{◌≡◌, ◌++◌, [], IfOk, OnOk, filter, map, not};
+ghost use Rattle.std.specs.Prelude.{◌≡◌, ◌++◌, [], IfOk, OnOk, map};
 ghost use Rattle.std.specs.Str.{bytes_eq};
-ghost use Rattle.cc_command.specs.Built.{globals};
-ghost use Rattle.cc_command.specs.Names.{has_id};
 ghost use Rattle.cc_command.specs.Tree.{forest_of};
-ghost use Rattle.complgen_lints.specs.ArgumentNames.{all_names, names_of, taken_of};
+ghost use Rattle.complgen_lints.specs.ArgumentNames.{all_names, taken_of};
+ghost use Rattle.complgen_lints.specs.Findings.{placed};
 ghost use Rattle.complgen_lints.specs.Scopes.{all_conflicts, conflict_kind, conflict_list};
 ghost use Rattle.complgen_lints.specs.Scopes.{conflicts_of, has_conflicts, have_conflicts};
 ghost use Rattle.complgen_lints.specs.Scopes.{inherited_with, is_known_in, passed_on};
-ghost use Rattle.complgen_lints.specs.Scopes.{scope_list};
-ghost use Rattle.complgen_lints.specs.Scopes.{scopes_list, together_list};
+ghost use Rattle.complgen_lints.specs.Scopes.{scope_list, scopes_list, together_list};
 ghost use Rattle.complgen_lints.specs.Walk.{each_from};
 
-use crate::names::{Named, Owners, PlacedName, push_all_names, push_names_of, push_taken, seen_of};
-use crate::place::{At, Key};
-use crate::walk::child_path;
-use crate::warning::{Kind, Warning, push_warning};
+use crate::found::{Added, Found, Spot};
+use crate::names::{Named, PlacedName, push_all_names, push_names_of, push_taken, seen_of};
+use crate::place::Key;
+use crate::walk::{At, child_path, place_all};
+use crate::warning::{Kind, Warning};
 use cc_arg::{Arg, conflicting_ids};
 use cc_base::{Text, TextRef};
-use cc_command::Command;
+use cc_command::{Command, has_id};
 use std::alloc::{AllocError, Global};
 use std::collections::BTreeMap;
 
-/// Adds the warnings about the arguments of a command together, which may inherit these global
-/// ones, then those of each child. Fails where memory runs out.
+/// Adds the warnings about the arguments of a command together, which may inherit `others`, then
+/// those about each child.
 #[cycle(scopes)]
 pub(crate) fn push_scope<'a>(
-    found: &mut Vec<Warning>,
+    warnings: &mut Vec<Warning>,
     at: At<'_>,
     others: &[&'a Arg],
     command: &'a Command,
-) -> Result<(), AllocError>
-    ensures { OnOk result (found.new.items ≡ found.old.items
+) -> Added
+    ensures { OnOk result (warnings.new.items ≡ warnings.old.items
         ++ scope_list (map (λ other. other.now) others.now) at.entry.path.now command.now) }
 {
     let arguments = command.get_arguments();
     let mut inherited = inherited_with(at.alloc, arguments, others)?;
-    push_together(found, at, &inherited, arguments)?;
+    place_together(warnings, at, &inherited, arguments)?;
     push_globals(&mut inherited, arguments)?;
-    push_scopes(found, at, &inherited, command.get_subcommands())
+    push_scopes(warnings, at, &inherited, command.get_subcommands())
 }
 
 #[cycle(scopes)]
 fn push_scopes<'a>(
-    found: &mut Vec<Warning>,
+    warnings: &mut Vec<Warning>,
     at: At<'_>,
     others: &[&'a Arg],
     children: &'a [Command],
-) -> Result<(), AllocError>
-    ensures { OnOk result (found.new.items ≡ found.old.items
+) -> Added
+    ensures { OnOk result (warnings.new.items ≡ warnings.old.items
         ++ scopes_list (map (λ other. other.now) others.now) at.entry.path.now 0
         (forest_of children.now)) }
 {
@@ -60,12 +59,26 @@ fn push_scopes<'a>(
             alloc: at.alloc,
             path: path.as_slice(),
         };
-        push_scope(found, below, others, child)?;
+        push_scope(warnings, below, others, child)?;
     }
     Ok(())
 }
 
-// The others, but for those with an id that one of the arguments has.
+fn place_together(
+    warnings: &mut Vec<Warning>,
+    at: At<'_>,
+    inherited: &[&Arg],
+    arguments: &[Arg],
+) -> Added
+    ensures { OnOk result (warnings.new.items ≡ warnings.old.items ++ map (placed at.entry.path.now)
+        (together_list (map (λ other. other.now) inherited.now) arguments.now)) }
+{
+    let mut found = Found::new(at.alloc);
+    push_together(&mut found, inherited, arguments)?;
+    place_all(warnings, at, found)
+}
+
+// Returns the others, but for those with an id that one of the arguments has.
 fn inherited_with<'a>(
     alloc: Global,
     arguments: &[Arg],
@@ -84,14 +97,8 @@ fn inherited_with<'a>(
     Ok(kept)
 }
 
-fn has_id(arguments: &[Arg], id: &str) -> bool
-    ensures { result ≡ has_id arguments.now id.now }
-{
-    arguments.iter().any(|argument| argument.get_id() == id)
-}
-
 // Adds the global ones of the arguments.
-fn push_globals<'a>(inherited: &mut Vec<&'a Arg>, arguments: &'a [Arg]) -> Result<(), AllocError>
+fn push_globals<'a>(inherited: &mut Vec<&'a Arg>, arguments: &'a [Arg]) -> Added
     ensures { OnOk result (map (λ other. other.now) inherited.new.items
         ≡ passed_on (map (λ other. other.now) inherited.old.items) arguments.now) }
 {
@@ -104,36 +111,53 @@ fn push_globals<'a>(inherited: &mut Vec<&'a Arg>, arguments: &'a [Arg]) -> Resul
     Ok(())
 }
 
-// Ids, then longs, then shorts that an earlier argument has, and conflicts.
-fn push_together(
-    found: &mut Vec<Warning>,
-    at: At<'_>,
-    inherited: &[&Arg],
-    arguments: &[Arg],
-) -> Result<(), AllocError>
-    ensures { OnOk result (found.new.items ≡ found.old.items
-        ++ together_list at.entry.path.now (map (λ other. other.now) inherited.now) arguments.now) }
+// Adds ids, then longs, then shorts that an earlier argument has, and conflicts.
+fn push_together(found: &mut Found, inherited: &[&Arg], arguments: &[Arg]) -> Added
+    ensures { OnOk result (found.new ≡ found.old
+        ++ together_list (map (λ other. other.now) inherited.now) arguments.now) }
 {
-    push_taken_of(found, at, Named::Id, &[], arguments)?;
-    push_taken_of(found, at, Named::Long, inherited, arguments)?;
-    push_taken_of(found, at, Named::Short, inherited, arguments)?;
-    push_conflicts_if_any(found, at, inherited, arguments)
+    push_taken_of(found, Named::Id, &[], arguments)?;
+    push_taken_of(found, Named::Long, inherited, arguments)?;
+    push_taken_of(found, Named::Short, inherited, arguments)?;
+    push_conflicts_if_any(found, inherited, arguments)
 }
 
-// The ids are looked at only where an argument has a list of conflicts.
-fn push_conflicts_if_any(
-    found: &mut Vec<Warning>,
-    at: At<'_>,
-    inherited: &[&Arg],
-    arguments: &[Arg],
-) -> Result<(), AllocError>
-    ensures { OnOk result (found.new.items ≡ found.old.items
-        ++ all_conflicts at.entry.path.now (map (λ other. other.now) inherited.now) arguments.now) }
+fn push_taken_of(found: &mut Found, named: Named, inherited: &[&Arg], arguments: &[Arg]) -> Added
+    ensures { OnOk result (found.new ≡ found.old
+        ++ taken_of named (map (λ other. other.now) inherited.now) arguments.now) }
+{
+    let alloc = found.allocator();
+    let mut others = Vec::new(alloc);
+    push_inherited_names(&mut others, alloc, named, inherited)?;
+    let mut names = Vec::new(alloc);
+    push_all_names(&mut names, alloc, named, arguments)?;
+    push_taken(found, named, &others, &names)
+}
+
+fn push_inherited_names<'a>(
+    names: &mut Vec<PlacedName<'a>>,
+    alloc: Global,
+    named: Named,
+    inherited: &[&'a Arg],
+) -> Added
+    ensures { OnOk result (names.new.items ≡ names.old.items
+        ++ all_names named (map (λ other. other.now) inherited.now)) }
+{
+    for (index, argument) in inherited.iter().enumerate() {
+        push_names_of(names, alloc, named, index, argument)?;
+    }
+    Ok(())
+}
+
+// Adds conflicts. Ids are collected only if an argument has a list of conflicts.
+fn push_conflicts_if_any(found: &mut Found, inherited: &[&Arg], arguments: &[Arg]) -> Added
+    ensures { OnOk result (found.new ≡ found.old
+        ++ all_conflicts (map (λ other. other.now) inherited.now) arguments.now) }
 {
     if !have_conflicts(arguments) {
         return Ok(());
     }
-    push_all_conflicts(found, at, inherited, arguments)
+    push_all_conflicts(found, inherited, arguments)
 }
 
 fn have_conflicts(arguments: &[Arg]) -> bool
@@ -148,115 +172,60 @@ fn has_conflicts(argument: &Arg) -> bool
     !conflicting_ids(argument).is_empty()
 }
 
-fn push_taken_of(
-    found: &mut Vec<Warning>,
-    at: At<'_>,
-    named: Named,
-    inherited: &[&Arg],
-    arguments: &[Arg],
-) -> Result<(), AllocError>
-    ensures { OnOk result (found.new.items ≡ found.old.items
-        ++ taken_of named at.entry.path.now (map (λ other. other.now) inherited.now)
-        arguments.now) }
+fn push_all_conflicts(found: &mut Found, inherited: &[&Arg], arguments: &[Arg]) -> Added
+    ensures { OnOk result (found.new ≡ found.old
+        ++ all_conflicts (map (λ other. other.now) inherited.now) arguments.now) }
 {
-    let mut others = Vec::new(at.alloc);
-    push_inherited_names(&mut others, at.alloc, named, inherited)?;
-    let mut names = Vec::new(at.alloc);
-    push_all_names(&mut names, at.alloc, named, arguments)?;
-    push_taken(found, at, Owners::Arguments(named), &others, &names)
+    let alloc = found.allocator();
+    let mut names = Vec::new(alloc);
+    push_inherited_names(&mut names, alloc, Named::Id, inherited)?;
+    push_all_names(&mut names, alloc, Named::Id, arguments)?;
+    let seen = seen_of(alloc, &names)?;
+    push_conflicts(found, &seen, arguments)
 }
 
-fn push_inherited_names<'a>(
-    names: &mut Vec<PlacedName<'a>>,
-    alloc: Global,
-    named: Named,
-    inherited: &[&'a Arg],
-) -> Result<(), AllocError>
-    ensures { OnOk result (names.new.items ≡ names.old.items
-        ++ all_names named (map (λ other. other.now) inherited.now)) }
-{
-    for (index, argument) in inherited.iter().enumerate() {
-        push_names_of(names, alloc, named, index, argument)?;
-    }
-    Ok(())
-}
-
-fn push_all_conflicts(
-    found: &mut Vec<Warning>,
-    at: At<'_>,
-    inherited: &[&Arg],
-    arguments: &[Arg],
-) -> Result<(), AllocError>
-    ensures { OnOk result (found.new.items ≡ found.old.items
-        ++ all_conflicts at.entry.path.now (map (λ other. other.now) inherited.now) arguments.now) }
-{
-    let mut names = Vec::new(at.alloc);
-    push_inherited_names(&mut names, at.alloc, Named::Id, inherited)?;
-    push_all_names(&mut names, at.alloc, Named::Id, arguments)?;
-    let seen = seen_of(at.alloc, &names)?;
-    push_conflicts(found, at, &seen, arguments)
-}
-
-fn push_conflicts(
-    found: &mut Vec<Warning>,
-    at: At<'_>,
-    seen: &BTreeMap<&str, TextRef<'_>>,
-    arguments: &[Arg],
-) -> Result<(), AllocError>
-    ensures { OnOk result (found.new.items ≡ found.old.items
-        ++ each_from (conflicts_of (is_known_in seen.now) at.entry.path.now) 0 arguments.now) }
+fn push_conflicts(found: &mut Found, seen: &BTreeMap<&str, TextRef<'_>>, arguments: &[Arg]) -> Added
+    ensures { OnOk result (found.new ≡ found.old
+        ++ each_from (conflicts_of (is_known_in seen.now)) 0 arguments.now) }
 {
     for (index, argument) in arguments.iter().enumerate() {
-        push_conflicts_of(found, at, seen, index, argument)?;
+        push_conflicts_of(found, seen, index, argument)?;
     }
     Ok(())
 }
 
 fn push_conflicts_of(
-    found: &mut Vec<Warning>,
-    at: At<'_>,
+    found: &mut Found,
     seen: &BTreeMap<&str, TextRef<'_>>,
     argument_index: usize,
     argument: &Arg,
-) -> Result<(), AllocError>
-    ensures { OnOk result (found.new.items ≡ found.old.items
-        ++ conflicts_of (is_known_in seen.now) at.entry.path.now argument_index argument.now) }
+) -> Added
+    ensures { OnOk result (found.new ≡ found.old
+        ++ conflicts_of (is_known_in seen.now) argument_index argument.now) }
 {
     let ids = conflicting_ids(argument);
     for (index, id) in ids.iter().enumerate() {
-        let kind = conflict_kind(at.alloc, seen, argument, id.as_str())?;
-        push_conflict(found, at, argument_index, index, kind)?;
+        let kind = conflict_kind(found.allocator(), seen, argument, id.as_str())?;
+        push_conflict(found, argument_index, index, kind)?;
     }
     Ok(())
 }
 
-// Whether an argument has the id, or a flag that building may add.
-fn is_known(seen: &BTreeMap<&str, TextRef<'_>>, id: &str) -> bool
-    ensures { result ≡ is_known_in seen.now id.now }
-{
-    seen.get(id).is_some() || (id == "help" || id == "version")
-}
-
-fn push_conflict(
-    found: &mut Vec<Warning>,
-    at: At<'_>,
-    argument: usize,
-    item: usize,
-    kind: Option<Kind>,
-) -> Result<(), AllocError>
-    ensures { OnOk result (found.new.items ≡ found.old.items
-        ++ conflict_list at.entry.path.now argument item kind) }
+fn push_conflict(found: &mut Found, argument: usize, item: usize, kind: Option<Kind>) -> Added
+    ensures { OnOk result (found.new ≡ found.old ++ conflict_list argument item kind) }
 {
     match kind {
-        Some(kind) => {
-            let key = Key::ConflictsWith;
-            push_warning(found, at, Some(argument), key, Some(item), kind)
-        }
+        Some(kind) => found.note(
+            Spot::Argument(argument),
+            Key::ConflictsWith,
+            Some(item),
+            kind,
+        ),
         None => Ok(()),
     }
 }
 
-// What is wrong with the id of a conflict.
+// Returns what is wrong with the id of a conflict.
 fn conflict_kind(
     alloc: Global,
     seen: &BTreeMap<&str, TextRef<'_>>,
@@ -273,4 +242,11 @@ fn conflict_kind(
         return Ok(Some(Kind::SelfConflict));
     }
     Ok(None)
+}
+
+// Returns whether an argument, or a flag that building may add, has the id.
+fn is_known(seen: &BTreeMap<&str, TextRef<'_>>, id: &str) -> bool
+    ensures { result ≡ is_known_in seen.now id.now }
+{
+    seen.get(id).is_some() || (id == "help" || id == "version")
 }

@@ -1,79 +1,48 @@
-//! A check of each command and each argument of a tree.
+//! A walk over a tree, which places what is found about each command.
 
-ghost use Rattle.std.specs.Prelude.{◌≡◌, ◌∷◌, [], ◌++◌, IfOk, OnOk, Some};
+ghost use Rattle.std.specs.Prelude.{◌≡◌, ◌∷◌, [], ◌++◌, IfOk, OnOk, map};
 ghost use Rattle.cc_command.specs.Tree.{forest_of};
-ghost use Rattle.complgen_lints.specs.Walk.{each_from, forest_list, tree_list};
+ghost use Rattle.complgen_lints.specs.CommandWarnings.{lint_list};
+ghost use Rattle.complgen_lints.specs.Findings.{placed, spot_argument, spot_path};
+ghost use Rattle.complgen_lints.specs.Walk.{forest_list, tree_list};
 
-use crate::place::{At, Key};
-use crate::warning::{Kind, Warning};
-use cc_arg::Arg;
+use crate::found::{Added, Finding, Found, Spot};
+use crate::lints::{Lint, push_lint};
+use crate::place::Place;
+use crate::warning::Warning;
+use cc_base::Items;
 use cc_command::Command;
-use std::alloc::AllocError;
+use std::alloc::{AllocError, Global};
 
-/// A check of commands and arguments, one by one.
-pub(crate) trait Check {
-    ghost use Rattle.std.specs.Prelude.{◌≡◌, ◌++◌, List, ℕ, OnOk};
-    ghost use Rattle.cc_arg.specs.declared.parts.ArgParts.{ArgParts as Arg};
-    ghost use Rattle.cc_command.specs.Tree.{Tree};
-    ghost use Rattle.complgen_lints.specs.declared.warning.Warning.{Warning};
-
-    // the warnings about the command at a path, its arguments and what is below it not counted
-    ghost of_command: { Self → List ℕ → Tree → List Warning };
-
-    // the warnings about the argument with an index, of the command at a path
-    ghost of_argument: { Self → List ℕ → ℕ → Arg → List Warning };
-
-    /// Adds the warnings about a command, its arguments and what is below it not counted. Fails
-    /// where memory runs out.
-    fn push_command(
-        &self,
-        found: &mut Vec<Warning>,
-        at: At<'_>,
-        command: &Command,
-    ) -> Result<(), AllocError>
-        ensures { OnOk result (found.new.items
-            ≡ found.old.items ++ of_command self.now at.entry.path.now command.now) };
-
-    /// Adds the warnings about an argument. Fails where memory runs out.
-    fn push_argument(
-        &self,
-        found: &mut Vec<Warning>,
-        at: At<'_>,
-        index: usize,
-        argument: &Arg,
-    ) -> Result<(), AllocError>
-        ensures { OnOk result (found.new.items
-            ≡ found.old.items ++ of_argument self.now at.entry.path.now index argument.now) };
+/// The command that warnings are about, and what allocates their parts.
+#[derive(Clone, Copy)]
+pub(crate) struct At<'a> {
+    pub(crate) alloc: Global,
+    /// The path of the command from the root on: indexes of children, counted from 0.
+    pub(crate) path: &'a [usize],
 }
 
-/// Adds the warnings about a command, about its arguments, then about each child and all below it.
-/// Fails where memory runs out.
+/// Adds what `lint` finds in a command, then in each child and all below it.
 #[cycle(walk)]
-pub(crate) fn push_tree<C: Check>(
-    check: &C,
-    found: &mut Vec<Warning>,
+pub(crate) fn push_tree(
+    warnings: &mut Vec<Warning>,
+    lint: Lint,
     at: At<'_>,
     command: &Command,
-) -> Result<(), AllocError>
-    ensures { OnOk result (found.new.items ≡ found.old.items
-        ++ tree_list (C.of_command check.now) (C.of_argument check.now) at.entry.path.now
-        command.now) }
+) -> Added
+    ensures { OnOk result (warnings.new.items
+        ≡ warnings.old.items ++ tree_list (lint_list lint) at.entry.path.now command.now) }
 {
-    check.push_command(found, at, command)?;
-    push_arguments(check, found, at, command.get_arguments())?;
-    push_children(check, found, at, command.get_subcommands())
+    let mut found = Found::new(at.alloc);
+    push_lint(&mut found, lint, command)?;
+    place_all(warnings, at, found)?;
+    push_children(warnings, lint, at, command.get_subcommands())
 }
 
 #[cycle(walk)]
-fn push_children<C: Check>(
-    check: &C,
-    found: &mut Vec<Warning>,
-    at: At<'_>,
-    children: &[Command],
-) -> Result<(), AllocError>
-    ensures { OnOk result (found.new.items ≡ found.old.items
-        ++ forest_list (C.of_command check.now) (C.of_argument check.now) at.entry.path.now 0
-        (forest_of children.now)) }
+fn push_children(warnings: &mut Vec<Warning>, lint: Lint, at: At<'_>, children: &[Command]) -> Added
+    ensures { OnOk result (warnings.new.items ≡ warnings.old.items
+        ++ forest_list (lint_list lint) at.entry.path.now 0 (forest_of children.now)) }
 {
     for (index, child) in children.iter().enumerate() {
         let path = child_path(at, index)?;
@@ -81,27 +50,54 @@ fn push_children<C: Check>(
             alloc: at.alloc,
             path: path.as_slice(),
         };
-        push_tree(check, found, below, child)?;
+        push_tree(warnings, lint, below, child)?;
     }
     Ok(())
 }
 
-fn push_arguments<C: Check>(
-    check: &C,
-    found: &mut Vec<Warning>,
-    at: At<'_>,
-    arguments: &[Arg],
-) -> Result<(), AllocError>
-    ensures { OnOk result (found.new.items ≡ found.old.items
-        ++ each_from (C.of_argument check.now at.entry.path.now) 0 arguments.now) }
+/// Adds what was found about the command at a path, as warnings.
+pub(crate) fn place_all(warnings: &mut Vec<Warning>, at: At<'_>, found: Found) -> Added
+    ensures { OnOk result (warnings.new.items
+        ≡ warnings.old.items ++ map (placed at.entry.path.now) found) }
 {
-    for (index, argument) in arguments.iter().enumerate() {
-        check.push_argument(found, at, index, argument)?;
+    for finding in found.into_vec() {
+        warnings.push(placed(at, finding)?)?;
     }
     Ok(())
 }
 
-/// The path of a child. Fails where memory runs out.
+fn placed(at: At<'_>, finding: Finding) -> Result<Warning, AllocError>
+    ensures { IfOk result (λ warning. warning ≡ placed at.entry.path.now finding) }
+{
+    let place = Place {
+        command: spot_path(at, finding.spot)?,
+        argument: spot_argument(finding.spot),
+        key: Some(finding.key),
+        item: finding.item,
+    };
+    let kind = finding.kind;
+    Ok(Warning { place, kind })
+}
+
+fn spot_path(at: At<'_>, spot: Spot) -> Result<Items<usize>, AllocError>
+    ensures { IfOk result (λ path. path ≡ spot_path at.entry.path.now spot) }
+{
+    match spot {
+        Spot::Child(index) => Ok(Items::from(child_path(at, index)?)),
+        _ => Items::copy_of(at.alloc, at.path),
+    }
+}
+
+fn spot_argument(spot: Spot) -> Option<usize>
+    ensures { result ≡ spot_argument spot }
+{
+    match spot {
+        Spot::Argument(index) => Some(index),
+        _ => None,
+    }
+}
+
+/// Returns the path of a child.
 pub(crate) fn child_path(at: At<'_>, index: usize) -> Result<Vec<usize>, AllocError>
     ensures { IfOk result (λ path. path.items ≡ at.entry.path.now ++ index ∷ []) }
 {

@@ -1,13 +1,11 @@
 //! A warning.
 
-ghost use Rattle.std.specs.Prelude.{◌≡◌, ◌∷◌, [], ◌++◌, OnOk, Some};
+ghost use Rattle.std.specs.Prelude.{◌≡◌};
 ghost use Rattle.complgen_lints.specs.Notes.{are_notes, is_note};
-ghost use Rattle.complgen_lints.specs.Places.{warning};
 ghost use Rattle.complgen_lints.specs.Texts.{level_of};
 
-use crate::place::{At, Key, Place};
-use cc_base::{Items, Text};
-use std::alloc::AllocError;
+use crate::place::Place;
+use cc_base::Text;
 
 /// How serious a warning is.
 #[derive(Clone, Copy, PartialEq, Eq, Debug)]
@@ -84,6 +82,8 @@ pub enum Kind {
     SecondLast,
     /// Possible values of an argument that takes none.
     ValuesOfFlag,
+    /// An empty list of possible values, at an argument that takes values.
+    NoValues,
     /// A required positional that is last, in a command with children.
     LastBesideChildren,
     /// A hidden command.
@@ -125,28 +125,4 @@ pub fn are_notes(warnings: &[Warning]) -> bool
     ensures { result ≡ are_notes warnings.now }
 {
     warnings.iter().all(Warning::is_note)
-}
-
-/// Adds a warning about a key of the command at a path, or of an argument of that command, or about
-/// an item there. Fails where memory runs out.
-pub(crate) fn push_warning(
-    found: &mut Vec<Warning>,
-    at: At<'_>,
-    argument: Option<usize>,
-    key: Key,
-    item: Option<usize>,
-    kind: Kind,
-) -> Result<(), AllocError>
-    ensures { OnOk result (found.new.items
-        ≡ found.old.items ++ warning at.entry.path.now argument key item kind ∷ []) }
-{
-    let command = Items::copy_of(at.alloc, at.path)?;
-    let place = Place {
-        command,
-        argument,
-        key: Some(key),
-        item,
-    };
-    found.push(Warning { place, kind })?;
-    Ok(())
 }

@@ -1,9 +1,8 @@
 -- Hidden members, one item or member after another.
-use Rattle.std.proofs.Common.{◌≡◌, ◌∙◌, ◌++◌, ◌+◌, ◌<◌, ℕ, Bool, List, [], ◌∷◌, ap, append_assoc, drop, get_or, length, map, sym}
-use Rattle.std.proofs.lemmas.List.{append-nil, drop_more, map-append}
+use Rattle.std.proofs.Common.{◌≡◌, ◌∙◌, ◌++◌, ◌+◌, ◌<◌, ℕ, List, [], ◌∷◌, ap, append_assoc, drop, get_or, length, map, sym}
+use Rattle.std.proofs.lemmas.List.{drop_more, map-append}
 use Rattle.std.specs.Borrow.{Bor}
 use Rattle.std.specs.declared.alloc.Global.{Global}
-use Rattle.json.specs.Json.{Json, Items, Members}
 use Rattle.json.specs.Value.{items_view, members_view, value_view}
 use Rattle.json.specs.declared.value.Value.{Value}
 use Rattle.complgen_tree_errors.specs.Doubles.{has_key, hidden_in, hidden_in_items, hidden_in_members, if_hidden}

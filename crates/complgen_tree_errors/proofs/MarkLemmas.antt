@@ -1,5 +1,5 @@
 -- The line and the column after one more byte.
-use Rattle.std.proofs.Common.{◌≡◌, ◌∙◌, ◌++◌, ◌+◌, ◌≤◌, ◌<◌, ℕ, Bool, true, false, List, [], ◌∷◌, ap, arith, cond, get_or, length, not, refl, reverse, sym, take}
+use Rattle.std.proofs.Common.{◌≡◌, ◌∙◌, ◌++◌, ◌+◌, ◌≤◌, ◌<◌, ℕ, true, false, List, [], ◌∷◌, ap, arith, cond, get_or, length, not, reverse, take}
 use Rattle.std.specs.Prelude.{count_by, take_while}
 use Rattle.std.specs.List.{prefix_len}
 use Rattle.std.proofs.lemmas.List.Folds.{length-prefix_len}

@@ -1,7 +1,7 @@
 -- The parts of a finding that are shown, apart from its line and its column.
 use Rattle.std.specs.Prelude.{◌≡◌, ℕ, ◌-◌, All, List, [], ◌++◌, Option, Some, codes, false, length, map, slice_get, string_bytes}
 use Rattle.cc_base.specs.Shown.{HoldsNoControl}
-use Rattle.complgen_tree_errors.specs.Places.{ShownStep, index, key, path_text, shown_step}
+use Rattle.complgen_tree_errors.specs.Places.{ShownStep, key, path_text, shown_step}
 use Rattle.complgen_tree_errors.specs.Shown.{shown_text}
 use Rattle.complgen_tree_errors.specs.declared.finding.Finding.{Finding}
 use Rattle.complgen_tree_errors.specs.declared.finding.Level.{Level}

@@ -13,8 +13,8 @@ returns-in-Errors c =
     c.in_ok-errors.ensures in
     errors checks.1 checks.0
 
-pub returns-in-Tree : goal.returns-in-Tree
-returns-in-Tree c =
+pub returns : goal.returns
+returns c =
     let checks = subst (λ (checked : Checked). Checks c.args.bytes.now checked) c.in-Tree.is
     c.in_ok-errors.ensures in
     let bin = option_copied c.args.bin in

@@ -6,6 +6,6 @@ use Rattle.complgen_lints.proofs.names.push_taken.Given as goal
 abbrev pub invariant-loop-name : goal.invariant-loop-name
 invariant-loop-name l = record {
   kept : (word : List ℕ) → owner_in l.seen word ≡ owner_with (l.fn.others ++ take l.name-index l.names) word;
-  whole : l.found.items ++ taken_from l.owners l.at.path.now (l.fn.others ++ take l.name-index l.names) (drop l.name-index l.names)
-      ≡ l.initial.found.items ++ taken_from l.owners l.at.path.now l.fn.others l.names;
+  whole : l.found ++ taken_from l.named (l.fn.others ++ take l.name-index l.names) (drop l.name-index l.names)
+      ≡ l.initial.found ++ taken_from l.named l.fn.others l.names;
 }

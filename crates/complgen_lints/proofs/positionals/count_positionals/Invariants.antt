@@ -1,5 +1,5 @@
 use Rattle.std.proofs.Common.{◌≡◌, ◌≤◌, drop, fold}
-use Rattle.complgen_lints.specs.PositionalWarnings.{counted_with}
+use Rattle.complgen_lints.specs.PositionalLints.{counted_with}
 use Rattle.complgen_lints.proofs.positionals.count_positionals.Given as goal
 
 -- with those that are left it is the number of all, and each adds one at most

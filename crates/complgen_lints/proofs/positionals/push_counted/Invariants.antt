@@ -1,5 +1,5 @@
 use Rattle.std.proofs.Common.{◌≡◌, ◌+◌, ◌≤◌, ◌++◌, drop}
-use Rattle.complgen_lints.specs.PositionalWarnings.{counted_index, each_numbered}
+use Rattle.complgen_lints.specs.PositionalLints.{counted_index, each_numbered}
 use Rattle.complgen_lints.proofs.positionals.push_counted.Given as goal
 
 -- the names that were added and those that are left make the whole

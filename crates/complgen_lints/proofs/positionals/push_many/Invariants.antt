@@ -1,10 +1,10 @@
 use Rattle.std.proofs.Common.{◌≡◌, ◌+◌, ◌≤◌, ◌++◌, drop}
-use Rattle.complgen_lints.specs.PositionalWarnings.{each_numbered, many_list}
+use Rattle.complgen_lints.specs.PositionalLints.{each_numbered, many_list}
 use Rattle.complgen_lints.proofs.positionals.push_many.Given as goal
 
 -- what was found and what is left make the whole
 abbrev pub invariant-loop-index : goal.invariant-loop-index
 invariant-loop-index l =
-    (l.found.items ++ each_numbered (many_list l.at.path.now l.count l.end) l.number l.index (drop l.index l.arguments)
-    ≡ l.initial.found.items ++ each_numbered (many_list l.at.path.now l.count l.end) 1 0 l.arguments)
+    (l.found ++ each_numbered (many_list l.count l.end) l.number l.index (drop l.index l.arguments)
+    ≡ l.initial.found ++ each_numbered (many_list l.count l.end) 1 0 l.arguments)
     × (l.number ≤ l.index + 1)

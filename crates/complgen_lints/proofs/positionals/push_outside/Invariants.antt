@@ -1,11 +1,11 @@
 use Rattle.std.proofs.Common.{◌≡◌, ◌++◌, drop}
 use Rattle.cc_arg.specs.Arguments.{is_positional}
-use Rattle.complgen_lints.specs.PositionalWarnings.{outside_list}
+use Rattle.complgen_lints.specs.PositionalLints.{outside_list}
 use Rattle.complgen_lints.specs.Walk.{each_from}
 use Rattle.complgen_lints.proofs.positionals.push_outside.Given as goal
 
 -- what was found and what is left make the whole
 abbrev pub invariant-loop-index : goal.invariant-loop-index
 invariant-loop-index l =
-    l.found.items ++ each_from (λ index argument. outside_list l.at.path.now l.count index (is_positional argument) argument.index) l.index (drop l.index l.arguments)
-    ≡ l.initial.found.items ++ each_from (λ index argument. outside_list l.at.path.now l.count index (is_positional argument) argument.index) 0 l.arguments
+    l.found ++ each_from (λ index argument. outside_list l.count index (is_positional argument) argument.index) l.index (drop l.index l.arguments)
+    ≡ l.initial.found ++ each_from (λ index argument. outside_list l.count index (is_positional argument) argument.index) 0 l.arguments

@@ -1,5 +1,5 @@
 use Rattle.std.proofs.Common.{◌≡◌, ◌+◌, ◌≤◌, drop}
-use Rattle.complgen_lints.specs.PositionalWarnings.{with_index}
+use Rattle.complgen_lints.specs.PositionalLints.{with_index}
 use Rattle.complgen_lints.proofs.positionals.with_index.Given as goal
 
 -- the one that is looked for is the first of those that are left

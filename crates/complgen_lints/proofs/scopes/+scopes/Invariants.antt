@@ -6,8 +6,8 @@ use Rattle.complgen_lints.proofs.scopes.+scopes.Given as goal
 -- what was found and what is left make the whole
 abbrev pub invariant-push_scopes-loop-index : goal.invariant-push_scopes-loop-index
 invariant-push_scopes-loop-index l =
-    l.found.items ++ scopes_list (map (λ other. other.now) l.others) l.at.path.now l.index (forest_of (drop l.index l.children))
-    ≡ l.initial.found.items ++ scopes_list (map (λ other. other.now) l.others) l.at.path.now 0 (forest_of l.children)
+    l.warnings.items ++ scopes_list (map (λ other. other.now) l.others) l.at.path.now l.index (forest_of (drop l.index l.children))
+    ≡ l.initial.warnings.items ++ scopes_list (map (λ other. other.now) l.others) l.at.path.now 0 (forest_of l.children)
 
 -- the nodes below a command, and those of its children
 abbrev pub decreases-push_scope : goal.decreases-push_scope

@@ -9,12 +9,11 @@ use Rattle.complgen_lints.proofs.scopes.push_all_conflicts.Goals as goal
 
 pub returns : goal.returns
 returns c =
-    let path = c.args.at.path.now in
     let arguments = c.args.arguments.now in
     let names = c.deref.result.now in
     let listed : names ≡ all_names Named.Id (map (λ other. other.now) c.args.inherited.now) ++ all_names Named.Id arguments = search rules in
     on_ok_weaker c.push_conflicts.result
-    (λ added. added ∙ ap (λ list. c.args.found.now.items ++ list)
-    (same_conflicts c.in_ok-seen.seen names c.in_ok-seen.ensures path arguments
-    ∙ ap (λ names. each_from (conflicts_of (is_known names) path) 0 arguments) listed))
+    (λ added. added ∙ ap (λ list. c.args.found.now ++ list)
+    (same_conflicts c.in_ok-seen.seen names c.in_ok-seen.ensures arguments
+    ∙ ap (λ names. each_from (conflicts_of (is_known names)) 0 arguments) listed))
     c.push_conflicts.ensures

@@ -6,5 +6,5 @@ use Rattle.complgen_lints.proofs.scopes.push_conflicts.Given as goal
 -- what was found and what is left make the whole
 abbrev pub invariant-loop-index : goal.invariant-loop-index
 invariant-loop-index l =
-    l.found.items ++ each_from (conflicts_of (is_known_in l.seen) l.at.path.now) l.index (drop l.index l.arguments)
-    ≡ l.initial.found.items ++ each_from (conflicts_of (is_known_in l.seen) l.at.path.now) 0 l.arguments
+    l.found ++ each_from (conflicts_of (is_known_in l.seen)) l.index (drop l.index l.arguments)
+    ≡ l.initial.found ++ each_from (conflicts_of (is_known_in l.seen)) 0 l.arguments

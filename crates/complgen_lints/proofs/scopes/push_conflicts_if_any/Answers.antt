@@ -8,9 +8,9 @@ use Rattle.complgen_lints.proofs.scopes.push_conflicts_if_any.Goals as goal
 
 pub returns-then-not-have_conflicts : goal.returns-then-not-have_conflicts
 returns-then-not-have_conflicts c =
-    let found = c.args.found.now.items in
+    let found = c.args.found.now in
     let arguments = c.args.arguments.now in
     let none : have_conflicts arguments ≡ false = search rules in
     let names = all_names Named.Id (map (λ other. other.now) c.args.inherited.now) ++ all_names Named.Id arguments in
     sym (append-nil found)
-    ∙ ap (λ list. found ++ list) (sym (none_of_none (is_known names) c.args.at.path.now 0 arguments none))
+    ∙ ap (λ list. found ++ list) (sym (none_of_none (is_known names) 0 arguments none))

@@ -7,5 +7,5 @@ use Rattle.complgen_lints.proofs.scopes.push_conflicts_of.Given as goal
 -- what was found and what is left make the whole
 abbrev pub invariant-loop-index : goal.invariant-loop-index
 invariant-loop-index l =
-    l.found.items ++ each_from (λ item id. conflict_list l.at.path.now l.argument_index item (conflict_kind (is_known_in l.seen id) (bytes_eq id l.argument.id) id)) l.index (drop l.index l.ids)
-    ≡ l.initial.found.items ++ each_from (λ item id. conflict_list l.at.path.now l.argument_index item (conflict_kind (is_known_in l.seen id) (bytes_eq id l.argument.id) id)) 0 l.argument.conflicts
+    l.found ++ each_from (λ item id. conflict_list l.argument_index item (conflict_kind (is_known_in l.seen id) (bytes_eq id l.argument.id) id)) l.index (drop l.index l.ids)
+    ≡ l.initial.found ++ each_from (λ item id. conflict_list l.argument_index item (conflict_kind (is_known_in l.seen id) (bytes_eq id l.argument.id) id)) 0 l.argument.conflicts

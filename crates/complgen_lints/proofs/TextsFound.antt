@@ -1,0 +1,311 @@
+-- Nothing is found in names and descriptions exactly where the tree is plain, quiet and escaped.
+use Rattle.std.proofs.Common.{◌≡◌, ◌∙◌, ap, ap₂, refl, ℕ, suc, Bool, true, false, not, cond, ◌&&◌, List, [], ◌∷◌, ◌++◌, flat_map, Option, Some, None, is_none, unwrap_or}
+use Rattle.std.specs.Char.{is_ascii_alphanumeric}
+use Rattle.std.specs.List.{list_all}
+use Rattle.std.proofs.Math.Bool.{and-true}
+use Rattle.std.proofs.lemmas.List.Folds.{list_all-append}
+use Rattle.cc_arg.specs.declared.parts.ArgParts.{ArgParts as Arg}
+use Rattle.cc_arg.specs.declared.possible_value.PossibleValue.{PossibleValue}
+use Rattle.cc_arg.specs.Arguments.{possible_values}
+use Rattle.cc_base.specs.PlainName.{is_plain_name}
+use Rattle.cc_command.specs.declared.node.Node.{Node}
+use Rattle.cc_command.specs.Escaped.{is_escaped_argument, is_escaped_forest, is_escaped_node, is_escaped_text, is_escaped_tree, unescaped_quote}
+use Rattle.cc_command.specs.Plain.{has_no_quote, is_plain_argument, is_plain_forest, is_plain_node, passes_if_some, siblings_differ}
+use Rattle.cc_command.specs.Quiet.{are_quiet_values, is_quiet_argument, is_quiet_forest, is_quiet_node, is_quiet_tree, is_quiet_value}
+use Rattle.cc_command.specs.Tree.{Forest, none, more, Tree}
+use Rattle.complgen_lints.specs.Findings.{some_finding}
+use Rattle.complgen_lints.specs.Notes.{are_notes, is_note}
+use Rattle.complgen_lints.specs.Parts.{label_parts, listed_short, listed_text, listed_shorts, listed_texts, long_parts, name_parts, short_parts, some_short, some_text, value_name}
+use Rattle.complgen_lints.specs.Premises.{names_list}
+use Rattle.complgen_lints.specs.Running.{holds_one_of}
+use Rattle.complgen_lints.specs.SiblingNames.{taken_names}
+use Rattle.complgen_lints.specs.TextLints.{argument_list, argument_parts, begins_with_hyphen, command_parts, content_kind, ending_signs, is_label, is_long, part_kind, part_list, parts_list, plain_kind, quote_kind, text_kind, text_list, unless_kind, unplain_kind}
+use Rattle.complgen_lints.specs.Walk.{each_from, tree_list}
+use Rattle.complgen_lints.specs.declared.found.Spot.{Spot}
+use Rattle.complgen_lints.specs.declared.found.Spot.TheVariants as spot
+use Rattle.complgen_lints.specs.declared.parts.Content.{Content}
+use Rattle.complgen_lints.specs.declared.parts.Content.TheVariants as content
+use Rattle.complgen_lints.specs.declared.parts.Part.{Part}
+use Rattle.complgen_lints.specs.declared.place.Key.{Key}
+use Rattle.complgen_lints.specs.declared.text_lints.TextLint.{TextLint}
+use Rattle.complgen_lints.specs.declared.text_lints.TextLint.TheVariants as lint
+use Rattle.complgen_lints.specs.declared.warning.Kind.{Kind}
+use Rattle.complgen_lints.specs.declared.warning.Kind.TheVariants.{LongWithHyphen, NotPlain, Quote, ShortNotPlain, LoudValue, ZshSign}
+use Rattle.complgen_lints.proofs.TakenNames.{siblings_notes}
+use Rattle.complgen_lints.proofs.Walked.{all_pass, each_only, only_append, only_notes, tree_notes}
+
+-- ---- no kind of a text or a short is a note
+
+abbrev is_loud : Option Kind → Bool
+is_loud None = true
+is_loud (Some kind) = not (is_note kind)
+
+unless_loud : (test : Bool) (kind : Kind) → is_note kind ≡ false → is_loud (unless_kind test kind) ≡ true
+unless_loud true kind h = refl
+unless_loud false kind h = ap not h
+
+unplain_warns : (hyphen : Bool) (text : List ℕ) → is_note (cond hyphen (LongWithHyphen text) (NotPlain text)) ≡ false
+unplain_warns true text = refl
+unplain_warns false text = refl
+
+plain_loud : (label : Bool) (key : Key) (text : List ℕ) →
+    is_loud (cond label (unless_kind (has_no_quote text) Quote) (unless_kind (is_plain_name text) (unplain_kind key text))) ≡ true
+plain_loud true key text = unless_loud (has_no_quote text) Quote refl
+plain_loud false key text =
+    unless_loud (is_plain_name text) (unplain_kind key text) (unplain_warns (is_long key && begins_with_hyphen text) text)
+
+quote_loud : (quote : Option ℕ) → is_loud (quote_kind quote) ≡ true
+quote_loud None = refl
+quote_loud (Some quote) = refl
+
+kind_loud : (lint : TextLint) (key : Key) (content : Content) → is_loud (content_kind lint key content) ≡ true
+kind_loud lint.Plain key (content.Text text) = plain_loud (is_label key) key text
+kind_loud lint.Quiet key (content.Text text) = unless_loud (is_quiet_value text) (LoudValue text) refl
+kind_loud lint.Quotes key (content.Text text) = quote_loud (unescaped_quote text)
+kind_loud lint.Zsh key (content.Text text) = unless_loud (not (holds_one_of (ending_signs key) text)) ZshSign refl
+kind_loud _ key (content.Short short) = unless_loud (is_ascii_alphanumeric short) (ShortNotPlain short) refl
+
+-- ---- a part, and some parts
+
+abbrev passes : TextLint → Part → Bool
+passes lint part = is_none (part_kind lint part)
+
+no_note : (note : Bool) → not note ≡ true → (note && true) ≡ false
+no_note true h = cc
+no_note false h = refl
+
+finding_only : (spot : Spot) (key : Key) (item : Option ℕ) (kind : Option Kind) → is_loud kind ≡ true →
+    only_notes (some_finding spot key item kind) ≡ is_none kind
+finding_only spot key item None h = refl
+finding_only spot key item (Some kind) h = no_note (is_note kind) h
+
+parts_only : (lint : TextLint) (spot : Spot) (parts : List Part) → only_notes (parts_list lint spot parts) ≡ list_all (passes lint) parts
+parts_only lint spot [] = refl
+parts_only lint spot (part ∷ parts) =
+    only_append (part_list lint spot part) (parts_list lint spot parts)
+    ∙ ap₂ (λ a b. a && b) (finding_only spot part.key part.item (part_kind lint part) (kind_loud lint part.key part.content))
+    (parts_only lint spot parts)
+
+none_unless : (test : Bool) (kind : Kind) → is_none (unless_kind test kind) ≡ test
+none_unless true kind = refl
+none_unless false kind = refl
+
+-- what a test of texts says of the parts of a text, where there is one, and of a list
+module _ (lint : TextLint) (key : Key) (test : List ℕ → Bool) (same : (text : List ℕ) → is_none (text_kind lint key text) ≡ test text) where
+  some_text_passes : (text : Option (List ℕ)) → list_all (passes lint) (some_text key None text) ≡ passes_if_some test text
+  some_text_passes None = refl
+  some_text_passes (Some text) = ap (λ b. b && true) (same text) ∙ and-true (test text)
+
+  texts_pass : (index : ℕ) (texts : List (List ℕ)) → list_all (passes lint) (each_from (listed_text key) index texts) ≡ list_all test texts
+  texts_pass index [] = refl
+  texts_pass index (text ∷ texts) = ap₂ (λ a b. a && b) (same text) (texts_pass (suc index) texts)
+
+some_short_passes : (key : Key) (short : Option ℕ) → list_all (passes lint.Plain) (some_short key short) ≡ passes_if_some is_ascii_alphanumeric short
+some_short_passes key None = refl
+some_short_passes key (Some short) =
+    ap (λ b. b && true) (none_unless (is_ascii_alphanumeric short) (ShortNotPlain short)) ∙ and-true (is_ascii_alphanumeric short)
+
+shorts_pass : (key : Key) (index : ℕ) (shorts : List ℕ) →
+    list_all (passes lint.Plain) (each_from (listed_short key) index shorts) ≡ list_all is_ascii_alphanumeric shorts
+shorts_pass key index [] = refl
+shorts_pass key index (short ∷ shorts) =
+    ap₂ (λ a b. a && b) (none_unless (is_ascii_alphanumeric short) (ShortNotPlain short)) (shorts_pass key (suc index) shorts)
+
+-- three lists of parts pass where each does
+three_pass : (lint : TextLint) (some others last : List Part) → list_all (passes lint) ((some ++ others) ++ last)
+    ≡ ((list_all (passes lint) some && list_all (passes lint) others) && list_all (passes lint) last)
+three_pass lint some others last =
+    list_all-append (passes lint) (some ++ others) last
+    ∙ ap (λ b. b && list_all (passes lint) last) (list_all-append (passes lint) some others)
+
+-- ---- plain names
+
+plain_same : (key : Key) → is_label key ≡ false → (text : List ℕ) → is_none (text_kind lint.Plain key text) ≡ is_plain_name text
+plain_same key h text =
+    ap (λ label. is_none (cond label (unless_kind (has_no_quote text) Quote) (unless_kind (is_plain_name text) (unplain_kind key text)))) h
+    ∙ none_unless (is_plain_name text) (unplain_kind key text)
+
+label_same : (key : Key) → is_label key ≡ true → (text : List ℕ) → is_none (text_kind lint.Plain key text) ≡ has_no_quote text
+label_same key h text =
+    ap (λ label. is_none (cond label (unless_kind (has_no_quote text) Quote) (unless_kind (is_plain_name text) (unplain_kind key text)))) h
+    ∙ none_unless (has_no_quote text) Quote
+
+-- a name, and its aliases
+names_pass : (node : Node) → list_all (passes lint.Plain) (name_parts node)
+    ≡ ((is_plain_name node.name && list_all is_plain_name node.visible_aliases) && list_all is_plain_name node.aliases)
+names_pass node =
+    let visible = listed_texts Key.VisibleAliases node.visible_aliases in
+    three_pass lint.Plain (some_text Key.Name None (Some node.name)) visible (listed_texts Key.Aliases node.aliases)
+    ∙ ap₂ (λ a b. a && b)
+    (ap₂ (λ a b. a && b) (some_text_passes lint.Plain Key.Name is_plain_name (plain_same Key.Name refl) (Some node.name))
+    (texts_pass lint.Plain Key.VisibleAliases is_plain_name (plain_same Key.VisibleAliases refl) 0 node.visible_aliases))
+    (texts_pass lint.Plain Key.Aliases is_plain_name (plain_same Key.Aliases refl) 0 node.aliases)
+
+longs_pass : (argument : Arg) → list_all (passes lint.Plain) (long_parts argument)
+    ≡ ((passes_if_some is_plain_name argument.long && list_all is_plain_name argument.visible_aliases) && list_all is_plain_name argument.aliases)
+longs_pass argument =
+    let visible = listed_texts Key.VisibleAliases argument.visible_aliases in
+    three_pass lint.Plain (some_text Key.Long None argument.long) visible (listed_texts Key.Aliases argument.aliases)
+    ∙ ap₂ (λ a b. a && b)
+    (ap₂ (λ a b. a && b) (some_text_passes lint.Plain Key.Long is_plain_name (plain_same Key.Long refl) argument.long)
+    (texts_pass lint.Plain Key.VisibleAliases is_plain_name (plain_same Key.VisibleAliases refl) 0 argument.visible_aliases))
+    (texts_pass lint.Plain Key.Aliases is_plain_name (plain_same Key.Aliases refl) 0 argument.aliases)
+
+all_shorts_pass : (argument : Arg) → list_all (passes lint.Plain) (short_parts argument)
+    ≡ ((passes_if_some is_ascii_alphanumeric argument.short && list_all is_ascii_alphanumeric argument.visible_short_aliases)
+    && list_all is_ascii_alphanumeric argument.short_aliases)
+all_shorts_pass argument =
+    let visible = listed_shorts Key.VisibleShortAliases argument.visible_short_aliases in
+    three_pass lint.Plain (some_short Key.Short argument.short) visible (listed_shorts Key.ShortAliases argument.short_aliases)
+    ∙ ap₂ (λ a b. a && b)
+    (ap₂ (λ a b. a && b) (some_short_passes Key.Short argument.short)
+    (shorts_pass Key.VisibleShortAliases 0 argument.visible_short_aliases))
+    (shorts_pass Key.ShortAliases 0 argument.short_aliases)
+
+labels_pass : (argument : Arg) → list_all (passes lint.Plain) (label_parts argument)
+    ≡ (has_no_quote argument.id && list_all has_no_quote argument.value_names)
+labels_pass argument =
+    ap₂ (λ a b. a && b) (label_same Key.Id refl argument.id)
+    (texts_pass lint.Plain Key.ValueNames has_no_quote (label_same Key.ValueNames refl) 0 argument.value_names)
+
+-- the tests of an argument, in groups and in a row
+in_a_row : (a b c d e f g h : Bool) →
+    (((a && b) && ((c && d) && e)) && ((f && g) && h)) ≡ (a && (b && (c && (d && (e && (f && (g && h)))))))
+in_a_row false b c d e f g h = refl
+in_a_row true false c d e f g h = refl
+in_a_row true true false d e f g h = refl
+in_a_row true true true false e f g h = refl
+in_a_row true true true true false f g h = refl
+in_a_row true true true true true false g h = refl
+in_a_row true true true true true true false h = refl
+in_a_row true true true true true true true h = refl
+
+plain_argument : (index : ℕ) (argument : Arg) → only_notes (argument_list lint.Plain index argument) ≡ is_plain_argument argument
+plain_argument index argument =
+    parts_only lint.Plain (spot.Argument index) (argument_parts lint.Plain argument)
+    ∙ three_pass lint.Plain (label_parts argument) (short_parts argument) (long_parts argument)
+    ∙ ap₂ (λ a b. a && b) (ap₂ (λ a b. a && b) (labels_pass argument) (all_shorts_pass argument)) (longs_pass argument)
+    ∙ in_a_row (has_no_quote argument.id) (list_all has_no_quote argument.value_names)
+    (passes_if_some is_ascii_alphanumeric argument.short) (list_all is_ascii_alphanumeric argument.visible_short_aliases)
+    (list_all is_ascii_alphanumeric argument.short_aliases)
+    (passes_if_some is_plain_name argument.long) (list_all is_plain_name argument.visible_aliases) (list_all is_plain_name argument.aliases)
+
+-- the tests of a command: those of a lint, and of the names of its children
+abbrev plain_test : Tree → Bool
+plain_test tree = is_plain_node tree.node && siblings_differ tree.children
+
+of_command : (a b c d e : Bool) → ((((a && b) && c) && d) && e) ≡ ((a && (b && (c && d))) && e)
+of_command false b c d e = refl
+of_command true false c d e = refl
+of_command true true c d e = refl
+
+plain_command : (tree : Tree) → only_notes (names_list tree) ≡ plain_test tree
+plain_command tree =
+    let node = tree.node in
+    let names = parts_list lint.Plain spot.Command (command_parts lint.Plain node) in
+    let arguments = each_from (argument_list lint.Plain) 0 node.arguments in
+    only_append (names ++ arguments) (taken_names tree.children)
+    ∙ ap₂ (λ a b. a && b)
+    (only_append names arguments
+    ∙ ap₂ (λ a b. a && b) (parts_only lint.Plain spot.Command (name_parts node) ∙ names_pass node)
+    (each_only (argument_list lint.Plain) is_plain_argument plain_argument 0 node.arguments))
+    (siblings_notes tree.children)
+    ∙ of_command (is_plain_name node.name) (list_all is_plain_name node.visible_aliases) (list_all is_plain_name node.aliases)
+    (list_all is_plain_argument node.arguments) (siblings_differ tree.children)
+
+row_of_three : (a b c : Bool) → ((a && b) && c) ≡ (a && (b && c))
+row_of_three true b c = refl
+row_of_three false b c = refl
+
+row_of_four : (a b c d : Bool) → (((a && b) && c) && d) ≡ (a && (b && (c && d)))
+row_of_four true b c d = row_of_three b c d
+row_of_four false b c d = refl
+
+forest_plain : (forest : Forest) → all_pass names_list plain_test plain_command forest ≡ is_plain_forest forest
+forest_plain none = refl
+forest_plain (more node below rest) =
+    row_of_four (is_plain_node node) (siblings_differ below) _ _
+    ∙ ap₂ (λ a b. is_plain_node node && (siblings_differ below && (a && b))) (forest_plain below) (forest_plain rest)
+
+pub plain_notes : (path : List ℕ) (tree : Tree) → are_notes (tree_list names_list path tree)
+    ≡ (is_plain_node tree.node && (siblings_differ tree.children && is_plain_forest tree.children))
+plain_notes path tree =
+    tree_notes names_list plain_test plain_command path tree
+    ∙ row_of_three (is_plain_node tree.node) (siblings_differ tree.children) _
+    ∙ ap (λ b. is_plain_node tree.node && (siblings_differ tree.children && b)) (forest_plain tree.children)
+
+-- ---- quiet values
+
+quiet_same : (key : Key) (text : List ℕ) → is_none (text_kind lint.Quiet key text) ≡ is_quiet_value text
+quiet_same key text = none_unless (is_quiet_value text) (LoudValue text)
+
+values_pass : (index : ℕ) (values : List PossibleValue) →
+    list_all (passes lint.Quiet) (each_from value_name index values) ≡ list_all (λ value. is_quiet_value value.name) values
+values_pass index [] = refl
+values_pass index (value ∷ values) = ap₂ (λ a b. a && b) (quiet_same Key.PossibleValues value.name) (values_pass (suc index) values)
+
+some_values_pass : (values : Option (List PossibleValue)) →
+    list_all (passes lint.Quiet) (each_from value_name 0 (unwrap_or values [])) ≡ are_quiet_values values
+some_values_pass None = refl
+some_values_pass (Some values) = values_pass 0 values
+
+quiet_argument : (index : ℕ) (argument : Arg) → only_notes (argument_list lint.Quiet index argument) ≡ is_quiet_argument argument
+quiet_argument index argument =
+    parts_only lint.Quiet (spot.Argument index) (argument_parts lint.Quiet argument)
+    ∙ some_values_pass (possible_values argument)
+
+abbrev quiet_test : Tree → Bool
+quiet_test tree = is_quiet_node tree.node
+
+quiet_command : (tree : Tree) → only_notes (text_list lint.Quiet tree) ≡ quiet_test tree
+quiet_command tree = each_only (argument_list lint.Quiet) is_quiet_argument quiet_argument 0 tree.node.arguments
+
+forest_quiet : (forest : Forest) → all_pass (text_list lint.Quiet) quiet_test quiet_command forest ≡ is_quiet_forest forest
+forest_quiet none = refl
+forest_quiet (more node below rest) =
+    row_of_three (is_quiet_node node) _ _
+    ∙ ap₂ (λ a b. is_quiet_node node && (a && b)) (forest_quiet below) (forest_quiet rest)
+
+pub quiet_notes : (path : List ℕ) (tree : Tree) →
+    are_notes (tree_list (text_list lint.Quiet) path tree) ≡ is_quiet_tree tree
+quiet_notes path tree =
+    tree_notes (text_list lint.Quiet) quiet_test quiet_command path tree
+    ∙ ap (λ b. is_quiet_node tree.node && b) (forest_quiet tree.children)
+
+-- ---- quotes
+
+quote_none : (quote : Option ℕ) → is_none (quote_kind quote) ≡ is_none quote
+quote_none None = refl
+quote_none (Some quote) = refl
+
+quotes_same : (key : Key) (text : List ℕ) → is_none (text_kind lint.Quotes key text) ≡ is_escaped_text text
+quotes_same key text = quote_none (unescaped_quote text)
+
+escaped_argument : (index : ℕ) (argument : Arg) → only_notes (argument_list lint.Quotes index argument) ≡ is_escaped_argument argument
+escaped_argument index argument =
+    parts_only lint.Quotes (spot.Argument index) (some_text Key.Help None argument.help)
+    ∙ some_text_passes lint.Quotes Key.Help is_escaped_text (quotes_same Key.Help) argument.help
+
+abbrev escaped_test : Tree → Bool
+escaped_test tree = is_escaped_node tree.node
+
+escaped_command : (tree : Tree) → only_notes (text_list lint.Quotes tree) ≡ escaped_test tree
+escaped_command tree =
+    let about = some_text Key.About None tree.node.about in
+    only_append (parts_list lint.Quotes spot.Command about) (each_from (argument_list lint.Quotes) 0 tree.node.arguments)
+    ∙ ap₂ (λ a b. a && b)
+    (parts_only lint.Quotes spot.Command about
+    ∙ some_text_passes lint.Quotes Key.About is_escaped_text (quotes_same Key.About) tree.node.about)
+    (each_only (argument_list lint.Quotes) is_escaped_argument escaped_argument 0 tree.node.arguments)
+
+forest_escaped : (forest : Forest) → all_pass (text_list lint.Quotes) escaped_test escaped_command forest ≡ is_escaped_forest forest
+forest_escaped none = refl
+forest_escaped (more node below rest) =
+    row_of_three (is_escaped_node node) _ _
+    ∙ ap₂ (λ a b. is_escaped_node node && (a && b)) (forest_escaped below) (forest_escaped rest)
+
+pub quotes_notes : (path : List ℕ) (tree : Tree) →
+    are_notes (tree_list (text_list lint.Quotes) path tree) ≡ is_escaped_tree tree
+quotes_notes path tree =
+    tree_notes (text_list lint.Quotes) escaped_test escaped_command path tree
+    ∙ ap (λ b. is_escaped_node tree.node && b) (forest_escaped tree.children)

@@ -1,0 +1,10 @@
+use Rattle.std.proofs.Common.{◌≡◌, ◌++◌, drop}
+use Rattle.complgen_lints.specs.ArgumentLints.{argument_list}
+use Rattle.complgen_lints.specs.Walk.{each_from}
+use Rattle.complgen_lints.proofs.argument_lints.push_each.Given as goal
+
+-- what is there and what is left make the whole
+abbrev pub invariant-loop-index : goal.invariant-loop-index
+invariant-loop-index l =
+    l.found ++ each_from (argument_list l.command) l.index (drop l.index l.arguments)
+    ≡ l.initial.found ++ each_from (argument_list l.command) 0 l.command.node.arguments

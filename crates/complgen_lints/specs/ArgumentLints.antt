@@ -1,0 +1,159 @@
+-- What clap refuses of an argument, alone and in its command.
+use Rattle.std.specs.Prelude.{ℕ, suc, Bool, true, false, not, ◌&&◌, ◌==◌, nat_lt, List, [], ◌∷◌, ◌++◌, codes, length, if◌then◌else◌, is_some, Option, Some, None}
+use Rattle.std.specs.Str.{bytes_eq}
+use Rattle.cc_arg.specs.declared.action.ArgAction.{ArgAction}
+use Rattle.cc_arg.specs.declared.action.ArgAction.TheVariants.{Version}
+use Rattle.cc_arg.specs.declared.parts.ArgParts.{ArgParts as Arg}
+use Rattle.cc_arg.specs.declared.possible_value.PossibleValue.{PossibleValue}
+use Rattle.cc_arg.specs.declared.value_hint.ValueHint.{ValueHint}
+use Rattle.cc_arg.specs.declared.value_hint.ValueHint.TheVariants.{CommandWithArguments}
+use Rattle.cc_arg.specs.Arguments.{is_positional, range_of, takes_values}
+use Rattle.cc_command.specs.declared.node.Node.{Node}
+use Rattle.cc_command.specs.Tree.{Tree, has_nodes}
+use Rattle.complgen_lints.specs.Findings.{finding}
+use Rattle.complgen_lints.specs.Walk.{each_from, when}
+use Rattle.complgen_lints.specs.declared.argument_lints.AddedFlag.{AddedFlag}
+use Rattle.complgen_lints.specs.declared.argument_lints.AddedFlag.TheVariants as added
+use Rattle.complgen_lints.specs.declared.found.Finding.{Finding}
+use Rattle.complgen_lints.specs.declared.found.Spot.{Spot}
+use Rattle.complgen_lints.specs.declared.found.Spot.TheVariants.{Argument}
+use Rattle.complgen_lints.specs.declared.place.Key.{Key}
+use Rattle.complgen_lints.specs.declared.place.Key.TheVariants as key
+use Rattle.complgen_lints.specs.declared.warning.Kind.{Kind}
+use Rattle.complgen_lints.specs.declared.warning.Kind.TheVariants.{LastOption, IndexOfOption, GlobalRequired, MoreNamesThanValues, CommandHintWithoutMany, PositionalWithoutValue, ValuesOfFlag, NoValues}
+use Rattle.complgen_lints.specs.declared.warning.Kind.TheVariants.{TakenByHelp, TakenByVersion, NoVersion, LastBesideChildren, RequiredAfterOptional}
+
+-- ---- one argument, whatever else its command has
+
+-- an option that is last, one that has an index, and an argument that is global and required
+abbrev pub kinds_list : Spot → Arg → List Finding
+kinds_list spot argument =
+    (when (argument.last && not (is_positional argument)) (finding spot key.Last None LastOption)
+    ++ when (not (is_positional argument) && is_some argument.index)
+    (finding spot key.Index None IndexOfOption))
+    ++ when (argument.global && argument.required) (finding spot key.Global None GlobalRequired)
+
+-- the hint of a whole command line
+abbrev pub has_command_hint : ValueHint → Bool
+has_command_hint CommandWithArguments = true
+has_command_hint _ = false
+
+-- the key that says how many values an argument takes
+abbrev pub count_key : Arg → Key
+count_key argument = if is_some argument.num_args then key.NumArgs else key.Action
+
+-- more value names than values, the hint of a whole command line at an argument that is no
+-- positional of many values, and a positional that takes no value
+abbrev pub counts_list : Spot → Arg → List Finding
+counts_list spot argument =
+    (when (takes_values argument
+    && nat_lt (range_of argument).greatest (length argument.value_names))
+    (finding spot key.ValueNames None
+    (MoreNamesThanValues (length argument.value_names) (range_of argument).greatest))
+    ++ when (has_command_hint argument.value_hint
+    && not (is_positional argument && nat_lt 1 (range_of argument).greatest))
+    (finding spot key.ValueHint None CommandHintWithoutMany))
+    ++ when (is_positional argument && not (takes_values argument))
+    (finding spot (count_key argument) None PositionalWithoutValue)
+
+-- a list of possible values that is empty
+abbrev pub is_empty_list : Option (List PossibleValue) → Bool
+is_empty_list (Some []) = true
+is_empty_list _ = false
+
+-- possible values of an argument that takes none, and an empty list of them
+abbrev pub values_list : Spot → Arg → List Finding
+values_list spot argument =
+    when (not (takes_values argument) && is_some argument.possible_values)
+    (finding spot key.PossibleValues None ValuesOfFlag)
+    ++ when (takes_values argument && is_empty_list argument.possible_values)
+    (finding spot key.PossibleValues None NoValues)
+
+-- ---- an argument in its command
+
+-- a text, where there is one, is this text; a short likewise
+abbrev pub is_text : Option (List ℕ) → List ℕ → Bool
+is_text None text = false
+is_text (Some other) text = bytes_eq other text
+
+abbrev pub is_short : Option ℕ → ℕ → Bool
+is_short None short = false
+is_short (Some other) short = other == short
+
+-- a flag that building adds to this node
+abbrev pub is_added : AddedFlag → Node → Bool
+is_added added.Help node = not node.disable_help_flag
+is_added added.Version node = is_some node.version && not node.disable_version_flag
+
+-- its id, which is its long too, its short, and what is said of an argument that has one of these
+abbrev pub added_name : AddedFlag → List ℕ
+added_name added.Help = codes "help"
+added_name added.Version = codes "version"
+
+abbrev pub added_short : AddedFlag → ℕ
+added_short added.Help = 104
+added_short added.Version = 86
+
+abbrev pub added_kind : AddedFlag → Kind
+added_kind added.Help = TakenByHelp
+added_kind added.Version = TakenByVersion
+
+-- the id, the long and the short of the flag, where building adds it
+abbrev pub added_list : AddedFlag → Node → Spot → Arg → List Finding
+added_list flag node spot argument =
+    (when (is_added flag node && bytes_eq argument.id (added_name flag))
+    (finding spot key.Id None (added_kind flag))
+    ++ when (is_added flag node && is_text argument.long (added_name flag))
+    (finding spot key.Long None (added_kind flag)))
+    ++ when (is_added flag node && is_short argument.short (added_short flag))
+    (finding spot key.Short None (added_kind flag))
+
+-- the action that shows a version
+abbrev pub is_version : Option ArgAction → Bool
+is_version (Some Version) = true
+is_version _ = false
+
+-- that action in a command without a version, and a required argument that is last in a command
+-- with children
+abbrev pub missing_list : Tree → Spot → Arg → List Finding
+missing_list tree spot argument =
+    when (is_version argument.action && not (is_some tree.node.version))
+    (finding spot key.Action None NoVersion)
+    ++ when (argument.last && (argument.required && has_nodes tree.children))
+    (finding spot key.Required None LastBesideChildren)
+
+abbrev pub argument_list : Tree → ℕ → Arg → List Finding
+argument_list tree index argument = (((((kinds_list (Argument index) argument)
+    ++ counts_list (Argument index) argument) ++ values_list (Argument index) argument)
+    ++ added_list added.Help tree.node (Argument index) argument)
+    ++ added_list added.Version tree.node (Argument index) argument)
+    ++ missing_list tree (Argument index) argument
+
+-- ---- the order of positionals
+
+-- a required positional that is not last
+abbrev pub is_needed : Arg → Bool
+is_needed argument = is_positional argument && (argument.required && not argument.last)
+
+-- the id of the last optional positional after an argument, where this one was the last before it
+abbrev pub optional_after : Option (List ℕ) → Arg → Option (List ℕ)
+optional_after before argument =
+    if is_positional argument && not (is_needed argument) then Some argument.id else before
+
+-- a required positional, where there is an optional one before it
+abbrev pub needed_list : ℕ → Option (List ℕ) → Bool → List Finding
+needed_list index (Some id) true =
+    finding (Argument index) key.Required None (RequiredAfterOptional id) ∷ []
+needed_list index _ _ = []
+
+-- each required positional after an optional one, of the arguments from this index on
+abbrev pub order_list : Option (List ℕ) → ℕ → List Arg → List Finding
+order_list before index [] = []
+order_list before index (argument ∷ arguments) =
+    needed_list index before (is_needed argument)
+    ++ order_list (optional_after before argument) (suc index) arguments
+
+-- of the arguments of a command, one by one, and of their order
+abbrev pub arguments_list : Tree → List Finding
+arguments_list tree = each_from (argument_list tree) 0 tree.node.arguments
+    ++ order_list None 0 tree.node.arguments

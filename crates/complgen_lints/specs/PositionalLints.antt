@@ -1,0 +1,115 @@
+-- What clap refuses of the positionals of a command together.
+use Rattle.std.specs.Prelude.{ℕ, suc, Bool, true, false, not, ◌&&◌, ◌||◌, ◌==◌, ◌+◌, ◌-◌, nat_lt, List, [], ◌∷◌, ◌++◌, decimal, fold, if◌then◌else◌, is_some, Option, Some, None, unwrap_or}
+use Rattle.cc_arg.specs.declared.action.ArgAction.{ArgAction}
+use Rattle.cc_arg.specs.declared.action.ArgAction.TheVariants.{Append}
+use Rattle.cc_arg.specs.declared.parts.ArgParts.{ArgParts as Arg}
+use Rattle.cc_arg.specs.Arguments.{is_positional, range_of}
+use Rattle.cc_command.specs.Built.{lacks_index, next_index}
+use Rattle.cc_command.specs.Tree.{Tree}
+use Rattle.complgen_lints.specs.ArgumentNames.{all_names, index_name}
+use Rattle.complgen_lints.specs.ArgumentLints.{count_key}
+use Rattle.complgen_lints.specs.Findings.{finding}
+use Rattle.complgen_lints.specs.PlacedNames.{taken_from}
+use Rattle.complgen_lints.specs.Walk.{each_from, when}
+use Rattle.complgen_lints.specs.declared.found.Finding.{Finding}
+use Rattle.complgen_lints.specs.declared.found.Spot.TheVariants.{Argument}
+use Rattle.complgen_lints.specs.declared.names.PlacedName.{PlacedName}
+use Rattle.complgen_lints.specs.declared.names.Named.TheVariants as named
+use Rattle.complgen_lints.specs.declared.place.Key.TheVariants as key
+use Rattle.complgen_lints.specs.declared.warning.Kind.TheVariants.{IndexOutOfRange, ManyBeforeLast, SecondLast}
+
+-- how many positionals there are: with one more argument, and of all
+abbrev pub counted_with : ℕ → Arg → ℕ
+counted_with count argument = if is_positional argument then count + 1 else count
+
+abbrev pub count_positionals : List Arg → ℕ
+count_positionals arguments = fold counted_with 0 arguments
+
+-- ---- indexes
+
+-- an index that is 0, or greater than the number of positionals
+abbrev pub is_outside : ℕ → ℕ → Bool
+is_outside count index = (index == 0) || nat_lt count index
+
+abbrev pub outside_list : ℕ → ℕ → Bool → Option ℕ → List Finding
+outside_list count argument true (Some index) = when (is_outside count index)
+    (finding (Argument argument) key.Index None (IndexOutOfRange (decimal index) (decimal count)))
+outside_list count argument _ _ = []
+
+-- the index of a positional, where this one is the next that is free
+abbrev pub index_of : ℕ → Arg → ℕ
+index_of number argument = unwrap_or argument.index number
+
+-- what a function lists of each argument, where these indexes are the next that are free: of an
+-- argument and of one of the list
+abbrev pub each_numbered : {B : Type 0} → (ℕ → ℕ → Arg → List B) → ℕ → ℕ → List Arg → List B
+each_numbered f number index [] = []
+each_numbered f number index (argument ∷ arguments) = f number index argument
+    ++ each_numbered f (next_index number argument) (suc index) arguments
+
+-- the index of a positional for which none is given, as a name of it
+abbrev pub counted_index : ℕ → ℕ → Arg → List PlacedName
+counted_index number index argument =
+    if lacks_index argument then index_name index number argument.id ∷ [] else []
+
+-- ---- positionals of many values, and those that are last
+
+-- an argument takes more than one value, or is used more than once
+abbrev pub is_append : Option ArgAction → Bool
+is_append (Some Append) = true
+is_append _ = false
+
+abbrev pub takes_many : Arg → Bool
+takes_many argument = nat_lt 1 (range_of argument).greatest || is_append argument.action
+
+-- the first positional with an index
+abbrev pub with_index : ℕ → ℕ → List Arg → Option Arg
+with_index wanted number [] = None
+with_index wanted number (argument ∷ arguments) =
+    if is_positional argument && (index_of number argument == wanted) then Some argument
+    else with_index wanted (next_index number argument) arguments
+
+-- where a positional of many values ends: this one, the last of all, is required or last
+abbrev pub ends_before : Option Arg → Bool
+ends_before None = true
+ends_before (Some argument) = argument.required || argument.last
+
+-- or this one, before the last of all, is last or has a terminator
+abbrev pub ends_itself : Option Arg → Bool
+ends_itself None = false
+ends_itself (Some argument) = argument.last || is_some argument.value_terminator
+
+abbrev pub many_end : ℕ → List Arg → Bool
+many_end count arguments = ends_before (with_index count 1 arguments)
+    || ends_itself (with_index (count - 1) 1 arguments)
+
+-- a positional of many values that is not the last of all, unless it is known where they end
+abbrev pub many_list : ℕ → Bool → ℕ → ℕ → Arg → List Finding
+many_list count end number index argument =
+    when (is_positional argument && (takes_many argument
+    && (not (index_of number argument == count) && not end)))
+    (finding (Argument index) (count_key argument) None ManyBeforeLast)
+
+-- a positional that is given only after `--`
+abbrev pub is_last : Arg → Bool
+is_last argument = is_positional argument && argument.last
+
+-- each one but the first, of the arguments from this index on
+abbrev pub last_list : Bool → ℕ → List Arg → List Finding
+last_list before index [] = []
+last_list before index (argument ∷ arguments) = when (before && is_last argument)
+    (finding (Argument index) key.Last None SecondLast)
+    ++ last_list (before || is_last argument) (suc index) arguments
+
+-- of the arguments of a command, of which so many are positionals: indexes that no positional can
+-- have or that another one has, positionals of many values, and those that are last
+abbrev pub counted_list : ℕ → List Arg → List Finding
+counted_list count arguments = ((each_from (λ index argument. outside_list count index
+    (is_positional argument) argument.index) 0 arguments
+    ++ taken_from named.Index (each_numbered counted_index 1 0 arguments)
+    (all_names named.Index arguments))
+    ++ each_numbered (many_list count (many_end count arguments)) 1 0 arguments)
+    ++ last_list false 0 arguments
+
+abbrev pub positional_list : List Arg → List Finding
+positional_list arguments = counted_list (count_positionals arguments) arguments

@@ -1,0 +1,79 @@
+//! The lints, each of one command and its arguments.
+
+ghost use Rattle.std.specs.Prelude.{◌≡◌, ◌++◌, OnOk};
+ghost use Rattle.complgen_lints.specs.CommandWarnings.{clap_list, hidden_argument, hidden_list};
+ghost use Rattle.complgen_lints.specs.CommandWarnings.{lint_list};
+ghost use Rattle.complgen_lints.specs.Premises.{names_list};
+ghost use Rattle.complgen_lints.specs.Walk.{each_from};
+
+use crate::argument_lints::push_arguments;
+use crate::found::{Added, Found, Spot};
+use crate::place::Key;
+use crate::positionals::push_positionals;
+use crate::siblings::push_taken_names;
+use crate::text_lints::{TextLint, push_text_findings};
+use crate::warning::Kind;
+use cc_arg::Arg;
+use cc_command::Command;
+
+/// What is looked for in each command of a tree.
+#[derive(Clone, Copy)]
+pub(crate) enum Lint {
+    /// Names that are not plain, and names of children that an earlier one has.
+    Names,
+    /// Names and descriptions that fail a test.
+    Texts(TextLint),
+    /// What clap refuses of arguments, but for what they inherit.
+    Clap,
+    /// Hidden commands and arguments, which scripts offer.
+    Hidden,
+}
+
+/// Adds what `lint` finds in `command` and its arguments.
+pub(crate) fn push_lint(found: &mut Found, lint: Lint, command: &Command) -> Added
+    ensures { OnOk result (found.new ≡ found.old ++ lint_list lint command.now) }
+{
+    match lint {
+        Lint::Names => push_names(found, command),
+        Lint::Texts(texts) => push_text_findings(found, texts, command),
+        Lint::Clap => push_clap(found, command),
+        Lint::Hidden => push_hidden(found, command),
+    }
+}
+
+fn push_names(found: &mut Found, command: &Command) -> Added
+    ensures { OnOk result (found.new ≡ found.old ++ names_list command.now) }
+{
+    push_text_findings(found, TextLint::Plain, command)?;
+    push_taken_names(found, command.get_subcommands())
+}
+
+fn push_clap(found: &mut Found, command: &Command) -> Added
+    ensures { OnOk result (found.new ≡ found.old ++ clap_list command.now) }
+{
+    push_arguments(found, command)?;
+    push_positionals(found, command.get_arguments())
+}
+
+fn push_hidden(found: &mut Found, command: &Command) -> Added
+    ensures { OnOk result (found.new ≡ found.old ++ hidden_list command.now) }
+{
+    let hidden = command.is_hide_set();
+    found.note_if(hidden, Spot::Command, Key::Hide, Kind::HiddenCommand)?;
+    push_hidden_arguments(found, command.get_arguments())
+}
+
+fn push_hidden_arguments(found: &mut Found, arguments: &[Arg]) -> Added
+    ensures { OnOk result (found.new ≡ found.old ++ each_from hidden_argument 0 arguments.now) }
+{
+    for (index, argument) in arguments.iter().enumerate() {
+        let hidden = argument.is_hide_set();
+        found.note_if(
+            hidden,
+            Spot::Argument(index),
+            Key::Hide,
+            Kind::HiddenArgument,
+        )?;
+    }
+    Ok(())
+}

@@ -1,0 +1,218 @@
+//! What is wrong with names and descriptions.
+
+ghost use Rattle.std.specs.Prelude.{◌≡◌, ◌++◌, IfOk, OnOk};
+ghost use Rattle.complgen_lints.specs.Parts.{values_of};
+ghost use Rattle.complgen_lints.specs.TextLints.{argument_list, argument_parts, begins_with_hyphen};
+ghost use Rattle.complgen_lints.specs.TextLints.{command_parts, content_kind, ending_signs};
+ghost use Rattle.complgen_lints.specs.TextLints.{is_label, is_long, part_list, parts_list};
+ghost use Rattle.complgen_lints.specs.TextLints.{plain_kind, text_kind, text_list, zsh_parts};
+ghost use Rattle.complgen_lints.specs.Walk.{each_from};
+
+use crate::found::{Added, Found, Spot};
+use crate::parts::{
+    Content, Part, push_label_parts, push_long_parts, push_name_parts, push_short_parts,
+    push_some_text, push_text, push_texts, push_value_helps, push_value_names,
+};
+use crate::place::Key;
+use crate::running::holds_one_of;
+use crate::warning::Kind;
+use cc_arg::{Arg, PossibleValue, possible_values};
+use cc_base::{Text, is_plain_name};
+use cc_command::{Command, has_no_quote, is_quiet_value, unescaped_quote};
+use std::alloc::{AllocError, Global};
+
+/// A test of names and descriptions.
+#[derive(Clone, Copy)]
+pub(crate) enum TextLint {
+    /// Names that scripts cannot hold as they are.
+    Plain,
+    /// Possible values that bash splits or runs.
+    Quiet,
+    /// Quotes that a PowerShell script does not escape.
+    Quotes,
+    /// Texts at which a text of the zsh script ends, so that zsh may run what follows.
+    Zsh,
+}
+
+/// Adds what `lint` finds in the names and descriptions of `command` and of its arguments.
+pub(crate) fn push_text_findings(found: &mut Found, lint: TextLint, command: &Command) -> Added
+    ensures { OnOk result (found.new ≡ found.old ++ text_list lint command.now) }
+{
+    let mut parts = Vec::new(found.allocator());
+    push_command_parts(&mut parts, lint, command)?;
+    push_parts(found, lint, Spot::Command, &parts)?;
+    push_arguments(found, lint, command.get_arguments())
+}
+
+fn push_arguments(found: &mut Found, lint: TextLint, arguments: &[Arg]) -> Added
+    ensures { OnOk result (found.new
+        ≡ found.old ++ each_from (argument_list lint) 0 arguments.now) }
+{
+    for (index, argument) in arguments.iter().enumerate() {
+        push_argument(found, lint, index, argument)?;
+    }
+    Ok(())
+}
+
+fn push_argument(found: &mut Found, lint: TextLint, index: usize, argument: &Arg) -> Added
+    ensures { OnOk result (found.new ≡ found.old ++ argument_list lint index argument.now) }
+{
+    let mut parts = Vec::new(found.allocator());
+    push_argument_parts(&mut parts, lint, argument)?;
+    push_parts(found, lint, Spot::Argument(index), &parts)
+}
+
+// Adds the parts of a command that the lint looks at.
+fn push_command_parts<'a>(parts: &mut Vec<Part<'a>>, lint: TextLint, command: &'a Command) -> Added
+    ensures { OnOk result (parts.new.items
+        ≡ parts.old.items ++ command_parts lint command.now.node) }
+{
+    match lint {
+        TextLint::Plain => push_name_parts(parts, command),
+        TextLint::Quotes => push_some_text(parts, Key::About, None, command.get_about()),
+        TextLint::Quiet | TextLint::Zsh => Ok(()),
+    }
+}
+
+// Adds the parts of an argument that the lint looks at.
+fn push_argument_parts<'a>(parts: &mut Vec<Part<'a>>, lint: TextLint, argument: &'a Arg) -> Added
+    ensures { OnOk result (parts.new.items ≡ parts.old.items ++ argument_parts lint argument.now) }
+{
+    match lint {
+        TextLint::Plain => {
+            push_label_parts(parts, argument)?;
+            push_short_parts(parts, argument)?;
+            push_long_parts(parts, argument)
+        }
+        TextLint::Quiet => push_value_names(parts, values_of(argument)),
+        TextLint::Quotes => push_some_text(parts, Key::Help, None, argument.get_help()),
+        TextLint::Zsh => {
+            push_zsh_parts(parts, argument)?;
+            push_value_helps(parts, values_of(argument))
+        }
+    }
+}
+
+// Adds the id and the help of a positional, or the value names of an option.
+fn push_zsh_parts<'a>(parts: &mut Vec<Part<'a>>, argument: &'a Arg) -> Added
+    ensures { OnOk result (parts.new.items ≡ parts.old.items ++ zsh_parts argument.now) }
+{
+    if !argument.is_positional() {
+        return push_texts(parts, Key::ValueNames, argument.get_value_names());
+    }
+    push_text(parts, Key::Id, None, argument.get_id())?;
+    push_some_text(parts, Key::Help, None, argument.get_help())
+}
+
+fn values_of(argument: &Arg) -> &[PossibleValue]
+    ensures { result.now ≡ values_of argument.now }
+{
+    match possible_values(argument) {
+        Some(values) => values,
+        None => &[],
+    }
+}
+
+fn push_parts(found: &mut Found, lint: TextLint, spot: Spot, parts: &[Part<'_>]) -> Added
+    ensures { OnOk result (found.new ≡ found.old ++ parts_list lint spot parts.now) }
+{
+    for part in parts {
+        push_part(found, lint, spot, part)?;
+    }
+    Ok(())
+}
+
+fn push_part(found: &mut Found, lint: TextLint, spot: Spot, part: &Part<'_>) -> Added
+    ensures { OnOk result (found.new ≡ found.old ++ part_list lint spot part.now) }
+{
+    match content_kind(found.allocator(), lint, part.key, &part.content)? {
+        Some(kind) => found.note(spot, part.key, part.item, kind),
+        None => Ok(()),
+    }
+}
+
+// Returns what is wrong with a text or a short at a key.
+fn content_kind(
+    alloc: Global,
+    lint: TextLint,
+    key: Key,
+    content: &Content<'_>,
+) -> Result<Option<Kind>, AllocError>
+    ensures { IfOk result (λ kind. kind ≡ content_kind lint key content.now) }
+{
+    match content {
+        Content::Text(text) => text_kind(alloc, lint, key, text.as_str()),
+        Content::Short(short) if short.is_ascii_alphanumeric() => Ok(None),
+        Content::Short(short) => Ok(Some(Kind::ShortNotPlain(*short))),
+    }
+}
+
+fn text_kind(
+    alloc: Global,
+    lint: TextLint,
+    key: Key,
+    text: &str,
+) -> Result<Option<Kind>, AllocError>
+    ensures { IfOk result (λ kind. kind ≡ text_kind lint key text.now) }
+{
+    match lint {
+        TextLint::Plain => plain_kind(alloc, key, text),
+        TextLint::Quiet if is_quiet_value(text) => Ok(None),
+        TextLint::Quiet => Ok(Some(Kind::LoudValue(Text::copy_of(alloc, text)?))),
+        TextLint::Quotes => Ok(unescaped_quote(text).map(Kind::UnescapedQuote)),
+        TextLint::Zsh if holds_one_of(ending_signs(key), text.as_bytes()) => {
+            Ok(Some(Kind::ZshSign))
+        }
+        TextLint::Zsh => Ok(None),
+    }
+}
+
+fn plain_kind(alloc: Global, key: Key, text: &str) -> Result<Option<Kind>, AllocError>
+    ensures { IfOk result (λ kind. kind ≡ plain_kind key text.now) }
+{
+    if is_label(key) {
+        return Ok(if has_no_quote(text) {
+            None
+        } else {
+            Some(Kind::Quote)
+        });
+    }
+    if is_plain_name(text) {
+        return Ok(None);
+    }
+    let copy = Text::copy_of(alloc, text)?;
+    if is_long(key) && begins_with_hyphen(text) {
+        return Ok(Some(Kind::LongWithHyphen(copy)));
+    }
+    Ok(Some(Kind::NotPlain(copy)))
+}
+
+fn is_label(key: Key) -> bool
+    ensures { result ≡ is_label key }
+{
+    matches!(key, Key::Id | Key::ValueNames)
+}
+
+fn is_long(key: Key) -> bool
+    ensures { result ≡ is_long key }
+{
+    matches!(key, Key::Long)
+}
+
+fn begins_with_hyphen(text: &str) -> bool
+    ensures { result ≡ begins_with_hyphen text.now }
+{
+    matches!(text.as_bytes(), [b'-', ..])
+}
+
+// Returns the signs that end a text of the zsh script: a help there, the help of a possible value,
+// or a name.
+fn ending_signs(key: Key) -> &'static [u8]
+    ensures { result.now ≡ ending_signs key }
+{
+    match key {
+        Key::Help => b"\\",
+        Key::PossibleValues => b"\"",
+        _ => b":\\",
+    }
+}
