@@ -3,6 +3,7 @@
 import os
 import pathlib
 import re
+import shutil
 import subprocess
 import sys
 import textwrap
@@ -93,27 +94,37 @@ def files_of(top, crate):
 def build(args, crate, to, *flags):
     """Proves and compiles a crate of the repository over the libraries that the proof run left.
 
-    Runs `rattle build` as `rt lib` does, but writes only the file `to`.
+    Runs `rattle build` as `rt lib` and `rt run` do, but writes only the file `to`. Takes what the proof run
+    kept of this crate, unless all is to be proved anew. Returns the line of the verdict.
     """
-    uses, kit, work = crate_uses(args.source), args.kit, args.work / "out"
     folder = args.source / "crates" / crate
     root = "src/main.rt" if (folder / "src/main.rt").exists() else "src/lib.rt"
-    words = [kit / "bin/rattle", "build", "--crate-name", crate, root, "--extern", f"std={kit}/rlibs/std.rlib"]
-    rlibs = {name: f"{args.proved}/crates/{name}/out/rlib" for name in below(crate, uses)}
-    for name in uses[crate]:
-        words += ["--extern", f"{name}={rlibs.get(name, f'{kit}/rlibs')}/{name}.rlib"]
-    for path in [f"{kit}/rlibs", *rlibs.values()]:
-        words += ["-L", f"dependency={path}"]
-    words += ["--antt-project", kit / "rattle/logic/antt-project.json", "--logic-built", kit / "logic_built"]
-    words += ["--links", f"{crate}=", "--jobs", args.jobs, *flags]
-    words += [*(["--cpu", args.cpu] if args.cpu else [])]
-    words += ["--toolchain", kit / "toolchain", "--backend", "llvm", "-o", to]
-    work.mkdir(exist_ok=True)
+    words = [args.kit / "bin/rattle", "build", "--crate-name", crate, root, *libraries(args, crate)]
+    words += ["--antt-project", args.kit / "rattle/logic/antt-project.json", "--logic-built", args.kit / "logic_built"]
+    words += ["--links", f"{crate}=", "--jobs", args.jobs, *flags, *(["--cpu", args.cpu] if args.cpu else [])]
+    kept, own = args.proved / "crates" / crate / "out/incremental", args.work / f"{crate}.incremental"
+    if kept.is_dir() and not args.anew:
+        shutil.copytree(kept, own, symlinks=True)
+        words += ["--incremental", own]
+    words += ["--toolchain", args.kit / "toolchain", "--backend", "llvm", "-o", to]
     print(f"{crate}: proving and compiling it over the proved libraries", file=sys.stderr)
-    last = run(*words, cwd=folder, stderr=subprocess.STDOUT).splitlines()[-1]
-    if not last.startswith("logic=proved ") or not os.path.exists(to):
-        raise SystemExit(f"release: {crate} was not proved: {last}")
-    return last
+    said = run(*words, cwd=folder, stderr=subprocess.STDOUT)
+    verdicts = [line for line in said.splitlines() if line.startswith("logic=proved ")]
+    if not verdicts or not os.path.exists(to):
+        raise SystemExit(f"{said[-2000:]}\nrelease: {crate} was not proved")
+    return verdicts[-1]
+
+
+def libraries(args, crate):
+    """Returns the words that name the libraries below a crate, those of the kit and those of the proof run."""
+    uses, of_kit = crate_uses(args.source), f"{args.kit}/rlibs"
+    of_run = {name: f"{args.proved}/crates/{name}/out/rlib" for name in below(crate, uses)}
+    words = ["--extern", f"std={of_kit}/std.rlib"]
+    for name in uses[crate]:
+        words += ["--extern", f"{name}={of_run.get(name, of_kit)}/{name}.rlib"]
+    for folder in [of_kit, *of_run.values()]:
+        words += ["-L", f"dependency={folder}"]
+    return words
 
 
 def link(args, compiled, to):

@@ -78,6 +78,7 @@ def arguments():
     parser.add_argument("--out", type=path, default=RELEASE / "out", help="the directory for the files")
     parser.add_argument("--cpu", choices=["x86-64", "x86-64-v2", "x86-64-v3"],
                         help="builds the program and the archive for this processor")
+    parser.add_argument("--anew", action="store_true", help="takes nothing that the proof run kept of a crate that is built")
     parser.add_argument("--jobs", default="2", help="the number of jobs of a build (default: 2)")
     parser.add_argument("--gate", default=NOT_GIVEN, help="the gate's last line for this commit")
     parser.add_argument("--linker", default=NOT_GIVEN, help="the linker's line for the program")
@@ -141,6 +142,7 @@ def proved(args, shared):
         "linker of the program": args.linker,
         "linker of the shared library": shared,
         "compiler of memory.o": run("cc", "--version").splitlines()[0],
+        "packer of the crate": run("cargo", "--version").strip(),
         **{f"verdict of {crate}": line for crate, line in args.verdicts.items()},
         "sha256 of the program as linked": sha256(args.program) if args.program.exists() else "",
     }

@@ -29,7 +29,8 @@ def run(*words, **how):
     except FileNotFoundError:
         raise SystemExit(f"release: there is no program {words[0]}") from None
     except subprocess.CalledProcessError as failed:
-        raise SystemExit(f"release: {words[0]} ended with status {failed.returncode}") from None
+        lines = (failed.stdout or "").splitlines()[-20:]
+        raise SystemExit("\n".join([*lines, f"release: {words[0]} ended with status {failed.returncode}"])) from None
 
 
 def put(path, data, mode=0o644):

@@ -21,6 +21,7 @@ Prints a line for each part. A part whose tools are not installed is skipped. Th
 """
 
 import argparse
+import collections
 import os
 import pty
 import re
@@ -56,6 +57,11 @@ edition = "2021"
 clap = {{ version = "4", features = ["derive"] }}
 lagvtsune = {{ path = "{}" }}
 """
+
+
+# A Tab to try: a shell, its home directory and the line of its start file; the program to complete and the
+# line to type; a directory for the PATH, further variables, and the text of the program.
+Trial = collections.namedtuple("Trial", "shell home line name typed path more program", defaults=("", {}, RECORDER))
 
 
 class Wrong(Exception):
@@ -278,7 +284,7 @@ def live(files):
     for shell, line in tried:
         if common.is_installed(shell):
             before = "autoload -U compinit; compinit -u\n" if shell == "zsh" else ""
-            words = at_tab(files, shell, home, before + line, "app", "app --d", f"{prefix}/bin")
+            words = at_tab(files, Trial(shell, home, before + line, "app", "app --d", f"{prefix}/bin"))
             check(words == ["--dir"], f"{shell}: {line}: the program received {words}")
             done.append(shell)
     return ", ".join(done)
@@ -303,45 +309,41 @@ def own(files):
     for shell, line in tried:
         if common.is_installed(shell):
             where = home if shell != "fish" or not line else files.room()
-            words = at_tab(files, shell, where, line, "complgen", "complgen cand")
+            words = at_tab(files, Trial(shell, where, line, "complgen", "complgen cand"))
             check(words == ["candidates"], f"{shell}: {line}: the program received {words}")
             done.append(shell)
     return ", ".join(done)
 
 
-def at_tab(files, shell, home, line, name, typed, path="", extra=None, program_text=RECORDER):
-    """Returns the arguments that a program receives after a Tab in a shell whose start file has this line.
-
-    The program `name` writes its arguments to a file. A slow shell gets more time, up to some seconds.
-    """
+def at_tab(files, trial):
+    """Returns the arguments that a program receives after a Tab. A slow shell gets more time, up to some seconds."""
     room = files.room()
-    write(os.path.join(room, "bin", name), program_text, 0o755)
-    write(os.path.join(home, START_FILES[shell]), line + "\n")
-    record = os.path.join(room, "record")
+    write(os.path.join(room, "bin", trial.name), trial.program, 0o755)
+    write(os.path.join(trial.home, START_FILES[trial.shell]), trial.line + "\n")
+    folders = [os.path.join(room, "bin"), *([trial.path] if trial.path else []), SYSTEM]
     environment = {
-        "HOME": home, "TERM": "xterm", "LC_ALL": "C.UTF-8", "RECORD": record, "PATH": f"{room}/bin:{path}:{SYSTEM}".replace("::", ":"),
-        **(extra or {}),
+        "HOME": trial.home, "TERM": "xterm", "LC_ALL": "C.UTF-8", "RECORD": os.path.join(room, "record"),
+        "PATH": ":".join(folders), **trial.more,
     }
     words = None
     for seconds in (0.5, 1.5, 4):
-        words = typed_once(shell, room, environment, (name, typed, seconds))
-        if words and words != typed.split()[1:]:
-            return words
+        words = typed_once(trial, room, environment, seconds)
+        if words and words != trial.typed.split()[1:]:
+            break
     return words
 
 
-def typed_once(shell, room, environment, line):
+def typed_once(trial, room, environment, seconds):
     """Starts a shell, types a line, a Tab and Enter, and returns the arguments that the program received."""
-    name, typed, seconds = line
     record = environment["RECORD"]
     process, terminal = pty.fork()
     if process == 0:
         os.chdir(room)
-        os.execvpe(shell, [shell] if shell == "elvish" else [shell, "-i"], environment)
+        os.execvpe(trial.shell, [trial.shell, *([] if trial.shell == "elvish" else ["-i"])], environment)
     try:
         read_for(terminal, seconds)
-        recorded(terminal, record, f"{name} ready\r", seconds)
-        os.write(terminal, f"{typed}\t".encode())
+        recorded(terminal, record, f"{trial.name} ready\r", seconds)
+        os.write(terminal, f"{trial.typed}\t".encode())
         read_for(terminal, seconds)
         return recorded(terminal, record, "\r", seconds)
     finally:
@@ -462,7 +464,8 @@ def tab(files):
         for name, (real, typed, expected) in programs.items():
             if common.is_installed(shell):
                 text = RECORDER.replace("\n", f'\n[ -z "${{COMPLETE-}}" ] || {real} "$@"\n', 1)
-                words = at_tab(files, shell, files.room(), line.format(name), name, typed, extra=extra, program_text=text)
+                trial = Trial(shell, files.room(), line.format(name), name, typed, more=extra, program=text)
+                words = at_tab(files, trial)
                 check(words == expected, f"{shell}: {name} received {words}")
                 done.append(f"{name} in {shell}")
     return ", ".join(done)
