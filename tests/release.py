@@ -47,6 +47,7 @@ SYSTEM = "/usr/bin:/bin"
 BASH_COMPLETION = "/usr/share/bash-completion/bash_completion"
 # A program that writes its arguments to a file.
 RECORDER = '#!/bin/sh\nprintf "%s\\n" "$@" >"$RECORD.new"\nmv "$RECORD.new" "$RECORD"\n'
+SECONDS_TO_START = 30
 TREE = '{"name": "app", "args": [{"id": "dir", "long": "dir", "value_hint": "DirPath"}]}'
 MANIFEST = """[package]
 name = "app"
@@ -342,10 +343,11 @@ def typed_once(trial, room, environment, seconds):
         os.execvpe(trial.shell, [trial.shell, *([] if trial.shell == "elvish" else ["-i"])], environment)
     try:
         read_for(terminal, seconds)
-        recorded(terminal, record, f"{trial.name} ready\r", seconds)
+        if recorded(terminal, record, f"{trial.name} ready\r", SECONDS_TO_START) != ["ready"]:
+            raise Wrong(f"{trial.shell} did not start within {SECONDS_TO_START} s")
         os.write(terminal, f"{trial.typed}\t".encode())
         read_for(terminal, seconds)
-        return recorded(terminal, record, "\r", seconds)
+        return recorded(terminal, record, "\r", 4 * seconds)
     finally:
         os.kill(process, signal.SIGKILL)
         os.waitpid(process, 0)
@@ -353,11 +355,11 @@ def typed_once(trial, room, environment, seconds):
 
 
 def recorded(terminal, record, keys, seconds):
-    """Types keys, and returns the arguments that the program then receives, or `None`."""
+    """Types keys, and returns the arguments that the program receives within some seconds, or `None`."""
     if os.path.exists(record):
         os.remove(record)
     os.write(terminal, keys.encode())
-    until = time.monotonic() + 4 * seconds
+    until = time.monotonic() + seconds
     while time.monotonic() < until and not os.path.exists(record):
         read_for(terminal, 0.1)
     if not os.path.exists(record):
