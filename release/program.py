@@ -19,7 +19,6 @@ COMPLETIONS = {
 }
 DEBIAN_ZSH = "zsh/vendor-completions/_complgen"
 TOP_DOCUMENTS = ("README.md", "CHANGELOG.md", "NOTICE", "LICENSE-MIT", "LICENSE-APACHE")
-HOMEPAGE = "https://example.org/lagvtsune"
 
 
 def put_program(args, root, debian=False):
@@ -123,7 +122,7 @@ def put_debian_documents(args, folder):
     licence = (args.source / "LICENSE-MIT").read_text().strip().split("\n")
     indented = "\n".join(f" {line}" if line.strip() else " ." for line in licence)
     year = run("date", "-u", "-d", f"@{args.time}", "+%Y").strip()
-    put(folder / "copyright", template.replace("@YEAR@", year).replace("@HOMEPAGE@", HOMEPAGE).replace("@MIT@", indented))
+    put(folder / "copyright", template.replace("@YEAR@", year).replace("@MIT@", indented))
     # A version without a revision is that of a native package, which has only this changelog.
     entry = f"complgen ({args.version}) unstable; urgency=medium\n\n  * Release {args.version}.\n\n -- {args.maintainer}  {date}\n"
     put(folder / "changelog.gz", gzipped(entry.encode()))
@@ -136,7 +135,7 @@ def control(args, root):
     kilobytes = sum((path.stat().st_size + 1023) // 1024 if path.is_file() else 1 for path in root.rglob("*"))
     template = (args.release / "debian/control").read_text()
     values = {
-        "VERSION": args.version, "MAINTAINER": args.maintainer, "SIZE": str(kilobytes), "HOMEPAGE": HOMEPAGE,
+        "VERSION": args.version, "MAINTAINER": args.maintainer, "SIZE": str(kilobytes),
         "DEPENDS": re.search("shlibs:Depends=(.*)", needs)[1],
     }
     for name, value in values.items():
