@@ -58,7 +58,7 @@ def main():
         program.put_debian_package(args)
         shared = library.put_library(args)
         library.put_crate(args)
-    put(args.out / "PROVED", proved(args, shared))
+        put(args.out / "PROVED", proved(args, shared))
     sums = "".join(f"{sha256(path)}  {path.name}\n" for path in sorted(args.out.iterdir()))
     put(args.out / "SHA256SUMS", sums)
     print(sums, end="")
@@ -144,9 +144,15 @@ def proved(args, shared):
         "compiler of memory.o": run("cc", "--version").splitlines()[0],
         "packer of the crate": run("cargo", "--version").strip(),
         **{f"verdict of {crate}": line for crate, line in args.verdicts.items()},
-        "sha256 of the program as linked": sha256(args.program) if args.program.exists() else "",
+        "compilers in the program": comments(args.program),
+        "sha256 of the program as linked": sha256(args.program),
     }
     return "".join(f"{name}: {value}\n" for name, value in rows.items())
+
+
+def comments(path):
+    """Returns the notes that compilers left in a program, which name the logic of the prover."""
+    return "; ".join(re.findall(r"^ *\[ *\w+\] *(.*)$", run("readelf", "-p", ".comment", path), re.MULTILINE))
 
 
 def sha256(path):
