@@ -64,6 +64,10 @@ bad_form_at path = checked_line path (codes "tree: bad form")
 abbrev pub out_of_memory_line : List ℕ
 out_of_memory_line = codes "out of memory\n"
 
+-- the plan is one of `check` or `scripts`
+abbrev pub other_plan_line : List ℕ
+other_plan_line = codes "plan: check and scripts are not carried out by run\n"
+
 -- ---- which refusal it is
 
 -- what is printed

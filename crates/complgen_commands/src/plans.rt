@@ -4,7 +4,6 @@ ghost use Rattle.std.specs.Prelude.{OnOk, Some, codes};
 ghost use Rattle.std.specs.Option.{option_copied};
 ghost use Rattle.cc_engine.specs.Paths.{PathsOf};
 ghost use Rattle.complgen_commands.specs.Ends.{Ends, ReadsBack};
-ghost use Rattle.complgen_commands.specs.Plans.{IsForRun};
 
 use crate::one_script::script;
 use crate::refusals::Refusal;
@@ -13,6 +12,8 @@ use crate::replies::reply;
 use cc_base::Sink;
 use cc_paths::Folder;
 use std::alloc::Global;
+
+const OTHER_PLAN: &str = "plan: check and scripts are not carried out by run\n";
 
 /// A task that the command line asks for.
 #[derive(Debug, Drop)]
@@ -64,12 +65,12 @@ impl Plan {
 
 /// Carries out a plan of `script`, `register` or `candidates` over the bytes of its tree file, or
 /// `None` if that file cannot be read, and writes to `out`. Looks up the shell before it parses the
-/// tree. Completes paths from `folder`, in which the current directory is `.`. The plans of `check`
-/// and `scripts` have functions of their own.
+/// tree. Completes paths from `folder`, in which the current directory is `.`.
 ///
 /// # Errors
 ///
-/// A refusal with status 1 and the text of the error.
+/// A refusal with status 1 and the text of the error. Refuses the plans of `check` and `scripts`, and
+/// writes nothing: they have functions of their own.
 pub fn run<D: Folder, W: Sink>(
     alloc: Global,
     plan: &Plan,
@@ -77,7 +78,6 @@ pub fn run<D: Folder, W: Sink>(
     folder: &D,
     out: &mut W,
 ) -> Result<(), Refusal>
-    requires { IsForRun plan.now }
     ensures ends { Ends W.taken W.failed (PathsOf (D.facts folder.now) (Some (codes "."))) plan.now
         (option_copied file.entry) out.old out.new result }
     ensures read_back { OnOk result (ReadsBack plan.now (option_copied file.entry)) }
@@ -88,6 +88,6 @@ pub fn run<D: Folder, W: Sink>(
         Plan::Candidates(index, _, words) => {
             reply(alloc, words.as_slice(), *index, file, folder, out)
         }
-        Plan::Check { .. } | Plan::Scripts { .. } => unreachable!(),
+        Plan::Check { .. } | Plan::Scripts { .. } => Err(Refusal::from_static(1, OTHER_PLAN)),
     }
 }
