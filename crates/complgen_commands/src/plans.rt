@@ -1,4 +1,4 @@
-//! The plans that the command line makes, and how one is carried out.
+//! The tasks that the command line asks for. Carries out those that write one text.
 
 ghost use Rattle.std.specs.Prelude.{OnOk, Some, codes};
 ghost use Rattle.std.specs.Option.{option_copied};
@@ -20,7 +20,8 @@ pub enum Plan {
     /// Write a completion script: the name of the shell, the name by which users call the program,
     /// and the path of the tree file.
     Script(String, String, String),
-    /// Write a registration: the same three.
+    /// Write a registration: the name of the shell, the name by which users call the program, and
+    /// the path of the tree file.
     Register(String, String, String),
     /// Write candidates: the index of the word, the path of the tree file, and the words.
     Candidates(usize, String, Vec<String>),
@@ -28,7 +29,7 @@ pub enum Plan {
     Check {
         /// The name by which users call the program, if it is not the one in the tree file.
         bin: Option<String>,
-        /// Set if the report is JSON, with one object on each line.
+        /// True if the report is JSON, with one object on each line.
         json: bool,
         /// The path of the tree file.
         tree: String,
@@ -62,10 +63,10 @@ impl Plan {
     }
 }
 
-/// Carries out a plan of `script`, `register` or `candidates` over the bytes of its tree file, or
-/// `None` if that file cannot be read, and writes to `out`. Looks up the shell before it parses the
-/// tree. Completes paths from `folder`, in which the current directory is `.`. The plans of `check`
-/// and `scripts` have functions of their own.
+/// Carries out `plan`, which is `Script`, `Register` or `Candidates`, and writes to `out`. `file`
+/// has the bytes of the tree file, or is `None` if it cannot be read. Looks up the shell before it
+/// parses the tree. Completes paths from `folder`, in which the current directory is `.`. The plans
+/// `Check` and `Scripts` have functions of their own.
 ///
 /// # Errors
 ///
