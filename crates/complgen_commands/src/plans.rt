@@ -1,4 +1,4 @@
-//! The plans that the command line makes, and how one is carried out.
+//! The tasks that the command line asks for. Carries out those that write one text.
 
 ghost use Rattle.std.specs.Prelude.{OnOk, Some, codes};
 ghost use Rattle.std.specs.Option.{option_copied};
@@ -21,7 +21,8 @@ pub enum Plan {
     /// Write a completion script: the name of the shell, the name by which users call the program,
     /// and the path of the tree file.
     Script(String, String, String),
-    /// Write a registration: the same three.
+    /// Write a registration: the name of the shell, the name by which users call the program, and
+    /// the path of the tree file.
     Register(String, String, String),
     /// Write candidates: the index of the word, the path of the tree file, and the words.
     Candidates(usize, String, Vec<String>),
@@ -29,7 +30,7 @@ pub enum Plan {
     Check {
         /// The name by which users call the program, if it is not the one in the tree file.
         bin: Option<String>,
-        /// Set if the report is JSON, with one object on each line.
+        /// True if the report is JSON, with one object on each line.
         json: bool,
         /// The path of the tree file.
         tree: String,
