@@ -9,7 +9,7 @@ each time. System calls count as nothing.
 Without a tree, it counts these trees:
 
 - `larder`, one of 23 KB and one of 200 commands;
-- git's, if git is installed;
+- the one of git, if git is installed;
 - generated ones of 50, 100, 200 and 400 commands with 25 options each. They show that the count is
   linear in the size of the file.
 
@@ -76,7 +76,7 @@ def count_request(program, folder, tree, words):
 
 
 def count_registration(program, folder, count):
-    """Prints the line for the registration of so many tree files."""
+    """Prints the line for the registration of `count` tree files."""
     trees = os.path.join(folder, f"many-{count}")
     os.makedirs(trees)
     for number in range(1, count + 1):

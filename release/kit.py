@@ -11,6 +11,8 @@ import textwrap
 from packing import run
 
 TARGET = "x86_64-unknown-linux-gnu"
+# The program, and the archive for other languages.
+BUILT = ("complgen", "complgen_c")
 # The parts of a crate that a proof reads.
 PARTS = ("src", "specs", "proofs")
 # Archives in C that `rt` links into each program, below the kit.
@@ -80,8 +82,10 @@ def licences(args, crate):
 
 
 def differing_crates(source, proved):
-    """Returns the crates whose files differ from those in the directory of the proof run."""
-    return [name for name in crate_uses(source) if files_of(source, name) != files_of(proved, name)]
+    """Returns the crates in the program and the archive whose files differ from those of the proof run."""
+    uses = crate_uses(source)
+    contained = {name for top in BUILT for name in [*below(top, uses), top]}
+    return sorted(name for name in contained if files_of(source, name) != files_of(proved, name))
 
 
 def files_of(top, crate):

@@ -133,7 +133,7 @@ def calls_of(chance, kind, path):
 
 
 def some_words(chance, path):
-    """Returns words of which most lead somewhere in the tree of a file."""
+    """Returns words, most of which lead somewhere in the tree of a file."""
     with open(path, "rb") as file:
         node = json.load(file)
     words = [b"app"] if chance.randrange(8) else []
@@ -229,7 +229,7 @@ def possible(chance):
 
 
 def name(chance):
-    # Most are plain, because otherwise no script would be.
+    # Most names are plain, because otherwise hardly any tree would be plain.
     return chance.choice(NAMES[:9] if chance.randrange(8) else NAMES)
 
 

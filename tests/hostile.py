@@ -3,7 +3,7 @@
 
     tests/hostile.py [--seed N] [--runs N] [--only N]
 
-Of seven runs, four are of `complgen` over a changed tree file of examples/, one of these with `check`.
+Four of seven runs are of `complgen` over a changed tree file of examples/, one of these with `check`.
 The changes are these: bytes flipped, cut out or doubled, keys exchanged, numbers out of range, values
 of another kind, and objects nested as deep as a file may nest and deeper. One run is `complgen
 candidates` with random words and a random index. One is `larder`, and one is `complgen` as a shell runs
@@ -11,7 +11,7 @@ it, both with random words and environment values. For `complgen` the directorie
 have changed files and odd names, or do not exist. The input need not be UTF-8.
 
 Each run has to end within a second, by no signal, with status 0, 1 or 2. With status 0, it prints
-nothing to the standard error, except how many tree files it passed over. With another status, it
+nothing to the standard error, except how many tree files it skipped. With another status, it
 prints nothing to the standard output. To the standard error it prints one of the texts that
 docs/TEXTS.md lists, or the command line's own text, or nothing if a program has no tree file. Only
 `check` prints findings to the standard output, at least one if the status is 1.

@@ -4,15 +4,15 @@
     tests/offered.py [--depth N]
 
 The programs are `larder`, which parses by the tree that completes it, and `complgen`, whose command
-line is described twice. From the empty command line on, each program is asked, as fish asks, for the
+line is described twice. From the empty command line on, the script requests, as fish does, the
 candidates of the words `''`, `-` and `--`, and of `-v` if its parser accepts it. Each candidate then
 replaces that word, and the program runs on the line, in a directory of its own. If the line is accepted,
-or only lacks something, the script goes on behind it, up to --depth words (3).
+or only lacks something, the script continues after it, up to --depth words (3).
 
 A line is accepted if the program does not end with a text of its parser. Otherwise:
 
 - it lacks something: a value, an argument or a subcommand;
-- a word is there twice that may be there once, or two words conflict. Completion does not look at that;
+- a word occurs twice that may occur once, or two words conflict. Completion does not look at that;
 - it is refused.
 
 The script prints how many lines of each program end in which way, and each refused line. The status is

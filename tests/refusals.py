@@ -16,7 +16,7 @@ These rules are checked:
   and the kind of the sink. If its sink accepts nothing more, the kind is `WriteZero`;
 - then the command and all below it are as they were before the call, or as the call leaves them. After
   `build` they are as before, and if the sink failed, as the call leaves them. `state.rt` of
-  `bench_calls` asks the getters;
+  `bench_calls` reads them by the getters;
 - the same call, repeated with enough memory and room, writes the text or the file that it writes if
   nothing fails;
 - a generator whose first allocation fails has written nothing. `write_complete` and `try_complete` have

@@ -212,7 +212,7 @@ def requests_agree(ours, theirs, work):
         if own != other and other[0] != PANICKED:
             differ += 1
             print(asked, words, own, other, sep="\n    ")
-    print(f"{REQUESTS} requests, {offered} with candidates: {differ} differ, at {passed_over} clap_complete panics")
+    print(f"{REQUESTS} requests, {offered} with candidates: {differ} differ, clap_complete panics at {passed_over}")
     return differ == 0
 
 
@@ -238,7 +238,7 @@ def print_instructions(ours, theirs, work, replies):
         calls.append(("reply with a path", asked, PATH))
     for name, asked, words in calls:
         own, other = (instructions(program, asked, words, work) for program in (ours, theirs))
-        print(f"{name}: {own:,} instructions, of clap_complete {other:,}")
+        print(f"{name}: {own:,} instructions, {other:,} for clap_complete")
 
 
 def instructions(program, asked, words, work):

@@ -5,7 +5,7 @@
     tools/calls.py --write   writes it to docs/CALLS.md
     tools/calls.py --check   compares docs/CALLS.md with it
 
-The page has a section for each module of crates/clap_complete, and for the crates beside it. A section has
+The page has a section for each module of crates/clap_complete, and for the crates next to it. A section has
 the public functions, types and traits, with their signatures and the first sentences of their doc comments.
 Contracts, bodies and ghost lines are left out. The script searches the sources, in the layout of `rt fmt`,
 and builds nothing.

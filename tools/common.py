@@ -22,8 +22,8 @@ LIVE_SHELLS = ("bash", "elvish", "fish", "powershell", "zsh")
 BUILDERS = {"complgen": "./complgen --prove", "larder": "rt run in crates/larder"}
 DEBIAN = "/usr/share/cargo/registry"
 
-# What callgrind counts in a run: its standard output, all its instructions, and those of all calls of
-# each function.
+# The result of callgrind for a run: its standard output, the number of all instructions, and the
+# instructions of all calls of each function.
 Counted = collections.namedtuple("Counted", "output total costs")
 
 

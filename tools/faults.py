@@ -17,7 +17,7 @@ further check of a crate begins with what was kept before any fault. --at-once N
 side (1), each in a copy of its own.
 
 The script prints the commit, a line for each crate with its processor time, and a line for each fault that
-no check rejects. As a rule such a fault removes a name that a proof file cites, which tells little of a
+no check rejects. Usually such a fault removes a name that a proof file cites, which shows little about a
 contract. The last line has the total processor time. The status is 0 if all were rejected.
 """
 

@@ -1,5 +1,5 @@
 #!/usr/bin/env python3
-"""Writes from docs/tree.schema.json what repeats the keys of a tree file, and checks who has the keys.
+"""Writes the texts that repeat the keys of docs/tree.schema.json, and checks that the code has the keys.
 
     tools/keys.py --write    writes the tables and the definitions between their markers
     tools/keys.py --check    compares, and changes nothing
@@ -78,7 +78,7 @@ def main():
 
 
 def generated(schema):
-    """What is written into each file: the line before it, its text, and the line after it."""
+    """Returns the texts for each file: the line before a text, the text, and the line after it."""
     parts = {PAGE: [(f"<!-- the keys of {kind}: tools/keys.py --write makes this table from tree.schema.json -->",
                      table(schema, kind), "<!-- end of the table -->") for kind in FUNCTIONS]}
     for kind, name in DEFINITIONS.items():
@@ -97,7 +97,7 @@ def table(schema, kind):
 
 
 def value_of(schema, shape):
-    """The kind of value, as the page names it."""
+    """Returns the kind of a value, as the page names it."""
     if "enum" in shape:
         return ", ".join(f"`{word}`" for word in shape["enum"])
     if "$ref" in shape:
@@ -112,7 +112,7 @@ def definition(schema, shape):
 
 
 def fields(schema, kind):
-    """The lines of a definition: each field with its default."""
+    """Returns the lines of a definition: each field with its default."""
     keys = {key: shape for key, shape in schema[kind]["properties"].items() if key not in BY_HAND}
     return "".join(f"  {FIELDS.get(key, key)} = {term(shape.get('default'))};\n" for key, shape in keys.items())
 
@@ -130,7 +130,7 @@ def undescribed(schema):
 
 
 def unwritten(schema, source):
-    """The keys that the writer lacks, and those that the schema lacks."""
+    """Returns the keys that the writer lacks, and those that the schema lacks."""
     for kind, functions in FUNCTIONS.items():
         bodies = "".join(body(source, function) for function in functions)
         keys = set(re.findall(r'\bobject\s*\.(?!new\b)\w+\("(\w+)"', bodies))
@@ -142,7 +142,7 @@ def unwritten(schema, source):
 
 
 def body(source, function):
-    """The text of a function, which ends at the first line with a brace alone."""
+    """Returns the text of a function, which ends at the first line that is only a brace."""
     found = re.search(rf"^fn {function}\b.*?^\}}$", source, re.M | re.S)
     if not found:
         sys.exit(f"{WRITER.name} has no function {function}")

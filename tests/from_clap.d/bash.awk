@@ -1,4 +1,4 @@
-# Prints rows, as examples/from-clap/src/rows.rs describes them, of each option, flag and child of a
+# Prints rows, as tests/from_clap.d/rows.rs describes them, for each option, flag and child of a
 # bash script: words and possible values. `bin` is the program.
 BEGIN { OFS = "\t" }
 /^            [^ ]+,[^ ]+\)$/ {
@@ -23,7 +23,7 @@ BEGIN { OFS = "\t" }
 }
 END { walk(root, bin) }
 
-# Prints what stands at a label, and at those below it. Values of positionals are passed over.
+# Prints the rows of a label, and of the labels below it. Values of positionals are skipped.
 function walk(label, path,    words, count, names, name_count, i, j) {
     count = split(options[label], words, " ")
     for (i = 1; i <= count; i++) {

@@ -1,5 +1,5 @@
-# Prints rows, as examples/from-clap/src/rows.rs describes them, of each record of a fish script.
-# `bin` is the program.
+# Prints rows, as tests/from_clap.d/rows.rs describes them, for each record of a fish script. `bin`
+# is the program.
 BEGIN {
     OFS = "\t"
     hints["-r"] = "Unknown"
@@ -35,7 +35,7 @@ BEGIN {
     sub(/^-r -f -a "/, "", value)
     $0 = value
 }
-# A possible value, of which each but the first has a line of its own.
+# A possible value. Each value except the first has a line of its own.
 /\\t'.*'"?$/ {
     at = index($0, "\\t'")
     name = substr($0, 1, at - 1)
@@ -85,7 +85,7 @@ function print_rows(texts,    i) {
     }
 }
 
-# A text without the backslashes that quote what is after them.
+# Returns a text without the backslashes that quote the next character.
 function plain(text,    read) {
     while (match(text, /\\./)) {
         read = read substr(text, 1, RSTART - 1) substr(text, RSTART + 1, 1)

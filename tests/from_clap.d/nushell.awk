@@ -1,5 +1,5 @@
-# Prints rows, as examples/from-clap/src/rows.rs describes them, of a Nushell script: of each line
-# the word and its help, and of each block the child.
+# Prints rows, as tests/from_clap.d/rows.rs describes them, of a Nushell script: for each line the
+# word and its help text, and for each block the child.
 BEGIN { OFS = "\t" }
 /^  export extern / {
     split($0, parts, "\"")

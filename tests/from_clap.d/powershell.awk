@@ -1,5 +1,6 @@
-# Prints rows, as examples/from-clap/src/rows.rs describes them, of each line of a PowerShell
-# script: words and helps. In place of a help that is missing stands the word without its dashes.
+# Prints rows, as tests/from_clap.d/rows.rs describes them, for each line of a PowerShell script:
+# words and help texts. If a help text is missing, the script has the word without its dashes
+# instead.
 BEGIN { OFS = "\t" }
 /^        '.*' \{$/ { split($0, parts, "'"); path = parts[2]; gsub(/;/, " ", path) }
 /^            \[CompletionResult\]/ {

@@ -1,14 +1,14 @@
-//! What a command takes, by clap's own build of it.
+//! Lists what a command accepts, by clap's own build of it.
 
 use clap::builder::PossibleValue;
 use clap::{Arg, ArgAction, Command, ValueHint};
 
-/// Rows for each short, long, child and positional of each visible path: the names of the path
-/// with spaces between them, a tab, and the word, which of a positional is its id as `<id>`. In
-/// further rows a tab, a kind, a tab and a text come after these:
+/// Returns rows for each short, long, child and positional of each visible path. A row has the
+/// names of the path with spaces between them, a tab, and the word. The word of a positional is its
+/// id as `<id>`. Further rows add a tab, a kind, a tab and a text:
 ///
-/// - `help` and the help or about, where there is one
-/// - `value` and the name of a possible value, and `help of NAME` and its help, where it has one
+/// - `help` and the help text or the description, if there is one
+/// - `value` and the name of a possible value, and `help of NAME` and its help text, if it has one
 /// - `hint` and the hint for other values
 pub fn rows(command: &Command) -> String {
     let mut built = command.clone();
@@ -49,8 +49,8 @@ fn words(arg: &Arg) -> Vec<String> {
     shorts.chain(longs.iter().map(|long| format!("--{long}"))).collect()
 }
 
-/// The kinds and texts of an argument's rows. The helps of generated flags differ from release to
-/// release of clap, so for these the texts of a script stand here.
+/// Returns the kinds and texts of an argument's rows. The help texts of generated flags differ from
+/// release to release of clap, so here they are the texts that a script has.
 fn texts(arg: &Arg) -> Vec<String> {
     let mut texts = match arg.get_action() {
         ArgAction::Help => help(Some("Print help")),
@@ -71,7 +71,7 @@ fn value_texts(value: &PossibleValue) -> Vec<String> {
     std::iter::once(format!("value\t{name}")).chain(help).collect()
 }
 
-/// The hint of an argument. The shells whose hints are read complete a file as any path.
+/// Returns the hint of an argument. The shells whose hints are read complete a file as any path.
 fn hint(arg: &Arg) -> ValueHint {
     match arg.get_value_hint() {
         ValueHint::FilePath => ValueHint::AnyPath,

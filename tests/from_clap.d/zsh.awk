@@ -1,5 +1,4 @@
-# Prints rows, as examples/from-clap/src/rows.rs describes them, of a zsh script. `bin` is the
-# program.
+# Prints rows, as tests/from_clap.d/rows.rs describes them, of a zsh script. `bin` is the program.
 BEGIN {
     OFS = "\t"
     path = bin
@@ -26,7 +25,7 @@ BEGIN {
     }
     is_state = 0
 }
-# The function that lists the children of a path, and below that function the names and abouts.
+# The function that lists the children of a path, and below it their names and descriptions.
 /^ *":: :/ { list_of[path] = substr($2, 2, length($2) - 2) }
 /^_.*_commands\(\) \{$/ { list = substr($1, 1, length($1) - 2) }
 /^ *'/ {
@@ -81,8 +80,8 @@ function print_rows(word, help, rest,    outer, count, lines, at, name, i) {
     }
 }
 
-# Prints the row of a help without the backslashes that quote what is after them, where there is a
-# help.
+# Prints the row of a help text, if there is one, without the backslashes that quote the next
+# character.
 function print_help(word, kind, help,    read) {
     while (match(help, /\\./)) {
         read = read substr(help, 1, RSTART - 1) substr(help, RSTART + 1, 1)

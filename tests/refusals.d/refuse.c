@@ -1,8 +1,9 @@
 /* Refuses one allocation of a program that it is preloaded into.
 
-   REFUSE of the environment is the number of the allocation, counted from 1. Allocations count from
-   the start of the program where COUNT is `all`, else from its line `begin` to its line `end`. Where
-   the allocation comes, the line `refused` follows on the standard error at the exit. */
+   The variable REFUSE is the number of the allocation, counted from 1. If COUNT is `all`,
+   allocations count from the start of the program, and otherwise from its line `begin` to its line
+   `end`. If an allocation is refused, the program prints the line `refused` to the standard error at
+   its exit. */
 #include <errno.h>
 #include <stdlib.h>
 #include <string.h>

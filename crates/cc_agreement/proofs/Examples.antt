@@ -32,7 +32,7 @@ to_child = record { label = refl; node = refl; arm = refl }
 not_to_root : BashLeadsTo app words app → ⊥
 not_to_root leads = let e : run ≡ app = leads.node in cc
 
--- no words lead to the root
+-- the empty list of words leads to the root
 to_root : BashLeadsTo app [] app
 unfolding insert in_order tree_cases tree_arms words_at details_at digits encode_utf8
 to_root = record { label = refl; node = refl; arm = refl }

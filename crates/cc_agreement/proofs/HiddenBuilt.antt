@@ -1,4 +1,4 @@
--- Words that are no hidden aliases of a tree are none of the built one.
+-- Words that are not hidden aliases in a tree are not hidden aliases in the built tree.
 use Rattle.std.proofs.Common.{◌≡◌, ◌∙◌, ap, sym, subst, refl, ℕ, suc, List, [], ◌∷◌, Bool, true, false, cond, ◌||◌, ◌&&◌, Option, Some, None}
 use Rattle.std.proofs.lemmas.Bool.{and_from, and_parts}
 use Rattle.std.specs.Prelude.{⊤, unwrap_or}
@@ -27,7 +27,7 @@ none_copies parent order none = tt
 none_copies parent order (more node below rest) =
     (refl, none_copies (joined_name parent node.name) 0 below, none_copies parent (suc order) rest)
 
--- what the generated `help` holds
+-- the children of the generated `help`
 abbrev helped : List ℕ → Forest → Forest
 helped parent children =
     join (copies (joined_name parent help_name) 0 children)
@@ -90,7 +90,7 @@ none_hidden (word ∷ words) tree h =
     by_child None k later = later tree h
     by_child (Some child) k later = later child k
 
--- ---- a tree and one that is built of it
+-- ---- a tree and the tree built from it
 
 -- the children are those of the tree, built, and more that have no hidden aliases
 record IsBuiltOf (tree built : Tree) : Type 0 where
@@ -100,7 +100,7 @@ record IsBuiltOf (tree built : Tree) : Type 0 where
   without : HasNone added
   is : built.children ≡ join (built_forest inherited parent tree.children) added
 
--- what a word finds in a tree, and in one that is built of it
+-- the child that a word finds in a tree, and in the tree built from it
 abbrev AreFound : List ℕ → Option Tree → Option Tree → Type 0
 AreFound word None built = (shows built word ≡ true) × HasNoneBelow built
 AreFound word (Some child) None = ⊥

@@ -1,4 +1,4 @@
--- Each candidate at the root is one that the parser takes.
+-- The parser accepts each candidate at the root.
 use Rattle.std.proofs.Common.{◌≡◌, ◌∙◌, ◌==◌, ℕ, Bool, true, false, cond, List, [], ◌∷◌, ◌++◌, map, Option, Some, None, refl, sym, ap, subst, inl, inr, flat_map, Result, Ok, Err, IfOk}
 use Rattle.std.specs.Prelude.{chars, codes, filter, find, get_or, nat_le}
 use Rattle.std.specs.List.{AllByRecursion, dedup, dedup_from}
@@ -47,7 +47,7 @@ use Rattle.clap.specs.Simple.{App}
 abbrev Candidates : Type 0
 Candidates = List CompletionCandidate
 
--- ---- what is so of all stays so
+-- ---- what holds for all still holds
 
 all_dedup_from : {X : Type 0} (P : X → Type 0) (same : X → X → Bool) (k : X) (xs : List X) → P k → AllByRecursion P xs → AllByRecursion P (dedup_from same k xs)
 all_dedup_from P same k [] pk h = (pk, tt)
@@ -143,7 +143,7 @@ module _ (P : CompletionCandidate → Type 0) (arguments : List Arg) (all_longs 
   all_match (Listed found) returned listed h = listed
   all_match (ValuesOf wanted) returned listed h = h
 
--- ---- names that the parser takes
+-- ---- names that the parser accepts
 
 module _ (tree : Tree) (app : App) (takes : TakesOffered tree app) (others : Candidates) where
   abbrev P : CompletionCandidate → Type 0
@@ -213,7 +213,7 @@ module _ (tree : Tree) (app : App) (takes : TakesOffered tree app) (others : Can
   values_there : (cs : Candidates) → ((c : CompletionCandidate) → IsIn cs c → IsIn others c) → AllByRecursion P cs
   values_there cs inside = AllByRecursion-from_IsIn P cs (λ c k. inr (inr (Contains-from_IsIn others c (inside c k))))
 
--- ---- WHAT IS OFFERED AT THE ROOT IS TAKEN
+-- ---- THE PARSER ACCEPTS EACH CANDIDATE AT THE ROOT
 
 all_taken : (tree : Tree) (app : App) → TakesOffered tree app → (state : State) (word : List ℕ) (returned : Returned)
     → AllByRecursion (IsTaken tree app (values_among tree state word returned)) (candidates_for tree state word returned)
@@ -261,7 +261,7 @@ agrees sources root app words index found takes completes = record {
       (all_taken root app takes completes.state (get_or words index []) completes.offers.0));
 }
 
--- the same of a tree that is the one after building
+-- the same for the tree after building
 pub agrees_built : (sources : MayReturn) (root new : Tree) (app : App) (words : List (List ℕ)) (index : ℕ) (found : Candidates) → new ≡ root
     → Completes sources new words index found → (has_globals new ≡ false → fits_parser new ≡ true → TakesOffered new app)
     → has_globals root ≡ false → fits_parser root ≡ true → AgreesWithParser sources root app words index found
@@ -280,7 +280,7 @@ pub parser_built : (root new : Tree) (app : App) (globals : Bool) → new ≡ ro
 parser_built root new app globals same is counted taken =
     subst (λ (tree : Tree). IsParserOf tree app globals) same (record { is = is; same_globals = counted; taken = taken })
 
--- where building did not end, or the index was out of range
+-- building failed, or the index is out of range
 pub refuses_both : (old new : Tree) (count index : ℕ) (error : Error) → Refuses old new count index error → RefusesBoth (built_tree old) count index error
 refuses_both old new count index error.Memory refuses = tt
 refuses_both old new count index error.NoCompletion refuses =

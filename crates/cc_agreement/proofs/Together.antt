@@ -20,7 +20,7 @@ use Rattle.cc_engine.specs.Completion.{Completes, Refuses, words_before}
 use Rattle.cc_gather.specs.Values.{MayReturn}
 use Rattle.cc_walk.specs.Visible.{HasNoHiddenAlias}
 
--- one tree, of which the script reads back
+-- one tree, whose script reads back
 agrees : (sources : MayReturn) (root : Tree) (words : List (List ℕ)) (index : ℕ)
     (found : List CompletionCandidate) → BashReads root
     → HasNoHiddenAlias root (words_before root.node words index)
@@ -48,7 +48,7 @@ pub all_built : {A : Type 0} (bin_name : List ℕ) (old mid new : Tree) (result 
 all_built bin_name old mid new (Ok found) made again = stays_built bin_name old mid new made again
 all_built bin_name old mid new (Err e) made again = tt
 
--- the sink has the script of that tree
+-- the sink holds the script of that tree
 pub all_written : {A : Type 0} (bin_name taken_old taken_new : List ℕ) (old mid new : Tree)
     (result : Result A Error) → mid ≡ built_under (Some bin_name) old
     → OnOk result (new ≡ built_tree mid)
@@ -75,7 +75,7 @@ all_agree items sources bin_name old mid new words index (Ok found) made again r
     completes
 all_agree items sources bin_name old mid new words index (Err e) made again reads completes = tt
 
--- how a second call ends that finds no candidates
+-- the errors of a second call that finds no candidates
 pub second_fails : {A : Type 0} (bin_name taken_old taken_new : List ℕ) (old mid new : Tree)
     (count index : ℕ) (result : Result A Error) → mid ≡ built_under (Some bin_name) old
     → taken_new ≡ taken_old ++ bash_script (built_under (Some bin_name) old)
@@ -93,7 +93,7 @@ second_fails bin_name taken_old taken_new old mid new count index (Err error.NoC
 second_fails bin_name taken_old taken_new old mid new count index (Err _) made written refuses =
     absurd refuses
 
--- a second call that puts nothing, and so never fails to write
+-- a second call that writes nothing, and so has no failed write
 pub second_counts : {A : Type 0} (mid new : Tree) (count index : ℕ) (before after : Failures)
     (result : Result A Error) → after ≡ before → IfErr result (Refuses mid new count index)
     → CountsWrite result before after

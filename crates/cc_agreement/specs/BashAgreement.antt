@@ -48,10 +48,13 @@ pub record AgreesWithBash (sources : MayReturn) (root : Tree) (words : List (Lis
   pub reads : BashReads root
   pub bash_leads : BashLeadsTo root (words_before root.node words index) tree
 
--- How a call that writes a script and then finds no candidates ends, by what its sink had taken
--- before and after: out of memory, with the tree as it was and nothing taken, or built; else with
--- the tree built, and a put that failed; a label that two nodes share, with nothing taken; or an
--- index that is out of range, with the script taken.
+-- The errors of a call that writes a script and then gathers candidates, by what its sink holds
+-- before and after it:
+--
+-- - out of memory: the tree is unchanged and nothing is written, or the tree is built;
+-- - a write failed: the tree is built;
+-- - two nodes share a label: the tree is built, and nothing is written;
+-- - the index is out of range: the tree is built, and the script is written.
 abbrev pub FailsBefore : Tree → Tree → Tree → List ℕ → List ℕ → ℕ → ℕ → Error → Type 0
 FailsBefore old new built before after count index Memory =
     ((new ≡ old) × (after ≡ before)) ⊎ (new ≡ built)

@@ -1,4 +1,4 @@
--- The candidates of a command, and whether its parser takes them.
+-- The candidates of a command, and whether its parser accepts them.
 use Rattle.std.specs.Prelude.{◌≡◌, ◌⊎◌, ◌++◌, ⊤, ℕ, Bool, List, [], Contains, Some, codes, encode_utf8, false, get_or, true}
 use Rattle.std.specs.List.{AllByRecursion}
 use Rattle.cc_arg.specs.declared.parts.ArgParts.{ArgParts as Arg}
@@ -29,7 +29,7 @@ pub record IsLongTaken (tree : Tree) (app : App) (candidate : CompletionCandidat
   pub value : candidate.value ≡ codes "--" ++ name
   pub known : KnowsLong app name
 
--- the same of a short, after a dash or after the word
+-- the same for a short, after a dash or after the word
 pub record IsShortTaken (tree : Tree) (app : App) (candidate : CompletionCandidate) : Type 0 where
   pub argument : Arg
   pub there : Contains tree.node.arguments argument
@@ -39,19 +39,19 @@ pub record IsShortTaken (tree : Tree) (app : App) (candidate : CompletionCandida
   pub value : candidate.value ≡ before ++ encode_utf8 short
   pub known : KnowsShort app short
 
--- the candidate is a name that the parser takes, or one of the values
+-- the candidate is a name that the parser accepts, or one of the values
 abbrev pub IsTaken : Tree → App → List CompletionCandidate → CompletionCandidate → Type 0
 IsTaken tree app values candidate =
     (KnowsChild app candidate.value ⊎ IsLongTaken tree app candidate)
     ⊎ (IsShortTaken tree app candidate ⊎ Contains values candidate)
 
--- the values among what the word matches
+-- the values among the matches of the word
 abbrev pub match_values : OptionMatch → List CompletionCandidate → List CompletionCandidate
 match_values (Listed found) returned = []
 match_values (ValuesOf wanted) returned = match_candidates (ValuesOf wanted) returned
 
--- the values among what is gathered: the names of other programs, those of the positional, those
--- within an option's word, and those of an open option
+-- the values among the gathered candidates: the names of other programs, the values of the
+-- positional, the values within an option's word, and the values of an open option
 abbrev pub values_among : Tree → State → List ℕ → Returned → List CompletionCandidate
 values_among tree state word returned =
     let lists = open_lists_by tree.node.arguments state.position state.escaped state.pending in
@@ -62,7 +62,7 @@ values_among tree state word returned =
     ++ opened_values state.pending word returned.opened))
 
 -- The words before the index lead to one node and one state, and to no others. The candidates are
--- some that may be offered there. If that node is the root, the parser of the root takes each of
+-- some that may be offered there. If that node is the root, the parser of the root accepts each of
 -- them.
 pub record AgreesWithParser (sources : MayReturn) (root : Tree) (app : App) (words : List (List ℕ))
     (index : ℕ) (found : List CompletionCandidate) : Type 0 where
@@ -74,14 +74,15 @@ pub record AgreesWithParser (sources : MayReturn) (root : Tree) (app : App) (wor
   pub taken : tree ≡ root → AllByRecursion (IsTaken root app
       (values_among tree state (get_or words index []) offers.0)) found
 
--- what a parser that reads this is to the tree, and whether it has global arguments
+-- The parser with this reading is the parser of the tree, if the tree has no global arguments.
+-- `globals` tells whether it has some.
 pub record IsParserOf (tree : Tree) (app : App) (globals : Bool) : Type 0 where
   pub is : has_globals tree ≡ false → IsAppOf tree app
   pub same_globals : globals ≡ has_globals tree
   pub taken : has_globals tree ≡ false → fits_parser tree ≡ true → TakesOffered tree app
 
--- how a call ends that has built this tree or not, and finds no candidates or makes no parser: out
--- of memory, or since the index is out of range
+-- the errors of a call that finds no candidates or makes no parser, and may have built this tree:
+-- out of memory, or an index that is out of range
 abbrev pub RefusesBoth : Tree → ℕ → ℕ → Error → Type 0
 RefusesBoth built count index Memory = ⊤
 RefusesBoth built count index NoCompletion = is_in_range built.node count index ≡ false

@@ -1,5 +1,5 @@
 //! Live completion agrees with a command's bash script on the command to which words lead, and with
-//! its parser, which accepts what is offered.
+//! its parser, which accepts the candidates.
 //!
 //! ```rattle
 //! fn write<L: Lookup, W: Sink>(

@@ -19,12 +19,12 @@ use cc_engine::{Lookup, complete_from};
 use cc_parser::parser;
 use std::alloc::Global;
 
-/// Builds `command` and returns the candidates for the word at `index`, as `complete_from` does, the
-/// parser of the command, as `parser` does, and the built command. The parser lies in `store`.
+/// Builds `command` and returns the candidates for the word at `index`, as `complete_from` does,
+/// the parser of the command, as `parser` does, and the built command. The parser is in `store`.
 ///
 /// If no argument of the built command is global and it fits its parser, the two agree. The words
 /// before the index lead to one command. If this is the root, each candidate is a name that the
-/// parser takes, with the id of its argument, or the value of an argument.
+/// parser accepts, with the id of its argument, or the value of an argument.
 ///
 /// # Errors
 ///

@@ -1,4 +1,4 @@
--- Candidates that differ in their values alone are finished as they are.
+-- Finishing does not change candidates that differ only in their values.
 use Rattle.std.proofs.Common.{◌≡◌, ◌∙◌, ap, refl, ℕ, List, [], ◌∷◌, Bool, false, not, None, map, filter, inl, inr}
 use Rattle.std.proofs.lemmas.Bool.{cases_Bool}
 use Rattle.std.specs.List.{list_any}

@@ -46,7 +46,7 @@ no_blocks [] e = refl
 no_blocks (Dashes word ∷ blocks) e = cc
 no_blocks (block ∷ blocks) e = cc
 
--- they lead nowhere but to the root, where nothing is pending
+-- without words, the walk stays at the root, and nothing is pending
 no_words : (root tree : Tree) (state : State) → WordsLeadTo root [] tree state → (tree ≡ root) × (state ≡ start false)
 no_words root tree state leads =
     let at : (tree ≡ root) × (leads.tail ≡ []) × (leads.before ≡ false) = no_descent leads.reach refl in
@@ -61,12 +61,12 @@ bare_match arguments [] bare = cc
 bare_match arguments (byte ∷ bytes) bare =
     elim (cases_Bool (byte == 45)) [ inl t ↦ (let apart : false ≡ true = ap not (sym t) ∙ bare in cc) | inr f ↦ rw f refl ]
 
--- a candidate of a name as a value
+-- the candidates of names, as values of the argument
 as_tools : (names : List (List ℕ)) → map (as_value [] (codes "[tool]")) (map new_candidate names) ≡ map tool_candidate names
 as_tools [] = refl
 as_tools (name ∷ names) = ap (λ cs. tool_candidate name ∷ cs) (as_tools names)
 
--- what is offered for the word at the root, where the completer returns these names
+-- the candidates for the word at the root, if the completer returns these names
 at_root : (sources : MayReturn) (completer : ArgValueCompleter) (names : List (List ℕ)) (word : List ℕ) (found : List CompletionCandidate)
     → ((list : List CompletionCandidate) → sources.completes completer.number 0 word list → list ≡ map new_candidate names)
     → Offers sources (built_tree (runner completer)) (start false) word found → is_bare word ≡ true → found ≡ map tool_candidate names
@@ -81,7 +81,7 @@ at_root sources completer names word found returns (returned, allowed, is) bare 
 
 -- THE CALL
 
--- what a call finds, where the completer of the argument returns these names
+-- the candidates of a call, if the completer of the argument returns these names
 pub offers_tools : {A : Type 0} (items : A → List CompletionCandidate) (sources : MayReturn) (completer : ArgValueCompleter)
     (names : List (List ℕ)) (word : List ℕ) (words : List (List ℕ)) (old new : Tree) (result : Result A Error)
     → old ≡ runner completer → words ≡ codes "run" ∷ word ∷ []
@@ -99,7 +99,7 @@ offers_tools items sources completer names word words old new (Ok found) old_is 
     (subst (λ tree. Offers sources tree at.state word (items found)) stays.0 at.offers))
 offers_tools items sources completer names word words old new (Err e) old_is words_are built completes returns = tt
 
--- the word is there, so it fails with `Memory` alone
+-- the index is in range, so `Memory` is the only error
 pub memory_alone : {A : Type 0} (completer : ArgValueCompleter) (old new : Tree) (count : ℕ) (result : Result A Error) → old ≡ runner completer → count ≡ 2
     → IfErr result (Refuses old new count 1) → IfErr result (λ e. e ≡ error.Memory)
 memory_alone completer old new count (Ok found) old_is count_is refuses = tt

@@ -9,7 +9,7 @@ use Rattle.clap_complete.specs.CompletionCandidate.{CompletionCandidate}
 use Rattle.clap_complete.specs.Made.{new_tree, with_argument}
 use Rattle.clap_complete.specs.Tree.{Tree}
 
--- those of the names that begin with the text, in their order
+-- the names that begin with the text, in their order
 abbrev pub names_beginning : List (List ℕ) → List ℕ → List (List ℕ)
 names_beginning names text = filter (λ name. starts_with nat_eq name text) names
 
@@ -24,12 +24,12 @@ runner completer =
 abbrev pub tool_candidate : List ℕ → CompletionCandidate
 tool_candidate name = record (new_candidate name) { tag = Some (codes "[tool]") }
 
--- the word is not empty and begins with no hyphen, so that no option begins with it
+-- the word is not empty and does not begin with a hyphen, so no option begins with it
 abbrev pub is_bare : List ℕ → Bool
 is_bare [] = false
 is_bare (byte ∷ bytes) = not (byte == 45)
 
--- for such a word exactly the names that begin with it are offered, in their order
+-- for such a word, the candidates are exactly the names that begin with it, in their order
 abbrev pub OffersTools : List (List ℕ) → List ℕ → List CompletionCandidate → Type 0
 OffersTools names word found =
     is_bare word ≡ true → found ≡ map tool_candidate (names_beginning names word)

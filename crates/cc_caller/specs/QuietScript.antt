@@ -1,4 +1,4 @@
--- The effects of a call that writes a bash script of plain commands with quiet values alone.
+-- The effects of a call that writes a bash script only for plain commands with quiet values.
 use Rattle.std.specs.Prelude.{◌≡◌, ℕ, List, ◌++◌, Bool, true, false, Some, Result, Ok, ⊤}
 use Rattle.clap_complete.specs.BashArms.{tree_arms}
 use Rattle.clap_complete.specs.BashCaseTable.{tree_cases}
@@ -8,13 +8,14 @@ use Rattle.clap_complete.specs.BashScript.{bash_script}
 use Rattle.clap_complete.specs.Error.{Error}
 use Rattle.clap_complete.specs.Tree.{Tree}
 
--- the script of the tree is taken, and it reads to the tree's cases and arms
+-- the script of the tree is written, and reads back to the tree's cases and arms
 pub record TakesTable (old new : List ℕ) (tree : Tree) : Type 0 where
   pub taken : new ≡ old ++ bash_script tree
   pub table : bash_table (bash_script tree)
       ≡ Some (record { root = root_label tree; cases = tree_cases tree; arms = tree_arms tree })
 
--- On `Ok(true)` the script is taken and reads to the table; on `Ok(false)` nothing is taken.
+-- On `Ok(true)`, the script is written, and reads back to the table. On `Ok(false)`, nothing is
+-- written.
 abbrev pub TakesQuiet : Result Bool Error → List ℕ → List ℕ → Tree → Type 0
 TakesQuiet (Ok true) old new tree = TakesTable old new tree
 TakesQuiet (Ok false) old new tree = new ≡ old

@@ -1,5 +1,5 @@
--- The script of a generator outside the library, and what it reads to: a line for each long of a
--- command.
+-- The script of a generator outside the library, and what it reads back to: a line for each long of
+-- a command.
 use Rattle.std.specs.Prelude.{◌≡◌, ℕ, ◌==◌, if◌then◌else◌, List, [], ◌∷◌, ◌++◌, None, codes}
 use Rattle.std.specs.Prelude.{flat_map, map}
 use Rattle.clap_complete.specs.ArgumentNames.{all_longs, long_word}
@@ -29,7 +29,7 @@ lines_of (byte ∷ bytes) =
 abbrev pub ListsLongs : Tree → Type 0
 ListsLongs tree = lines_of (word_list tree) ≡ map long_word (all_longs tree.node.arguments)
 
--- what is said of the scripts
+-- the specification of the generator
 abbrev pub word_list_spec : ShellSpec
 word_list_spec = record {
   script = λ tree. word_list tree;

@@ -13,13 +13,13 @@ use clap_complete::command::{Command, is_plain_name};
 use clap_complete::{Error, generate};
 use std::alloc::Global;
 
-/// Writes the bash script of `command` under `bin_name` to `sink`, and returns `true`, if the command
-/// is plain, has quiet possible values, and the bin name is plain. Otherwise returns `false` and
-/// writes nothing.
+/// Writes the bash script of `command` under `bin_name` to `sink`, and returns `true`, if the
+/// command is plain, has quiet possible values, and the bin name is plain. Otherwise returns
+/// `false` and writes nothing.
 ///
 /// # Errors
 ///
-/// `Memory`, `Write` and `LabelClash`, as those of `generate`.
+/// `Memory`, `Write` and `LabelClash`, as `generate` returns them.
 pub fn write_bash_if_quiet<W: Sink>(
     alloc: Global,
     command: &mut Command,

@@ -1,4 +1,4 @@
-//! A completer of names that a program knows, and what is offered with it.
+//! A completer of names that a program knows, and the candidates with it.
 
 ghost use Rattle.std.specs.Prelude.{◌≡◌, IfErr, IfOk, map, string_bytes};
 ghost use Rattle.clap_complete.specs.Candidate.{new_candidate};
@@ -49,7 +49,8 @@ fn runner(alloc: Global, completer: ArgValueCompleter) -> Result<Command, Error>
     command.arg(tool)
 }
 
-/// Returns what `run` offers for `word`, at which a tool is typed, if the tools have these `names`.
+/// Returns the candidates of the program `run` for `word`, the name of a tool, if the tools have
+/// these `names`. `folder` is passed to `complete`.
 ///
 /// # Errors
 ///

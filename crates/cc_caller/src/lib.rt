@@ -1,6 +1,6 @@
-//! Proved callers of the library. The contracts of two promise that the scripts that they write read
-//! back. The contract of one lists the names with which it completes a word. Others compare values,
-//! and one is a generator outside the library.
+//! Proved callers of the library. The contracts of two promise that the scripts that they write
+//! read back. The contract of one lists the names with which it completes a word. Others compare
+//! values, and one is a generator outside the library.
 #![tactic(auto)]
 
 ghost use Rattle.std.specs.Prelude.{◌≡◌, ◌&&◌, IfOk, Some};
@@ -24,12 +24,12 @@ use clap_complete::command::{Command, is_plain_name};
 use clap_complete::{Error, generate};
 use std::alloc::Global;
 
-/// Writes the Elvish script of `command` under `bin_name` to `sink`, and returns `true`, if both are
-/// plain. Otherwise returns `false` and writes nothing.
+/// Writes the Elvish script of `command` under `bin_name` to `sink`, and returns `true`, if both
+/// are plain. Otherwise returns `false` and writes nothing.
 ///
 /// # Errors
 ///
-/// `Memory` and `Write`, as those of `generate`.
+/// `Memory` and `Write`, as `generate` returns them.
 pub fn write_if_plain<W: Sink>(
     alloc: Global,
     command: &mut Command,

@@ -1,4 +1,4 @@
-//! The bash script of a command compared with live completion.
+//! Compares the bash script of a command with live completion.
 
 use crate::checks::{holds, is, same};
 use crate::fixtures::tree;
@@ -18,8 +18,9 @@ use std::fmt::Write;
 use std::io::ErrorKind;
 use std::process::Abort;
 
-// `app`, called `a` too, with a child `run`, shown as `r` too and called `go`, that has an option
-// `--out` and a child `job`, called `j` too, with a flag `--deep`; nothing is generated.
+// `app` has the hidden alias `a` and a child `run`. `run` has the visible alias `r`, the hidden
+// alias `go`, an option `--out` and a child `job`. `job` has the hidden alias `j` and a flag
+// `--deep`. No help is generated.
 const CALLED: &str = r#"{"name": "app", "aliases": ["a"], "disable_help_flag": true,
     "disable_help_subcommand": true, "subcommands": [
         {"name": "run", "disable_help_flag": true, "disable_help_subcommand": true,
@@ -29,7 +30,7 @@ const CALLED: &str = r#"{"name": "app", "aliases": ["a"], "disable_help_flag": t
                     "aliases": ["j"],
                     "args": [{"id": "deep", "long": "deep", "action": "SetTrue"}]}]}]}"#;
 
-// Fails unless the call returns this for these words and the command of a tree file.
+// Fails unless `has_no_hidden_alias` returns `wanted` for the words and the command of a tree file.
 fn has_none<R: Abort + AllocGlobal>(rt: &R, text: &str, words: &[&str], wanted: bool) {
     let words = to_strings(rt.alloc(), words).expect(rt, "no words");
     let command = tree(rt, text);
@@ -48,7 +49,7 @@ fn a_hidden_alias_is_found_where_it_is_read(rt: HostRuntime) {
     has_none(&rt, CALLED, &["j", "--flag", "go"], false);
 }
 
-// Returns what the call returns under the bin name `app`, without completers and folders.
+// Makes the call under the bin name `app`, without completers and directories.
 fn call<W: Sink>(
     alloc: Global,
     command: &mut Command,
@@ -84,7 +85,7 @@ fn label_after<'a>(
     }
 }
 
-// The label to which the cases of a script lead over these words.
+// Returns the label to which the cases of a script lead over these words.
 fn label_at<'a>(alloc: Global, script: &'a str, words: &[&str]) -> Result<&'a str, AllocError> {
     let mut label = "app";
     for word in words {
@@ -93,7 +94,7 @@ fn label_at<'a>(alloc: Global, script: &'a str, words: &[&str]) -> Result<&'a st
     Ok(label)
 }
 
-// Returns the words that the arm of a label offers; nothing if it has no arm.
+// Returns the words that the arm of a label offers, or an empty text if it has no arm.
 fn words_at<'a>(alloc: Global, script: &'a str, label: &str) -> Result<&'a str, AllocError> {
     let arm = format!(in alloc; "\n        {label})\n            opts=\"")?;
     let Some((_, rest)) = script.split_once(arm.as_str()) else {
@@ -113,7 +114,7 @@ fn values(alloc: Global, candidates: &[CompletionCandidate]) -> Result<String, A
     Ok(values)
 }
 
-// The command line of these words after `app`, and an empty word.
+// Returns a command line: `app`, these words and an empty word.
 fn line_of(alloc: Global, words: &[&str]) -> Result<Vec<String>, AllocError> {
     let mut line = to_strings(alloc, &["app"])?;
     for word in words {
@@ -123,8 +124,8 @@ fn line_of(alloc: Global, words: &[&str]) -> Result<Vec<String>, AllocError> {
     Ok(line)
 }
 
-// Where the script of a command leads over these words, what it offers there, and the candidates
-// for an empty word after them.
+// Returns the label to which the script of a command leads over these words, the words that it
+// offers there, and the candidates for an empty word after them.
 fn beside(alloc: Global, command: &mut Command, words: &[&str]) -> Result<String, Error> {
     let mut sink = Collected::new(alloc);
     let found = call(
@@ -141,7 +142,8 @@ fn beside(alloc: Global, command: &mut Command, words: &[&str]) -> Result<String
     Ok(format!(in alloc; "{label}: {offered};{values}")?)
 }
 
-// Fails unless these words lead there. `none` says that none of them is a hidden alias.
+// Fails unless `beside` returns `wanted` for these words. `none` tells whether none of them is a
+// hidden alias.
 fn leads<R: Abort + AllocGlobal>(rt: &R, words: &[&str], none: bool, wanted: &str) {
     has_none(rt, CALLED, words, none);
     let mut command = tree(rt, CALLED);
@@ -170,13 +172,13 @@ fn a_hidden_alias_elsewhere_leads_nowhere(rt: HostRuntime) {
     leads(&rt, &["j"], true, "app: run r; r");
 }
 
-// The cases know no hidden alias.
+// The cases of a script contain no hidden aliases.
 #[test]
 fn a_hidden_alias_leads_the_candidates_alone(rt: HostRuntime) {
     leads(&rt, &["go"], false, "app: run r; job --out");
 }
 
-// Checks that the call fails so, and how much it writes.
+// Returns the error of the call, and how many bytes it writes. Fails unless the command is built.
 fn failure<R: Abort + AllocGlobal>(rt: &R, text: &str, index: usize) -> (Option<Error>, usize) {
     let mut command = tree(rt, text);
     let mut sink = Collected::new(rt.alloc());
@@ -201,8 +203,9 @@ fn a_shared_label_fails_before_the_index_is_looked_at(rt: HostRuntime) {
     same(&rt, written, 0);
 }
 
-// How the call for an empty word ends over a writer that takes `room` bytes of this kind: whether
-// it succeeds, the kind of the write that failed, and the state of the writer.
+// Makes the call for an empty word. Its writer has room for `room` bytes, and then fails with
+// `kind`, or accepts nothing more. Returns whether the call succeeds, the kind of the write that
+// failed, and the state of the writer.
 fn end_of(
     alloc: Global,
     command: &mut Command,
@@ -220,8 +223,8 @@ fn end_of(
     Ok((succeeds, failed, state))
 }
 
-// Whether a writer with too little room is reported as it is to be, and the call succeeds over one
-// with room enough, which gets the whole script.
+// Returns whether each writer with too little room is reported as `reported`, and a writer with
+// enough room receives the whole script.
 fn reports_each(
     alloc: Global,
     command: &mut Command,
@@ -238,7 +241,7 @@ fn reports_each(
     Ok(end_of(alloc, command, length, kind, whole)? == (true, None, (0, length, true)))
 }
 
-// Fails unless that is so of the script of `CALLED`.
+// Fails unless `reports_each` returns `true` for the script of `CALLED`.
 fn reports<R: Abort + AllocGlobal>(rt: &R, kind: Option<ErrorKind>, reported: Option<ErrorKind>) {
     let whole = script(rt, Bash, CALLED).expect(rt, "no script");
     let mut command = tree(rt, CALLED);

@@ -1,4 +1,4 @@
-//! What the callers of `cc_caller` write.
+//! Tests of the callers of `cc_caller`.
 
 use crate::checks::{is, same};
 use crate::fixtures::tree;
@@ -12,11 +12,12 @@ use clap_complete::aot::{Bash, Collected, Elvish, Generator};
 use clap_complete::command::{ArgAction, ValueHint, ValueRange};
 use std::process::Abort;
 
-// `app` with an option `--to`, which may be `a b`.
+// `app` with an option `--to`, whose possible value is `a b`.
 const BLANK: &str = r#"{"name": "app", "disable_help_flag": true, "args": [
     {"id": "to", "long": "to", "possible_values": [{"name": "a b"}]}]}"#;
 
-// Fails unless the call for the command of a tree file returns and writes this.
+// Fails unless `write_if_plain` returns `is_plain` and writes `wanted` for the command of a tree
+// file.
 fn ends<R: Abort + AllocGlobal>(rt: &R, text: &str, name: &str, is_plain: bool, wanted: &str) {
     let bin_name = String::from_str(rt.alloc(), name).expect(rt, "no name");
     let mut sink = Collected::new(rt.alloc());
@@ -27,7 +28,7 @@ fn ends<R: Abort + AllocGlobal>(rt: &R, text: &str, name: &str, is_plain: bool, 
     same(rt, sink.as_slice(), wanted.as_bytes());
 }
 
-// The same of the call for bash.
+// Does the same for `write_bash_if_quiet`.
 fn bash_ends<R: Abort + AllocGlobal>(rt: &R, text: &str, name: &str, is_quiet: bool, wanted: &str) {
     let bin_name = String::from_str(rt.alloc(), name).expect(rt, "no name");
     let mut sink = Collected::new(rt.alloc());

@@ -1,4 +1,4 @@
-//! What `Debug` shows of generators and errors.
+//! The `Debug` output of generators and errors.
 
 use crate::checks::is;
 use cc_fixtures::words::debug_text;

@@ -29,7 +29,7 @@ const TABLE: &str = "
     ]
 ";
 
-// The same as a text.
+// Returns the Elvish script as a text.
 fn text(alloc: Global) -> Result<String, Error> {
     let script = elvish_script(alloc)?;
     Ok(String::from_utf8_lossy(alloc, script.as_slice())?)

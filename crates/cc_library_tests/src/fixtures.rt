@@ -1,5 +1,5 @@
-//! Small trees, as tree files. What holds a command ends with a call of `drop`: to prove a drop
-//! that no call is takes seconds in each function.
+//! Small trees, as tree files. A function that holds a command ends with a call of `drop`, because
+//! proving an implicit drop takes seconds in each function.
 
 use cc_fixtures::trees::read;
 use clap_complete::command::Command;
@@ -7,12 +7,12 @@ use std::alloc::{AllocError, Global};
 use std::fmt::Write;
 use std::process::Abort;
 
-/// The command that a tree file describes.
+/// Returns the command that a tree file describes.
 pub(crate) fn tree<R: Abort + AllocGlobal>(rt: &R, text: &str) -> Command {
     read(rt.alloc(), text).expect(rt, "no command")
 }
 
-/// The same option and child; nothing is generated.
+/// `app` with an option `-c`, `--color` and a child `run`. No help is generated.
 pub(crate) const COLORED_ALONE: &str = r#"{"name": "app", "disable_help_flag": true,
     "disable_help_subcommand": true, "args": [
         {"id": "color", "short": "c", "long": "color", "help": "Colour", "value_names": ["WHEN"],
@@ -20,7 +20,7 @@ pub(crate) const COLORED_ALONE: &str = r#"{"name": "app", "disable_help_flag": t
     "subcommands": [
         {"name": "run", "disable_help_flag": true, "disable_help_subcommand": true}]}"#;
 
-/// The tree file of `app` with the options `--o1` to `--o500`, and nothing else.
+/// Returns the tree file of `app` with the options `--o1` to `--o500`, and nothing else.
 pub(crate) fn many(alloc: Global) -> Result<String, AllocError> {
     let mut text = String::from_str(alloc, MANY_BEFORE)?;
     for number in 1..500 {

@@ -7,8 +7,8 @@ use clap_complete::Error;
 use clap_complete::engine::MemoryFolder;
 use std::alloc::Global;
 
-// The values that are offered for the word where a program knows these names, each with a space
-// after it.
+// Returns the values that are offered for the word if a program knows these names, each with a
+// space after it.
 fn candidates_for(alloc: Global, known: &[&str], word: &str) -> Result<String, Error> {
     let names = to_strings(alloc, known)?;
     let word = String::from_str(alloc, word)?;

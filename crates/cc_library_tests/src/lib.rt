@@ -1,6 +1,6 @@
 //! Tests of the library as programs use it: sinks that take little or fail, files, the shells as
-//! values, a bash script beside candidates, a described command and its parser, and the callers of
-//! `cc_caller`. The tests of what each script holds are in `cc_core_tests`.
+//! values, a bash script compared with candidates, a described command and its parser, and the
+//! callers of `cc_caller`. The tests of the scripts themselves are in `cc_core_tests`.
 #![tactic(auto)]
 
 #[cfg(test)]

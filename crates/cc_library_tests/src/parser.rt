@@ -1,4 +1,4 @@
-//! A described command: what is offered of it, and what its parser takes.
+//! A described command: its candidates, and the words that its parser accepts.
 
 use crate::checks::is;
 use bumpalo::Bump;
@@ -17,7 +17,7 @@ use clap_complete::parser::{candidates_and_parser, parser};
 use std::alloc::{AllocError, Global};
 use std::fmt::Write;
 
-// A tree that uses each call of `describe` once.
+// Returns a tree that uses each call of `describe`.
 fn app(alloc: Global) -> Result<Command, Error> {
     let colors = [
         ("auto", "Where the output is a terminal"),
@@ -40,7 +40,7 @@ fn run(alloc: Global) -> Result<Command, Error> {
     with_arg(run, level(alloc))
 }
 
-// An argument that has more than a description says.
+// Returns an argument with settings that a description does not have.
 fn level(alloc: Global) -> Result<Arg, Error> {
     let level = arg(alloc, &option("level", "LEVEL", "How much"))?;
     let levels = [("low", "A little"), ("high", "A lot")];
@@ -59,7 +59,7 @@ fn values(alloc: Global, found: &[CompletionCandidate]) -> Result<String, AllocE
     Ok(values)
 }
 
-// Returns what is offered for the last of these words.
+// Returns the values that are offered for the last of these words.
 fn offered(alloc: Global, words: &[&str]) -> Result<String, Error> {
     let mut app = app(alloc)?;
     let index = words.len().saturating_sub(1);
@@ -84,8 +84,8 @@ fn what_is_described_is_offered(rt: HostRuntime) {
     );
 }
 
-// The exit status for words that are refused, or what they hold: the root, whether `--verbose` and
-// `--dry-run` are used, and the programs.
+// Returns the exit status if the words are refused. Otherwise returns what they hold: the root,
+// whether `--verbose` and `--dry-run` are used, the subcommand and the programs.
 fn taken(
     alloc: Global,
     matches: Result<ArgMatches<'_>, clap::Error>,
@@ -148,8 +148,8 @@ fn what_is_described_is_parsed(rt: HostRuntime) {
     is(&rt, parsed(alloc, &["app", "--help"]), "0");
 }
 
-// The name of the built command, what is offered for the second word, and what the same words hold
-// with that word in place.
+// Returns the name of the built command, the values that are offered for `word` as the second word,
+// and what the command line `line` holds, by the same call's parser.
 fn both(alloc: Global, word: &str, line: &[&str]) -> Result<String, Error> {
     let words = to_strings(alloc, &["app", word])?;
     let mut app = app(alloc)?;

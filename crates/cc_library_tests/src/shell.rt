@@ -70,7 +70,7 @@ fn no_other_text_is_a_shell(rt: HostRuntime) {
     assert!(rt; fails_with(rt.alloc(), "nu", "invalid variant: nu"));
 }
 
-// Whether `Shell::parse` fails for a text, with this message.
+// Returns whether `Shell::parse` fails for a text with this message.
 fn fails_with(alloc: Global, text: &str, message: &str) -> bool {
     match Shell::parse(alloc, text) {
         Err(Error::InvalidVariant(shown)) => shown.as_str() == message,
@@ -157,7 +157,7 @@ fn each_table_shell_has_its_file(rt: HostRuntime) {
     is(&rt, PowerShell.file_name(rt.alloc(), "app"), "_app.ps1");
 }
 
-// Fails unless the methods of a shell write the script of `nested`, each once.
+// Fails unless each of the two methods of a shell writes the script of `NESTED`.
 fn writes_its_script<R: Abort + AllocGlobal>(rt: &R, shell: Shell) {
     let wanted = script(rt, shell, NESTED).expect(rt, "no script");
     let written = twice(rt, &shell, NESTED).expect(rt, "no script");
@@ -172,7 +172,7 @@ fn the_methods_of_a_shell_write_its_script(rt: HostRuntime) {
     }
 }
 
-/// A folder of this name that was just made, with nothing in it.
+/// Makes an empty directory of this name, and returns its path.
 pub(crate) fn folder<R: Abort + AllocGlobal + Env + Files>(rt: &R, name: &str) -> String {
     let above = env::temp_dir(rt).expect(rt, "no folder above");
     let folder = above.join(rt.alloc(), name).expect(rt, "no path");
@@ -184,12 +184,12 @@ pub(crate) fn folder<R: Abort + AllocGlobal + Env + Files>(rt: &R, name: &str) -
     folder
 }
 
-/// Removes a folder with all that it holds.
+/// Removes a directory with all its contents.
 pub(crate) fn remove<R: Abort + AllocGlobal + Files>(rt: &R, folder: &str) {
     fs::remove_dir_all(rt, folder).expect(rt, "not removed");
 }
 
-// Writes the script of a command to a file in a folder.
+// Writes the script of a command to a file in a directory.
 fn write_to<R: Abort + AllocGlobal + Files>(
     rt: &R,
     shell: Shell,
@@ -200,8 +200,8 @@ fn write_to<R: Abort + AllocGlobal + Files>(
     generate_to(rt, rt.alloc(), shell, command, bin_name, folder)
 }
 
-// How writing the script of the command of a tree file to a folder ends, which leaves the command
-// built.
+// Writes the script of the command of a tree file to a directory, and returns the result. Fails
+// unless the command is built.
 fn outcome<R: Abort + AllocGlobal + Files>(
     rt: &R,
     shell: Shell,
@@ -221,12 +221,12 @@ pub(crate) fn holds_script<R: Abort + AllocGlobal + Files>(rt: &R, path: &str, s
     is(rt, script(rt, shell, APP), held.as_str());
 }
 
-// The path of a file in a folder.
+// Returns the path of a file in a directory.
 fn path_in<R: Abort + AllocGlobal + Files>(rt: &R, folder: &str, name: &str) -> String {
     format!(in rt.alloc(); "{folder}/{name}").expect(rt, "no path")
 }
 
-/// Fails unless the file of this name in a folder holds the script of `app`.
+/// Fails unless the file of this name in a directory holds the script of `app`.
 pub(crate) fn holds_script_in<R: Abort + AllocGlobal + Files>(
     rt: &R,
     folder: &str,
@@ -237,13 +237,13 @@ pub(crate) fn holds_script_in<R: Abort + AllocGlobal + Files>(
     holds_script(rt, path.as_str(), shell);
 }
 
-// Fails unless the script of `app` is written to the file of this name in a folder.
+// Fails unless the script of `app` is written to the file of this name in a directory.
 fn is_written<R: Abort + AllocGlobal + Files>(rt: &R, shell: Shell, folder: &str, name: &str) {
     let wanted = path_in(rt, folder, name);
     is_written_at(rt, shell, folder, wanted.as_str());
 }
 
-// The same for the path of the file.
+// Does the same for the path of the file.
 fn is_written_at<R: Abort + AllocGlobal + Files>(rt: &R, shell: Shell, folder: &str, wanted: &str) {
     is(rt, outcome(rt, shell, APP, folder), wanted);
     holds_script(rt, wanted, shell);
@@ -267,7 +267,7 @@ fn remove_file<R: Abort + AllocGlobal + Files>(rt: &R, path: &str) {
     fs::remove_file(rt, path).expect(rt, "not removed");
 }
 
-// The files and the folder are where the test runs.
+// The test makes the files and the directory in its current directory.
 #[test]
 fn a_folder_that_ends_in_a_slash_or_is_empty_adds_no_slash(rt: HostRuntime) {
     fs::create_dir(&rt, "written").expect(&rt, "no folder");
@@ -309,7 +309,7 @@ fn a_file_that_is_there_is_emptied_first(rt: HostRuntime) {
     remove(&rt, folder.as_str());
 }
 
-// Fails unless writing the script of `app` to a folder fails with this kind.
+// Fails unless writing the script of `app` to a directory fails with this kind.
 fn fails<R: Abort + AllocGlobal + Files>(rt: &R, shell: Shell, folder: &str, wanted: ErrorKind) {
     let written = outcome(rt, shell, APP, folder);
     assert!(rt; matches!(written, Err(Error::Write(kind)) if kind == wanted));
@@ -322,7 +322,7 @@ fn a_folder_that_is_not_there_is_a_failed_write(rt: HostRuntime) {
     fails(&rt, Shell::Bash, folder.as_str(), ErrorKind::NotFound);
 }
 
-// The system's device that is always full stands in for the file.
+// The path of the file leads to the system's device that is always full.
 #[test]
 fn a_full_disk_is_a_failed_write(rt: HostRuntime) {
     let folder = folder(&rt, "lagvtsune_full");
@@ -332,7 +332,7 @@ fn a_full_disk_is_a_failed_write(rt: HostRuntime) {
     remove(&rt, folder.as_str());
 }
 
-// A folder has the file's path.
+// A directory has the file's path.
 #[test]
 fn a_folder_in_the_place_of_the_file_is_a_failed_write(rt: HostRuntime) {
     let folder = folder(&rt, "lagvtsune_blocked");
@@ -347,6 +347,6 @@ fn no_file_is_made_where_a_label_is_shared(rt: HostRuntime) {
     let folder = folder(&rt, "lagvtsune_clash");
     let written = outcome(&rt, Shell::Bash, CLASHING, folder.as_str());
     assert!(rt; matches!(written, Err(Error::LabelClash(_))));
-    // A folder with nothing in it is the only kind that can be removed so.
+    // This removes only an empty directory.
     fs::remove_dir(&rt, folder.as_str()).expect(&rt, "not removed");
 }

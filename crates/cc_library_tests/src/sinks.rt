@@ -1,4 +1,4 @@
-//! Scripts written to sinks that take little, fail, take nothing, or measure what they take.
+//! Scripts written to sinks that accept little, fail, accept nothing, or measure what they receive.
 
 use crate::checks::{holds, is};
 use crate::fixtures::{COLORED_ALONE, many, tree};
@@ -12,7 +12,7 @@ use std::alloc::{AllocError, Global};
 use std::io::{self, ErrorKind, Write};
 use std::process::Abort;
 
-// A writer that takes all it is given, and counts the most at once and all of it.
+// A writer that accepts everything, and counts the bytes: the most at once, and all.
 #[derive(Drop)]
 struct Measured {
     most: usize,
@@ -35,7 +35,7 @@ pub(crate) fn narrow_sink(alloc: Global, room: usize, kind: Option<ErrorKind>) -
     Counted::new(Narrow::new(alloc, room, kind))
 }
 
-// The script as a writer takes it that takes one byte a call.
+// Returns the script that a writer receives if it accepts one byte a call.
 fn by_bytes<R: Abort + AllocGlobal>(
     rt: &R,
     shell: Shell,
@@ -48,8 +48,8 @@ fn by_bytes<R: Abort + AllocGlobal>(
     taken
 }
 
-// Fails unless a writer that takes one byte a call gets the whole script of the command of a tree
-// file.
+// Fails unless a writer that accepts one byte a call receives the whole script of the command of a
+// tree file.
 fn is_same_by_bytes<R: Abort + AllocGlobal>(rt: &R, shell: Shell, text: &str) {
     let whole = script(rt, shell, text).expect(rt, "no script");
     is(rt, by_bytes(rt, shell, text), whole.as_str());
@@ -65,7 +65,7 @@ fn one_byte_a_call_is_the_same_script(rt: HostRuntime) {
     }
 }
 
-/// The kind of the write that failed, if one did.
+/// Returns the kind of the write that failed, if one did.
 pub(crate) fn kind_of<T: Drop>(written: Result<T, Error>) -> Option<ErrorKind> {
     match written {
         Err(Error::Write(kind)) => Some(kind),
@@ -73,7 +73,8 @@ pub(crate) fn kind_of<T: Drop>(written: Result<T, Error>) -> Option<ErrorKind> {
     }
 }
 
-/// How many writes to a narrow writer failed, how much it took, and whether `whole` begins with it.
+/// Returns how many writes to a narrow writer failed, how many bytes it holds, and whether `whole`
+/// begins with them.
 pub(crate) fn state_of(sink: &Counted<Narrow>, whole: &str) -> (u64, usize, bool) {
     let held = sink.get_ref().held.as_slice();
     (
@@ -83,8 +84,8 @@ pub(crate) fn state_of(sink: &Counted<Narrow>, whole: &str) -> (u64, usize, bool
     )
 }
 
-// How the script of a command ends over a writer that takes `room` bytes: the kind of the write
-// that failed, and the state of the writer.
+// Writes the script of a command to a narrow writer with this room and kind. Returns the kind of
+// the write that failed, and the state of the writer.
 fn end_of(
     alloc: Global,
     shell: Shell,
@@ -106,8 +107,9 @@ const ROOMY: (usize, Option<ErrorKind>) = (usize::MAX, None);
 
 pub(crate) const ZERO: Option<ErrorKind> = Some(ErrorKind::WriteZero);
 
-// Whether a writer with too little room, for each such room, is reported as it is to be, and a call
-// with room enough then writes the whole script.
+// Returns whether a writer with too little room, for each such room, is reported as it should be,
+// and a call with enough room then writes the whole script. `kinds` are the kind with which the
+// writer fails and the kind that is reported.
 fn reports_each(
     alloc: Global,
     shell: Shell,
@@ -125,7 +127,7 @@ fn reports_each(
     Ok(again == (None, (0, whole.len(), true)))
 }
 
-// Fails unless that is so of each shell over the command of a tree file.
+// Fails unless `reports_each` returns `true` for each shell and the command of a tree file.
 fn reports<R: Abort + AllocGlobal>(
     rt: &R,
     kinds: (Option<ErrorKind>, Option<ErrorKind>),
@@ -155,7 +157,7 @@ fn a_writer_that_takes_nothing_more_is_reported(rt: HostRuntime) {
     reports(&rt, (None, ZERO), APP);
 }
 
-// Fails unless a measuring writer takes the script of many options in short slices.
+// Fails unless a measuring writer receives the script of many options in short slices.
 fn is_in_short_slices<R: Abort + AllocGlobal>(rt: &R, shell: Shell, text: &str) {
     let mut sink = Counted::new(Measured { most: 0, all: 0 });
     write_script(rt, shell, text, &mut sink).expect(rt, "no script");

@@ -21,7 +21,7 @@ pub(crate) fn write_script<R: Abort + AllocGlobal, G: Generator + Drop, W: Sink>
     written
 }
 
-/// The script of the command of a tree file for the program `app`.
+/// Returns the script of the command of a tree file for the program `app`.
 pub(crate) fn script<R: Abort + AllocGlobal, G: Generator + Drop>(
     rt: &R,
     generator: G,
@@ -32,8 +32,8 @@ pub(crate) fn script<R: Abort + AllocGlobal, G: Generator + Drop>(
     String::from_utf8_lossy(rt.alloc(), sink.as_slice())
 }
 
-/// What both methods of a generator write of the command of a tree file, built for the program
-/// `app`.
+/// Returns what both methods of a generator write for the command of a tree file, built for the
+/// program `app`.
 pub(crate) fn twice<R: Abort + AllocGlobal, G: Generator>(
     rt: &R,
     generator: &G,
@@ -47,7 +47,8 @@ pub(crate) fn twice<R: Abort + AllocGlobal, G: Generator>(
     written
 }
 
-// What both methods of a generator write of a command that is ready.
+// Returns what both methods of a generator write for a command, or an empty text if the command is
+// not ready.
 fn by_methods<R: Abort + AllocGlobal, G: Generator>(
     rt: &R,
     generator: &G,

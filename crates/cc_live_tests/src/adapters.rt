@@ -1,4 +1,5 @@
-//! Tests of adapters: what a shell runs, and how it is replied. Trees are tree files.
+//! Tests of adapters: the registrations that a shell runs, and the replies to it. Trees are tree
+//! files.
 
 mod completers;
 mod names;

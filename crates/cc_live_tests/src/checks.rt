@@ -1,5 +1,5 @@
-//! Checks of values. To prove what one `assert_eq!` writes takes seconds, so it is here once,
-//! and a test calls it.
+//! Checks of values. Proving what one `assert_eq!` writes takes seconds, so it is here once, and
+//! tests call it.
 
 use std::fmt::Debug;
 use std::process::Abort;
@@ -9,13 +9,13 @@ pub(crate) fn same<T: PartialEq + Debug + Drop>(rt: &impl Abort, shown: T, wante
     assert_eq!(rt; shown, wanted);
 }
 
-/// Fails unless this text was made.
+/// Fails unless the text was made and is `wanted`.
 pub(crate) fn is<E: Debug + Drop>(rt: &impl Abort, text: Result<String, E>, wanted: &str) {
     let text = text.expect(rt, "no text");
     same(rt, text.as_str(), wanted);
 }
 
-/// Fails unless a text was made that holds this part.
+/// Fails unless the text was made and contains `part`.
 pub(crate) fn has<E: Debug + Drop>(rt: &impl Abort, text: Result<String, E>, part: &str) {
     let text = text.expect(rt, "no text");
     assert!(rt; text.as_str().contains(part), "{part:?} is not in {text}");

@@ -1,5 +1,5 @@
-//! Tests of what is offered for a word of a command line. Trees are tree files, and values from
-//! outside come from a folder in memory and from completers of the tests.
+//! Tests of the candidates for a word of a command line. Trees are tree files, and values from
+//! outside come from a directory in memory and from completers of the tests.
 
 mod completed_paths;
 mod completers;

@@ -17,7 +17,7 @@ use std::convert::AsStr;
 use std::env::{self, Env};
 use std::rt::Files;
 
-// The variables that shells set, and those that name the directories of tree files.
+// The environment variables that shells set, and those that name the directories of tree files.
 const VARIABLES: [&str; 10] = [
     "COMPLETE",
     "_COMPLGEN_VALUES",
@@ -177,7 +177,11 @@ fn built_in(alloc: Global, word: &str) -> Result<TreeFile, AllocError> {
     Ok(TreeFile { path, bytes })
 }
 
-/// Returns the values of the variables that a request is read from.
+/// Returns the values of the environment variables on which a request depends.
+///
+/// # Errors
+///
+/// `AllocError` if an allocation fails.
 pub(crate) fn environment<R: Env + AllocGlobal>(rt: &R) -> Result<EnvValues, AllocError> {
     variables(rt, &VARIABLES)
 }

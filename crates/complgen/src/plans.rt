@@ -11,8 +11,12 @@ use std::convert::AsStr;
 use std::env::Env;
 use std::rt::Files;
 
-/// Carries out `plan` and prints what it writes. Returns the exit status, which is 1 if `check` found
-/// an error or a warning.
+/// Carries out `plan` and prints what it writes. Returns the exit status, which is 1 if `check`
+/// finds an error or a warning.
+///
+/// # Errors
+///
+/// A refusal with status 1 and the text of the error.
 pub(crate) fn carry_out_plan<R: Env + Files + Print + AllocGlobal>(
     rt: &R,
     plan: &Plan,

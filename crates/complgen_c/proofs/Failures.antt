@@ -1,15 +1,15 @@
--- What a sink in memory counts.
+-- The failures that a sink in memory counts.
 use Rattle.std.proofs.Common.{◌≡◌, ◌∙◌, ◌<◌, ℕ, ap, arith, refl, sym, subst}
 use Rattle.std.specs.declared.io.ErrorKind.{ErrorKind}
 use Rattle.cc_base.specs.Sink.{add_failure, none_failed}
 use Rattle.cc_base.specs.declared.failures.Failures.{Failures}
 
--- none failed where the failures are as they were in the beginning
+-- no write failed if the failures are as they were in the beginning
 pub none_counted : (before after : Failures) → before ≡ none_failed → after ≡ before
     → after.count ≡ 0
 none_counted before after unfailed same = ap (λ failures. failures.count) (same ∙ unfailed)
 
--- one failed
+-- one write failed
 one_failed : (kind : ErrorKind) → (add_failure kind none_failed).count ≡ 1
 unfolding add_failure
 one_failed kind = refl

@@ -1,4 +1,4 @@
--- A set of paths has those that it was made of.
+-- A set of paths contains exactly the paths from which it was built.
 use Rattle.std.proofs.Common.{◌≡◌, ◌∙◌, sym, refl, ℕ, List, [], ◌∷◌}
 use Rattle.std.proofs.lemmas.Map.Text.{is_eq-slice_cmp}
 use Rattle.std.specs.Borrow.{Bor}

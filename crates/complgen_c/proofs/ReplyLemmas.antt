@@ -1,4 +1,4 @@
--- How replying in memory ends, outcome by outcome.
+-- Lemmas for the outcomes of replying in memory.
 use Rattle.std.proofs.Common.{◌≡◌, ◌∙◌, ap, map, subst, ℕ, List, Option, Some, Result, Err}
 use Rattle.std.specs.Option.{option_copied}
 use Rattle.std.specs.String.{string_bytes}
@@ -38,7 +38,7 @@ module _ (tree : List ℕ) (words : List (List ℕ)) (env : EnvValues) (facts : 
   no_reply ends =
       record { result = Err (Library Memory); replies = out_of_memory tree; ends = ends }
 
--- what is said of paths by a folder that holds a listing is said by the listing
+-- a folder that holds a listing states the same about paths as the listing
 pub over_listing : (tree : List ℕ) (words : List (List ℕ)) (env : EnvValues)
     (listing : Listing) (home : Option (List ℕ)) (listed : Listed) (outcome : Outcome)
     → home ≡ value_of home_name env → HoldsListing listing home listed

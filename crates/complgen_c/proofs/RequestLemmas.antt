@@ -1,4 +1,4 @@
--- Texts of bytes.
+-- Texts from bytes.
 use Rattle.std.proofs.Common.{◌≡◌, refl, ℕ, List, [], ◌∷◌, ◌<◌, length, get_or, map, arith, subst}
 use Rattle.std.proofs.lemmas.List.{get_or-map, length-map}
 use Rattle.std.specs.Borrow.{Bor}
@@ -8,7 +8,7 @@ use Rattle.std.specs.Prelude.{String, string_bytes}
 use Rattle.std.specs.declared.alloc.Global.{Global}
 use Rattle.complgen_c.specs.Listings.{handed}
 
--- where one is not UTF-8, not all are
+-- if one is not UTF-8, not all are
 pub not_all : (slices : List (Bor (List ℕ))) (i : ℕ) (d : Bor (List ℕ)) → i < length slices
     → (IsUtf8 (get_or slices i d).now → ⊥) → All IsUtf8 (handed slices) → ⊥
 not_all slices i d below other all =

@@ -1,4 +1,4 @@
--- What a folder that holds a listing says of paths.
+-- The facts about paths that a folder with a listing states.
 use Rattle.std.proofs.Common.{◌≡◌, ℕ, List, Option, Some}
 use Rattle.std.specs.Option.{option_copied}
 use Rattle.complgen_c.specs.Listings.{HoldsListing, Listing, facts_of, listing_of}

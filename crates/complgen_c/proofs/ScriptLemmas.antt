@@ -1,4 +1,4 @@
--- How writing a script into memory ends, outcome by outcome.
+-- Lemmas for the outcomes of writing a script into memory.
 use Rattle.std.proofs.Common.{◌≡◌, ◌∙◌, ◌++◌, ap, refl, sym, subst, true, ℕ, List, [], Option, Some, Result, Ok, Err}
 use Rattle.cc_base.specs.Collected.{collected_bytes, collected_failures}
 use Rattle.cc_base.specs.Sink.{none_failed}
@@ -15,13 +15,13 @@ use Rattle.complgen_c.specs.Scripts as ends
 use Rattle.complgen_c.specs.declared.outcome.Outcome.TheVariants.{Failed, Made}
 use Rattle.complgen_c.proofs.Failures.{none_counted, some_counted}
 
--- where all that is written is no text, nothing is
+-- if the written text is empty, nothing is written
 abbrev untouched : Untouched (λ (text : List ℕ). text) (λ (text : List ℕ). none_failed) [] []
 untouched = record { taken_same = refl; failed_same = refl }
 
 module _ (before after : Collected) (empty : collected_bytes before ≡ [])
     (unfailed : collected_failures before ≡ none_failed) where
-  -- what is said of an error is said of the refusal that is made of it, where no put failed
+  -- what holds for a refusal holds for the one that is made from it, if no write failed
   same_refusal : (Says : Refusal → Type 0) (refusal made : Refusal)
       → FailsInMemory (collected_failures after) (λ r. r ≡ refusal) made
       → collected_failures after ≡ collected_failures before → Says refusal → Says made
@@ -89,7 +89,7 @@ module _ (before after : Collected) (empty : collected_bytes before ≡ [])
         (subst (λ (b : List ℕ). MakesScript name b tree (Made text)) (sym f)
         (ends.made text (subst (λ (t : List ℕ). EndsWithText name bin tree t (Ok tt)) (sym is) (ended done)) reads))
 
-    -- there is none
+    -- there is no script
     pub script_failed : (refusal answer : Refusal) (name' bin' : List ℕ) → name' ≡ name → bin' ≡ bin
         → EndsScript collected_bytes collected_failures name bin (Some tree) before after (Err refusal)
         → FailsInMemory (collected_failures after) (λ r. r ≡ refusal) answer

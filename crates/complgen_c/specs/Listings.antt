@@ -1,4 +1,4 @@
--- The parts of a folder that the caller passes, and the facts about paths that follow.
+-- The parts of a directory that the caller passes, and the facts about paths that follow.
 use Rattle.std.specs.Prelude.{◌≡◌, ℕ, Bool, List, Option, Some, map, string_bytes}
 use Rattle.std.specs.Borrow.{Bor}
 use Rattle.std.specs.BTreeSet.{keys}
@@ -8,14 +8,14 @@ use Rattle.std.specs.Str.{bytes_eq}
 use Rattle.cc_paths.specs.Folders.{FolderFacts}
 use Rattle.complgen_c.specs.declared.listed.Listed.{Listed}
 
--- the path of a folder, the names in it, and the paths of folders and of files
+-- the path of a directory, the names in it, and the paths of directories and of files
 pub record Listing : Type 0 where
   pub path : List ℕ
   pub names : List (List ℕ)
   pub folders : List (List ℕ)
   pub files : List (List ℕ)
 
--- what slices of bytes hold
+-- the contents of slices of bytes
 abbrev pub handed : List (Bor (List ℕ)) → List (List ℕ)
 handed slices = map (λ slice. slice.now) slices
 
@@ -23,9 +23,9 @@ handed slices = map (λ slice. slice.now) slices
 abbrev pub is_among : List (List ℕ) → List ℕ → Bool
 is_among paths path = list_any (bytes_eq path) paths
 
--- The facts about paths. Only the folder at the listing's path has names, and these are the
--- listing's. A path is that of a folder if it is among the folders, and that of a file and of an
--- executable file if it is among the files.
+-- The facts about paths. Only the directory at the listing's path has names, and these are the
+-- listing's. A path leads to a directory if it is among the folders. It leads to a file, which is
+-- executable, if it is among the files.
 abbrev pub facts_of : Listing → Option (List ℕ) → FolderFacts
 facts_of listing home = record {
   names = λ path names. (path ≡ listing.path) × (names ≡ Some listing.names);
@@ -44,7 +44,7 @@ listing_of listed = record {
   files = handed (keys listed.files);
 }
 
--- a folder holds a listing and a home folder
+-- a folder holds a listing and a home directory
 pub record HoldsListing (listing : Listing) (home : Option (List ℕ)) (listed : Listed)
     : Type 0 where
   pub path_same : listed.path.now ≡ listing.path

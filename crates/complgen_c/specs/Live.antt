@@ -1,4 +1,4 @@
--- The ends of a live request.
+-- The outcomes of a live request.
 use Rattle.std.specs.Prelude.{◌≡◌, ◌≢◌, ℕ, List, Option, None, Some, Result, Ok, Err, codes}
 use Rattle.cc_base.specs.declared.error.Error.TheVariants.{Memory}
 use Rattle.cc_engine.specs.Paths.{PathsOf}
@@ -16,26 +16,27 @@ use Rattle.complgen_c.specs.Requests.{HoldsVariables, NotUtf8Texts}
 use Rattle.complgen_c.specs.declared.outcome.Outcome.{Outcome}
 use Rattle.complgen_c.specs.declared.outcome.Outcome.TheVariants.{Failed, Made, NotRequested, NotUtf8, WantsFolder}
 
--- the variable with the user's home folder
+-- the variable with the user's home directory
 abbrev pub home_name : List ℕ
 home_name = codes "HOME"
 
--- the folder where relative paths begin
+-- the directory where relative paths begin
 abbrev pub current_dir : EnvValues → Option (List ℕ)
 current_dir env = value_of (codes "PWD") env
 
--- the line where the tree file describes no command
+-- the line for a tree file that describes no command
 abbrev pub no_command_line : List ℕ
 no_command_line = codes "tree: describes no command\n"
 
--- what an error of the reply prints
+-- the refusal for an error of the reply
 abbrev pub ReportsReply : ReplyError → Refusal → Type 0
 ReportsReply (Tree problem) refusal = IsRefusal no_command_line refusal
 ReportsReply (Library error) refusal = Reports error refusal
 
--- The ends of the call, by the path of the folder that the caller passed, and by the reply. The
--- text is made; nothing is requested; or a message explains why there is no text. After the error of
--- memory alone, the call may instead ask for another folder. No clause can say for which one.
+-- The outcomes of the call, by the path of the directory that the caller passed and by the reply.
+-- The text is made, nothing is requested, or a message explains why there is no text. Only after
+-- the error `Memory`, the call may request another directory instead. No clause can state which
+-- one.
 abbrev pub EndsBy : List ℕ → Result (Option (List ℕ)) ReplyError → Outcome → Type 0
 EndsBy listed (Ok (Some text)) outcome = outcome ≡ Made text
 EndsBy listed (Ok None) outcome = outcome ≡ NotRequested
@@ -43,7 +44,7 @@ EndsBy listed (Err error) (Failed refusal) = ReportsReply error refusal
 EndsBy listed (Err (Library Memory)) (WantsFolder path) = path ≢ listed
 EndsBy listed (Err error) _ = ⊥
 
--- the call ends so after a reply that `complgen` may make, over these facts about paths
+-- the outcome after a reply that `complgen` may make, over these facts about paths
 pub record RepliesOver (tree : List ℕ) (words : List (List ℕ)) (env : EnvValues)
     (facts : FolderFacts) (listed : List ℕ) (outcome : Outcome) : Type 0 where
   pub result : Result (Option (List ℕ)) ReplyError
@@ -51,7 +52,7 @@ pub record RepliesOver (tree : List ℕ) (words : List (List ℕ)) (env : EnvVal
       result
   pub ends : EndsBy listed result outcome
 
--- how the call ends, of a tree file, words, variables and a listing
+-- the outcomes of the call, for a tree file, words, variables and a listing
 pub data MakesReply (tree : List ℕ) (words variables : List (List ℕ)) (listing : Listing)
     : Outcome → Type 0 where
   -- a word, a variable or a name is not UTF-8
@@ -60,7 +61,7 @@ pub data MakesReply (tree : List ℕ) (words variables : List (List ℕ)) (listi
   -- out of memory before there is a request
   out_of_memory : (refusal : Refusal) → IsOutOfMemory refusal
       → MakesReply tree words variables listing (Failed refusal)
-  -- the reply, in the folder that the caller passed and no other
+  -- the reply, over the directory that the caller passed and no other
   replied : (env : EnvValues) (outcome : Outcome) → HoldsVariables variables env
       → RepliesOver tree words env (facts_of listing (value_of home_name env)) listing.path outcome
       → MakesReply tree words variables listing outcome

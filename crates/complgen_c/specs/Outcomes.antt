@@ -1,4 +1,4 @@
--- How a call ends, and what an exported function returns of it.
+-- The outcome of a call, and how an exported function returns it.
 use Rattle.std.specs.Prelude.{◌≡◌, ◌≤◌, ◌<◌, ◌++◌, ℕ, List, [], length, drop}
 use Rattle.cc_base.specs.declared.failures.Failures.{Failures}
 use Rattle.complgen_commands.specs.Refusals as refusals
@@ -20,26 +20,26 @@ text_of NotUtf8 = []
 text_of NotRequested = []
 text_of (WantsFolder path) = path
 
--- the text stands at the start of the room, if it fits there; else the room is as it was; and the
--- count is the length of the text
+-- The text is at the start of the room if it fits there. Otherwise the room is unchanged. The count
+-- is the length of the text.
 pub record Copies (text old new : List ℕ) (count : ℕ) : Type 0 where
   pub counts : count ≡ length text
   pub fits : length text ≤ length old → new ≡ text ++ drop (length text) old
   pub too_long : length old < length text → new ≡ old
 
--- what is returned of an outcome: its status, its text in the room, and the length of the text
+-- an outcome is returned: as its status, its text in the room, and the length of the text
 pub record Returns (outcome : Outcome) (old new : List ℕ) (status count : ℕ) : Type 0 where
   pub status_is : status ≡ status_of outcome
   pub copies : Copies (text_of outcome) old new count
 
--- the call ends with an outcome that may be, and that is returned
+-- the call has a possible outcome, and returns it
 pub record EndsAs (MayEnd : Outcome → Type 0) (old new : List ℕ) (status count : ℕ) : Type 0 where
   pub outcome : Outcome
   pub may_end : MayEnd outcome
   pub returns : Returns outcome old new status count
 
--- A text is made in memory, and that fails: for this reason, where no put failed, else for want of
--- memory.
+-- Making a text in memory fails: for this reason if no write failed, or else because memory ran
+-- out.
 pub record FailsInMemory (failures : Failures) (Reason : Refusal → Type 0) (refusal : Refusal)
     : Type 0 where
   pub none_failed : failures.count ≡ 0 → Reason refusal

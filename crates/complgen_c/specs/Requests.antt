@@ -10,17 +10,17 @@ use Rattle.complgen_c.specs.declared.requests.Request.{Request}
 abbrev pub both_bytes : String Global × String Global → List ℕ × List ℕ
 both_bytes texts = (string_bytes texts.0, string_bytes texts.1)
 
--- texts in pairs; a last one without another is left out
+-- texts in pairs, without a last one that has no partner
 abbrev pub in_pairs : List (List ℕ) → List (List ℕ × List ℕ)
 in_pairs [] = []
 in_pairs (first ∷ []) = []
 in_pairs (first ∷ second ∷ rest) = (first, second) ∷ in_pairs rest
 
--- these are the variables, whose names and values were handed in in turn
+-- the environment has these variables, which the caller passes as names and values, alternating
 abbrev pub HoldsVariables : List (List ℕ) → EnvValues → Type 0
 HoldsVariables variables env = map both_bytes env.variables ≡ in_pairs variables
 
--- the texts of these bytes; none where some are not UTF-8
+-- the texts with these bytes, or none if not all are UTF-8
 abbrev pub AreTexts : List (List ℕ) → Option (Vec (String Global) Global) → Type 0
 AreTexts slices None = All IsUtf8 slices → ⊥
 AreTexts slices (Some texts) = map string_bytes texts.items ≡ slices
@@ -35,7 +35,7 @@ pub record HasParts (words variables names : List (List ℕ)) (request : Request
 abbrev pub NotUtf8Texts : List (List ℕ) → List (List ℕ) → List (List ℕ) → Type 0
 NotUtf8Texts words variables names = All IsUtf8 words → All IsUtf8 variables → All IsUtf8 names → ⊥
 
--- the request with these words, variables and names; none where some are not UTF-8
+-- the request with these words, variables and names, or none if not all are UTF-8
 abbrev pub IsRead : List (List ℕ) → List (List ℕ) → List (List ℕ) → Option Request → Type 0
 IsRead words variables names None = NotUtf8Texts words variables names
 IsRead words variables names (Some request) = HasParts words variables names request

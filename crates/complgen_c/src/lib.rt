@@ -1,5 +1,5 @@
-//! The library for programs in other languages: a script, and a live request, by functions over
-//! bytes, which take any bytes.
+//! The library for programs in other languages. Its functions make a script or answer a live
+//! request, and accept any bytes.
 #![tactic(auto)]
 
 mod listed;

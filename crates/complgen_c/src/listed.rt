@@ -1,4 +1,4 @@
-//! A folder whose names the caller passes.
+//! A directory whose names the caller passes.
 
 ghost use Rattle.std.specs.Prelude.{◌≡◌, ℕ, List, IfOk, map, string_bytes};
 ghost use Rattle.std.specs.BTreeSet.{keys};
@@ -12,9 +12,9 @@ use std::alloc::{AllocError, Global};
 use std::cell::Cell;
 use std::collections::BTreeSet;
 
-/// The names in the folder of one path, and which paths are those of folders and of files; every
-/// file counts as executable. The names in another folder are not there: its path is noted as
-/// wanted, and the call for them fails.
+/// A directory: its path, the names in it, and the paths that lead to directories and to files.
+/// Every file counts as executable. The names in other directories are not known. A call for these
+/// fails, and the path of that directory is kept.
 #[derive(Drop)]
 pub struct Listed<'l, 'h> {
     path: &'l [u8],
@@ -26,8 +26,8 @@ pub struct Listed<'l, 'h> {
 }
 
 impl<'l, 'h> Listed<'l, 'h> {
-    /// Returns the folder at `path`, with the names in it, the paths of folders and of files, and the
-    /// home directory of the user.
+    /// Returns the directory at `path`, with the `names` in it, the paths `folders` of directories,
+    /// the paths `files` of files, and the user's directory `home`.
     ///
     /// # Errors
     ///
@@ -59,15 +59,15 @@ impl<'l, 'h> Listed<'l, 'h> {
         })
     }
 
-    /// Returns the path of the folder.
+    /// Returns the path of the directory.
     pub(crate) fn path(&self) -> &'l [u8]
         ensures { result.now ≡ self.now.path.now }
     {
         self.path
     }
 
-    /// Returns the path of the folder whose names were asked for and are not there. No clause can
-    /// say which it is, since a cell hides what it holds.
+    /// Returns the path of the other directory whose names were requested, if there is one. No
+    /// clause can state which one, because a cell hides its content.
     pub(crate) fn into_wanted(self) -> Option<Text> {
         self.wanted.into_inner()
     }
@@ -76,9 +76,9 @@ impl<'l, 'h> Listed<'l, 'h> {
 impl<'l, 'h> Folder for Listed<'l, 'h> {
     ghost facts = { λ folder. facts_of (listing_of folder) (option_copied folder.home) };
 
-    // The names of another folder are wanted, and there is no reply without them. Of the errors of a
-    // folder `Memory` is the one that ends the whole call, so it is returned here. The outcome
-    // tells it from memory that ran out by the path that was noted.
+    // There is no reply without the names in another directory. `Memory` is the only error of a
+    // folder that ends the whole call, so it is returned here. The path that was kept distinguishes
+    // this from memory that ran out.
     fn names(&self, alloc: Global, path: &str) -> Result<Vec<String>, FolderError> {
         if self.path == path.as_bytes() {
             return Ok(self.names.clone()?);

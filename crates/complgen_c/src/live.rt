@@ -19,7 +19,7 @@ use complgen_commands::{Refusal, error_refusal};
 use complgen_live::{ReplyError, reply_text};
 use std::alloc::{AllocError, Global};
 
-// The variable with the path of the user's home folder.
+// The variable with the path of the user's home directory.
 const HOME: &str = "HOME";
 
 // The variable with the path where relative paths begin.
@@ -28,21 +28,23 @@ const CURRENT_DIR: &str = "PWD";
 // The message for a tree file that describes no command.
 const NO_COMMAND: &str = "tree: describes no command\n";
 
-/// Makes what a shell requests of a program with the command in a tree file: the registration, or
-/// the reply with the candidates. Returns the length of its text, which is put at the start of
-/// `room` if it fits there. Otherwise `room` is left as it was, and you can call again with more
-/// room. You may pass any bytes.
+/// Answers the request of a shell to the program that the tree file `tree` describes, with the
+/// registration or with the candidates. Returns the length of the text, and copies the text to the
+/// start of `room` if it fits there. Otherwise `room` stays unchanged, and you can call again with
+/// more room. You may pass any bytes.
 ///
-/// `words` are the program's arguments, its name first. `variables` are names and values in turn:
+/// `words` are the program's arguments, starting with its name. `variables` are names and values,
+/// alternating:
 ///
-/// - `COMPLETE` requests, by the name of the shell, with `_COMPLGEN_VALUES`, `_COMPLGEN_KEPT` and
-///   `_COMPLGEN_QUOTE` as the registration sets them, or with `_CLAP_COMPLETE_INDEX` and
-///   `_CLAP_IFS` as registrations of the original's form do.
+/// - `COMPLETE` makes the request, and its value names the shell.
+/// - `_COMPLGEN_VALUES`, `_COMPLGEN_KEPT` and `_COMPLGEN_QUOTE` have the values that the
+///   registration sets. A registration of the original's form sets `_CLAP_COMPLETE_INDEX` and
+///   `_CLAP_IFS` instead.
 /// - `HOME` is the user's home directory, and `PWD` the directory where relative paths begin.
 ///
-/// `names` are those in the folder at the path `listed`, none if it can't be read. `folders` and
-/// `files` are paths of folders and of files: of that folder itself and of its names, each joined
-/// to `listed` by one slash. Any other path is neither.
+/// `names` are the names in the directory at the path `listed`, or none if it can't be read.
+/// `folders` and `files` are the paths of directories and of files, among these: that directory
+/// itself, and its names, each joined to `listed` by one slash. Any other path counts as neither.
 ///
 /// The `status` is:
 ///
@@ -50,7 +52,7 @@ const NO_COMMAND: &str = "tree: describes no command\n";
 /// - 1: the text is a message, which ends in a line feed.
 /// - 2: a word, a variable or a name is not UTF-8, and there is no text.
 /// - 3: nothing is requested, and there is no text.
-/// - 4: the text is the path of another folder, whose names are wanted. Call again with these.
+/// - 4: the text is the path of another directory. Call again with the names in that one.
 #[unsafe(no_mangle)]
 pub extern "C" fn lagvtsune_live(
     alloc: Global,
@@ -80,7 +82,7 @@ pub extern "C" fn lagvtsune_live(
     }
 }
 
-// Returns the outcome of a request, over the folder that was passed with its names.
+// Returns the outcome of a request, over the directory that was passed with its names.
 fn reply_to<'r>(
     alloc: Global,
     tree: &[u8],
@@ -104,7 +106,7 @@ fn reply_to<'r>(
     }
 }
 
-// Returns the outcome of a request in a folder.
+// Returns the outcome of a request in a directory.
 fn reply_in(
     alloc: Global,
     tree: &[u8],
@@ -122,8 +124,8 @@ fn reply_in(
     outcome(alloc, replied, path, folder.into_wanted())
 }
 
-// Returns how the call ends, by the reply, the path of the folder that was passed, and that of the
-// folder whose names the reply needs instead.
+// Returns the outcome of a reply. `listed` is the path of the directory that was passed, and
+// `wanted` the path of the directory whose names the reply needs instead.
 fn outcome(
     alloc: Global,
     replied: Result<Option<Collected>, ReplyError>,
@@ -140,8 +142,7 @@ fn outcome(
     }
 }
 
-// Returns how the call ends if memory runs out, which is also how a folder ends it whose names are
-// not there.
+// Returns the outcome of the error `Memory`, which the names of another directory cause too.
 fn out_of_memory(listed: &[u8], wanted: Option<Text>) -> Outcome
     ensures { EndsBy listed.now (Err (Library Memory)) result }
 {
@@ -154,7 +155,7 @@ fn out_of_memory(listed: &[u8], wanted: Option<Text>) -> Outcome
     Outcome::WantsFolder(path)
 }
 
-// Returns what is said of an error of the reply. The tree file has no path that a message could
+// Returns the refusal for an error of the reply. The tree file has no path that a message could
 // name.
 fn reply_refusal(alloc: Global, error: &ReplyError) -> Refusal
     ensures { ReportsReply error.now result }

@@ -1,4 +1,4 @@
-//! How a call ends, and what an exported function returns of it.
+//! The outcome of a call, and how an exported function returns it.
 
 ghost use Rattle.std.specs.Prelude.{◌≡◌};
 ghost use Rattle.complgen_c.specs.Outcomes.{Copies, Returns, status_of, text_of};
@@ -6,23 +6,24 @@ ghost use Rattle.complgen_c.specs.Outcomes.{Copies, Returns, status_of, text_of}
 use cc_base::{Items, Text};
 use complgen_commands::Refusal;
 
-/// How a call ends. Each has a status and a text, which an exported function returns.
+/// The outcome of a call. Each has a status and a text, which an exported function returns.
 #[derive(Drop)]
 pub enum Outcome {
     /// 0: the text is made.
     Made(Items<u8>),
-    /// 1: there is none; the text says why, as a line.
+    /// 1: there is no result. The text is a message, which ends in a line feed.
     Failed(Refusal),
-    /// 2: a text that was handed in is not UTF-8.
+    /// 2: a text that the caller passed is not UTF-8.
     NotUtf8,
     /// 3: nothing is requested.
     NotRequested,
-    /// 4: the names in the folder of this path are wanted; the path is the text.
+    /// 4: the call needs the names in the directory with this path. The text is the path.
     WantsFolder(Text),
 }
 
 impl Outcome {
-    /// Sets the status, puts the text into the room, where it fits there, and returns its length.
+    /// Sets `status`, copies the text to the start of `room` if it fits there, and returns its
+    /// length. A `room` that is too small stays unchanged.
     pub fn put(&self, room: &mut [u8], status: &mut u8) -> usize
         ensures { Returns self.now room.old room.new status.new result }
     {
@@ -54,7 +55,7 @@ impl Outcome {
     }
 }
 
-// Copies the text to the start of the room, where it fits there, and returns its length.
+// Copies the text to the start of the room if it fits there, and returns its length.
 fn copy_into(text: &[u8], room: &mut [u8]) -> usize
     ensures { Copies text.now room.old room.new result }
 {

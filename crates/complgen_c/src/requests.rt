@@ -1,4 +1,4 @@
-//! A live request, of which words, variables and names are handed in as bytes.
+//! A live request, whose words, variables and names the caller passes as bytes.
 
 ghost use Rattle.std.specs.Prelude.{◌≡◌, IfOk, map, string_bytes};
 ghost use Rattle.complgen_c.specs.Listings.{handed};
@@ -15,8 +15,12 @@ pub struct Request {
     pub(crate) names: Vec<String>,
 }
 
-/// The words, the variables, which are names and values in turn, and the names in a folder, as
-/// texts; none where one of them is not UTF-8. Fails where memory runs out.
+/// Returns the request as texts: its `words`, its `variables`, which are names and values,
+/// alternating, and the `names` in a directory. Returns `None` if one of them is not UTF-8.
+///
+/// # Errors
+///
+/// `AllocError` if an allocation fails.
 pub(crate) fn read_request(
     alloc: Global,
     words: &[&[u8]],
@@ -38,7 +42,7 @@ pub(crate) fn read_request(
     Ok(Some(Request { words, env, names }))
 }
 
-// The slices as texts; none where one is not UTF-8.
+// Returns copies of the slices as texts, or `None` if one of them is not UTF-8.
 fn texts(alloc: Global, slices: &[&[u8]]) -> Result<Option<Vec<String>>, AllocError>
     ensures { IfOk result (AreTexts (handed slices.now)) }
 {
@@ -52,7 +56,7 @@ fn texts(alloc: Global, slices: &[&[u8]]) -> Result<Option<Vec<String>>, AllocEr
     Ok(Some(texts))
 }
 
-// The texts in pairs; a last one without another is left out.
+// Returns the texts in pairs, without a last one that has no partner.
 fn pairs(alloc: Global, texts: Vec<String>) -> Result<Vec<(String, String)>, AllocError>
     ensures { IfOk result (λ pairs.
         map both_bytes pairs.items ≡ in_pairs (map string_bytes texts.items)) }

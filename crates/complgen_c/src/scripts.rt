@@ -1,4 +1,4 @@
-//! Scripts, by a function over bytes.
+//! Makes scripts, by a function over bytes.
 
 ghost use Rattle.std.specs.Prelude.{◌≡◌};
 ghost use Rattle.cc_base.specs.Collected.{collected_failures};
@@ -11,9 +11,9 @@ use complgen_commands::{Refusal, script};
 use std::alloc::{AllocError, Global};
 
 /// Makes the script for the shell with the name `shell`, of the command in the tree file `tree`,
-/// under the bin name `bin`. Returns the length of its text, which is put at the start of `room` if
-/// it fits there. Otherwise `room` is left as it was, and you can call again with more room. You may
-/// pass any bytes.
+/// under the bin name `bin`. Returns the length of the text, and copies the text to the start of
+/// `room` if it fits there. Otherwise `room` stays unchanged, and you can call again with more
+/// room. You may pass any bytes.
 ///
 /// The `status` is:
 ///
@@ -48,7 +48,7 @@ fn make_script(alloc: Global, shell: &[u8], bin: &[u8], tree: &[u8]) -> Outcome
     }
 }
 
-// Returns the refusal, or that memory ran out if a put into memory failed.
+// Returns `refusal`, or the refusal for memory that ran out if a write to the sink failed.
 fn in_memory(refusal: Refusal, sink: &Collected) -> Refusal
     ensures { FailsInMemory (collected_failures sink.now) (λ made. made ≡ refusal) result }
 {

@@ -7,13 +7,13 @@ use std::test::Fail;
 const TREE: &[u8] = b"{\"name\": \"app\", \"args\": [
     {\"id\": \"f\", \"long\": \"file\", \"value_hint\": \"AnyPath\"}]}";
 
-// Fails unless these are the length and the status that were returned.
+// Fails unless the returned length and status are these.
 fn same(rt: &impl Abort, shown: (usize, u8), wanted: (usize, u8)) {
     assert_eq!(rt; shown, wanted);
 }
 
-// What is returned of a request for the value of `--file`, in the folder `/x`: the length, the
-// status, and the room.
+// Requests the value of `--file` in the directory `/x`, and returns the length, the status and the
+// room.
 fn asked(
     rt: &HostRuntime,
     shell: &[u8],

@@ -1,4 +1,4 @@
--- A command that is built is built to the same tree again.
+-- Building a built command again changes nothing.
 use Rattle.std.proofs.Common.{◌≡◌, ◌∙◌, ap, sym, ℕ, List, Some}
 use Rattle.cc_command.specs.Built.{built_tree, built_under}
 use Rattle.cc_command.specs.Tree.{Tree}

@@ -1,4 +1,4 @@
--- The ends of a check of a tree file.
+-- The outcomes of a check of a tree file.
 use Rattle.std.proofs.Common.{◌≡◌, ◌++◌, ℕ, Bool, List, None, Option, Some, Ok, Err, Result, refl, subst, sym}
 use Rattle.cc_base.specs.Writes.{CountsWrite, IsMemoryOrWrite}
 use Rattle.cc_base.specs.declared.error.Error.{Error}

@@ -56,7 +56,7 @@ reads_back built plain again clear PowerShell = powershell_plain_reads built pla
 reads_back built plain again clear Zsh = zsh.reads_back built plain again
 reads_back built plain again clear Nushell = nushell_plain_reads built plain
 
--- the scripts of a tree for which the premises hold
+-- the scripts of a tree are safe if the premises hold
 pub scripts_safe : (bin : Option (List ℕ)) (tree : Tree) → HoldPremises bin tree → (shell : Shell)
     → IsSafeFor (built_as bin tree) shell
 scripts_safe bin tree holds shell = record {
@@ -78,13 +78,13 @@ no_notes (finding ∷ more) are clean =
     let noted : false ≡ true = subst (λ (level : Level). IsTrue (is_note level)) is first in
     cc
 
--- a kind of a note is shown as one
+-- a kind is shown as a note exactly if it is the kind of a note
 kind_shown : (kind : Kind) → is_note (finding_level (level_of kind)) ≡ is_note_kind kind
 kind_shown HiddenCommand = refl
 kind_shown HiddenArgument = refl
 kind_shown _ = refl
 
--- whether all that is shown are notes
+-- whether everything shown is a note
 notes_shown : List Shown → Bool
 notes_shown = list_all (λ shown. is_note shown.level)
 
@@ -100,7 +100,7 @@ warned_notes (warning ∷ more) =
     ap (λ note. note && notes_shown (map shown_warning more)) (kind_shown warning.kind)
     ∙ ap (λ notes. is_note_kind warning.kind && notes) (warned_notes more)
 
--- the last of what is shown are notes if all are
+-- if everything shown is a note, so is the last part of it
 last_notes : (first last : List Shown) → IsTrue (notes_shown (first ++ last))
     → IsTrue (notes_shown last)
 unfolding notes_shown

@@ -1,4 +1,4 @@
--- The findings of a check of a tree file, and the ways in which it ends.
+-- The findings of a check of a tree file, and the outcomes of the check.
 use Rattle.std.specs.Prelude.{◌≡◌, ◌++◌, ℕ, Bool, true, false, IsTrue, List, [], ◌∷◌, Option, Some, None, Result, Ok, Err, codes, map}
 use Rattle.std.specs.List.{flat_map, list_all}
 use Rattle.std.specs.declared.io.ErrorKind.{ErrorKind}
@@ -36,12 +36,12 @@ use Rattle.complgen_check.specs.declared.report.Report.{Report}
 
 -- ---- what is shown of a warning
 
--- the level of a warning, as that of a finding
+-- the level of a finding for the level of a warning
 abbrev pub finding_level : WarningLevel → Level
 finding_level warning_level.Warning = level.Warning
 finding_level warning_level.Note = level.Note
 
--- the steps from the whole file to a command, which child of which child
+-- the steps from the whole file to the command at a path
 abbrev pub command_steps : List ℕ → List ShownStep
 command_steps children =
     flat_map (λ child. key (codes "subcommands") ∷ index child ∷ []) children
@@ -92,9 +92,9 @@ is_note _ = false
 abbrev pub only_notes : List PlacedFinding → Bool
 only_notes found = list_all (λ finding. is_note finding.level) found
 
--- ---- how a check ends
+-- ---- the outcomes of a check
 
--- The ways in which a check of a tree file ends; its sink was `old` before and is `new` now.
+-- The outcomes of a check of a tree file. Its sink was `old` before and is `new` after.
 pub data EndsCheck {S : Type 0} (taken : S → List ℕ) (failed : S → Failures)
     (bin : Option (List ℕ)) (report : Report) (old new : S)
     : Option (List ℕ) → Result Bool Refusal → Type 0 where
@@ -108,21 +108,21 @@ pub data EndsCheck {S : Type 0} (taken : S → List ℕ) (failed : S → Failure
   write_failed : (bytes : List ℕ) (kind : ErrorKind) (refusal : Refusal)
       → IsRefusal (error_line (Write kind)) refusal → failed new ≡ add_failure kind (failed old)
       → EndsCheck taken failed bin report old new (Some bytes) (Err refusal)
-  -- each finding is printed, and the result is whether there are none but notes
+  -- each finding is printed, and the result is whether all are notes
   printed : (bytes : List ℕ) (found : List PlacedFinding) → Finds bin bytes found
       → taken new ≡ taken old ++ report_text report bytes found → failed new ≡ failed old
       → EndsCheck taken failed bin report old new (Some bytes) (Ok (only_notes found))
 
 -- ---- what holds if nothing is found but notes
 
--- No two commands of the built tree share a label that the script of this shell needs, so that
--- writing it fails out of memory or by the writer alone; and the script reads back.
+-- No two commands of the built tree share a label that the script for this shell needs. So writing
+-- it fails only if memory runs out or a write fails. The script reads back.
 pub record IsSafeFor (built : Tree) (shell : Shell) : Type 0 where
   pub unshared : (shell_spec shell).clash built ≡ None
   pub reads : (shell_spec shell).Reads built
 
--- The bytes describe a command for which each premise of what scripts promise holds; so its script
--- for each shell is safe.
+-- The bytes describe a command for which each premise of the promises about scripts holds. So its
+-- script for each shell is safe.
 pub record AreSound (bin : Option (List ℕ)) (file : Option (List ℕ)) : Type 0 where
   pub bytes : List ℕ
   pub tree : Tree

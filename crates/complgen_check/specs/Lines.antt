@@ -11,7 +11,7 @@ level_text Note = codes "note"
 level_text Warning = codes "warning"
 level_text Error = codes "error"
 
--- `LINE:COLUMN`, of the place after these bytes
+-- `LINE:COLUMN` of the place after these bytes
 abbrev pub place_text : List ℕ → List ℕ
 place_text before = (decimal (line_after before) ++ codes ":") ++ decimal (column_after before)
 

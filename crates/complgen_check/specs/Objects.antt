@@ -20,6 +20,7 @@ abbrev pub finding_json : List ℕ → PlacedFinding → Json
 finding_json bytes finding = object_with (decimal (line_after (take finding.offset bytes)))
     (decimal (column_after (take finding.offset bytes))) finding
 
--- its text, without spaces; `print` writes `"`, `\` and control characters in a string as escapes
+-- the text of that JSON, without spaces; `print` writes `"`, `\` and control characters in a string
+-- as escapes
 abbrev pub finding_object : List ℕ → PlacedFinding → List ℕ
 finding_object bytes finding = print (json_tokens (finding_json bytes finding))

@@ -10,9 +10,9 @@ use Rattle.cc_command.specs.Tree.{Tree}
 use Rattle.cc_base.specs.PlainName.{is_plain_name}
 use Rattle.complgen_check.specs.TreeWarnings.{built_as, called}
 
--- Each premise of what scripts promise holds: the tree and the name by which it is called are
--- plain, the possible values are quiet, no text of the built tree has a quote that PowerShell's
--- script leaves as it is, and no two commands share a label.
+-- Each premise of the promises about scripts holds. The tree and the name by which it is called are
+-- plain, and the possible values are quiet. The PowerShell script escapes each quote of the built
+-- tree, and no two commands share a label.
 pub record HoldPremises (bin : Option (List ℕ)) (tree : Tree) : Type 0 where
   pub plain : IsTrue (is_plain_tree tree)
   pub name : IsTrue (is_plain_name (called bin tree))

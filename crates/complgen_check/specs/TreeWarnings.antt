@@ -12,7 +12,7 @@ use Rattle.complgen_lints.specs.declared.warning.Warning.{Warning}
 abbrev pub called : Option (List ℕ) → Tree → List ℕ
 called bin tree = unwrap_or bin (full_name tree.node)
 
--- the tree as it is built to be called so
+-- the tree built under the name by which it is called
 abbrev pub built_as : Option (List ℕ) → Tree → Tree
 built_as bin tree = built_under (Some (called bin tree)) tree
 

@@ -1,4 +1,4 @@
-//! All warnings about a command, including that two commands share a label of bash.
+//! Finds all warnings about a command, including the one about a shared label of the bash script.
 
 ghost use Rattle.std.specs.Prelude.{◌≡◌, ◌⊎◌, ◌++◌, IfOk, IsTrue, OnErr, OnOk, Some};
 ghost use Rattle.std.specs.Option.{option_copied};
@@ -16,9 +16,10 @@ use cc_command::{Command, build_as, full_name};
 use complgen_lints::{Kind, Place, Warning, command_warnings};
 use std::alloc::{AllocError, Global};
 
-/// Returns the warnings and notes about `command`, which is called by the name `bin`, by its own bin
-/// name if `bin` is `None`, or else by its name. The warnings of `command_warnings` come first. If
-/// two commands share a label of the bash script, the last warning says so. Its place is the root.
+/// Returns the warnings and notes about `command`, which is called by the name `bin`. If `bin` is
+/// `None`, it is called by its own bin name, or if it has none, by its name. The warnings of
+/// `command_warnings` come first. If two commands share a label of the bash script, the last
+/// warning reports that. Its place is the root.
 ///
 /// If there are only notes, each premise of the promises about scripts holds. The script for each
 /// shell can then be written, unless memory runs out or a write fails, and it reads back. The call

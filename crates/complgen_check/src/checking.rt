@@ -35,7 +35,7 @@ use std::alloc::{AllocError, Global};
 ///
 /// # Errors
 ///
-/// Status 1 if the file can't be read, if a write fails, or if an allocation fails.
+/// A refusal with status 1 if the file can't be read, if a write fails, or if an allocation fails.
 pub fn check<W: Sink>(
     alloc: Global,
     bin: Option<&str>,

@@ -1,4 +1,4 @@
-//! Findings as lines of text.
+//! Formats findings as lines of text.
 
 ghost use Rattle.std.specs.Prelude.{◌≡◌, IfOk, take};
 ghost use Rattle.std.specs.String.{string_bytes};

@@ -1,4 +1,4 @@
-//! Findings as JSON objects.
+//! Formats findings as JSON objects.
 
 ghost use Rattle.std.specs.Prelude.{◌≡◌, IfOk, Some, decimal};
 ghost use Rattle.std.specs.String.{string_bytes};
@@ -41,7 +41,7 @@ fn digits(alloc: Global, number: usize) -> Result<String, AllocError>
     format!(in alloc; "{number}")
 }
 
-// Returns the object with these numbers, which are written as text.
+// Returns the object of `finding`. `line` and `column` are digits.
 fn value<'f>(
     alloc: Global,
     line: &'f str,

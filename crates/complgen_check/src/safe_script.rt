@@ -17,9 +17,9 @@ use cc_shell::Shell;
 use complgen_lints::are_notes;
 use std::alloc::Global;
 
-/// Writes the script for `shell` of a command that is called `bin_name`, if `tree_warnings` finds
-/// only notes. Returns whether it did; if there are warnings, nothing is written. A script that is
-/// written reads back.
+/// Writes the script for `shell` of `command`, which is called `bin_name`, to `sink`, if
+/// `tree_warnings` finds only notes. Returns whether it wrote the script. A script that is written
+/// reads back.
 ///
 /// # Errors
 ///
@@ -40,8 +40,8 @@ pub fn write_shell_if_no_warnings<W: Sink>(
     write_if_no_warnings(alloc, shell, command, bin_name, sink)
 }
 
-// Does the same for any generator. If it has no labels, or those of the bash script, it fails only
-// with `Memory` and `Write`.
+// Does the same for any `generator`. If its scripts have no labels, or those of the bash script, it
+// fails only with `Memory` and `Write`.
 fn write_if_no_warnings<G: Generator + Drop, W: Sink>(
     alloc: Global,
     generator: G,

@@ -1,4 +1,4 @@
--- The command line: what a parse of it gives, and how it fails.
+-- The results of parsing the command line, and how parsing fails.
 use Rattle.std.proofs.Common.{◌≡◌, ◌⊎◌, ◌||◌, inl, inr, refl, subst, sym, true, false, not, Bool}
 use Rattle.std.proofs.Common.{List, drop, ℕ}
 use Rattle.std.proofs.Common.{[], ◌∷◌, Option, Some, None, is_some, option_map}
@@ -29,12 +29,12 @@ use Rattle.complgen_commands.specs.declared.refusals.Refusal.{Refusal}
 use Rattle.complgen_command_line.proofs.GivenValues.{first_none, given_value, leaves_value, rows_kept}
 use Rattle.complgen_command_line.proofs.GivenValues.{second_none}
 
--- clap states what a parse of it gives
+-- the specification of clap states the result of a parse
 pub program_line_is_simple : is_simple program_line ≡ true
 unfolding clap_on_literals
 program_line_is_simple = refl
 
--- and by which kinds of error it fails
+-- and the kinds of error with which a parse fails
 pub program_line_is_free : is_simple_and_free program_line ≡ true
 unfolding clap_on_literals
 program_line_is_free = refl
@@ -48,7 +48,7 @@ reports_words [] entered error refusal (inr among) refuses = absurd among
 reports_words (first ∷ more) entered error refusal (inr among) refuses =
     inr (kind_of error, among, refuses)
 
--- ---- words of which no step fails
+-- ---- words at which no step fails
 
 abbrev first_shape : List Shape → Shape
 first_shape [] = new_shape []
@@ -69,7 +69,7 @@ EntersShape entered s = (words : List Text)
     × (entered ≡ Some (s.name, rows_after s.rules [] words))
     × (level_fault s [] nothing_held words false [] ≡ [])
 
--- so was one of these
+-- one of these commands was entered so
 abbrev EntersAmong : Option (Text × List Row) → List Shape → Type 0
 EntersAmong entered [] = ⊥
 EntersAmong entered (s ∷ more) = EntersShape entered s ⊎ EntersAmong entered more
@@ -105,7 +105,7 @@ entered_one : (stop : Option (Text × List Text))
 entered_one None has e = cc
 entered_one (Some p) has e = entered_among (built program_line).subs p has e
 
--- three required arguments were given, two, and one
+-- no argument is missing: three required arguments were given, or two, or one
 pub three_given : (a b d : Bool)
     → (if not a || (not b || (not d || false)) then kind.MissingRequiredArgument ∷ [] else []) ≡ []
     → (a ≡ true) × (b ≡ true) × (d ≡ true)
@@ -139,7 +139,7 @@ module _ (s : Shape) (words : List Text)
       let after_last = second_none (settle_fault s.rules s.args_override_self end) _ after_walk in
       second_none (defaults_fault (settled s.rules end).rows s.rules) _ after_last
 
-  -- what was given has a value
+  -- an argument that was given has a value
   pub has_value : (id : Text) → list_all (leaves_value id) s.rules ≡ true → is_given id rows ≡ true
       → IsSome (first_of id rows)
   has_value id leaves given =
@@ -193,7 +193,7 @@ entered_from words stop e =
     let checks = second_none (defaults_fault (settled top.rules end).rows top.rules) _ after_last in
     (is_entered _ (finished top.rules end) checks, first_none _ _ after_walk)
 
--- a command was entered that leaves rows of which something holds
+-- a command was entered, and its rows have a property
 enters : (entered : Option (Text × List Row)) (s : Shape) (Has : List Row → Type 0)
     → ((words : List Text) → level_fault s [] nothing_held words false [] ≡ []
     → Has (rows_after s.rules [] words))
@@ -212,7 +212,7 @@ last : {A C : Type 0} → (A → C) → A ⊎ ⊥ → C
 last f (inl a) = f a
 last f (inr none) = absurd none
 
--- each of the commands leaves its required arguments
+-- the rows of each command have its required arguments
 enters_its : (entered : Option (Text × List Row)) → EntersAmong entered (built program_line).subs
     → EntersOne entered
 enters_its entered =
@@ -227,7 +227,7 @@ enters_its entered =
     (last (enters entered (shape_at 4) GivesTree (λ words e. has_value (shape_at 4) words e (codes "tree")
     refl (one_given _ (checks_pass (shape_at 4) words e))))))))
 
--- words of which no step fails enter a command, with its required arguments
+-- words at which no step fails enter a command, with its required arguments
 pub enters_one : (words : List Text) → fault_of program_line words ≡ []
     → EntersOne (subcommand_of program_line words)
 enters_one words e =

@@ -27,7 +27,7 @@ takes_candidates : takes program_line asking ≡ true
 unfolding clap_on_literals
 takes_candidates = refl
 
--- what follows `--` are the words
+-- the values of `WORDS` are the words after `--`
 words_of_candidates : option_map (λ entered. words_of entered.1) (subcommand_of program_line asking)
     ≡ Some (codes "app" ∷ codes "" ∷ [])
 unfolding clap_on_literals
@@ -81,7 +81,7 @@ json : option_map (λ entered. is_set (codes "json") entered.1)
 unfolding clap_on_literals
 json = refl
 
--- `check` alone works without a name
+-- `check` works without `--bin`
 no_bin : option_map (λ entered. first_of (codes "bin") entered.1)
     (subcommand_of program_line plain_check) ≡ Some None
 unfolding clap_on_literals

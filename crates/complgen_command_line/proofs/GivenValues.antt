@@ -1,5 +1,5 @@
--- An argument that takes at least one value a use, and that the words give, has a value: each use
--- that clap lets pass leaves its row with one.
+-- An argument that takes at least one value in each use has a value if the words give it: each use
+-- that clap accepts leaves a value in its row.
 use Rattle.std.proofs.Common.{◌≡◌, ◌∙◌, ◌&&◌, ◌||◌, ◌+◌, ◌++◌, ℕ, zero, suc, Bool, true, false, not}
 use Rattle.std.proofs.Common.{List, [], ◌∷◌, Option, Some, None}
 use Rattle.std.proofs.Common.{◌⊎◌, inl, inr, ap, sym, refl, length, drop, is_some, min}
@@ -47,7 +47,7 @@ or_kept : (a b c : Bool) → (b ≡ true → c ≡ true) → (a || b) ≡ true �
 or_kept true b c f h = refl
 or_kept false b c f h = f h
 
--- which of two is the one found
+-- the one found is the first, which passes, or is found among the rest
 found_at : {X : Type 0} (t : Bool) (y x : X) (rest : Option X)
     → (if t then Some y else rest) ≡ Some x
     → ((t ≡ true) × (y ≡ x)) ⊎ ((t ≡ false) × (rest ≡ Some x))
@@ -65,7 +65,7 @@ found_passes test other (y ∷ ys) x all is =
       | inr h ↦ found_passes test other ys x p.1 h.1
     ]
 
--- and its own
+-- the first that passes a test passes that test
 found_is : {X : Type 0} (test : X → Bool) (xs : List X) (x : X) → find test xs ≡ Some x
     → test x ≡ true
 found_is test [] x is = cc
@@ -92,7 +92,7 @@ has_some (v ∷ vs) = true
 abbrev has_value : Text → Row → Bool
 has_value id r = not (bytes_eq r.id id) || has_some r.values
 
--- so has each row
+-- each row is another argument's, or has a value
 abbrev pub have_values : Text → List Row → Bool
 have_values id rows = list_all (has_value id) rows
 
@@ -128,7 +128,7 @@ without_kept : (id at : Text) (rows : List Row) → have_values id rows ≡ true
     → have_values id (without at rows) ≡ true
 without_kept id at rows h = at_row_kept id at (λ _. []) [] rows (λ r p. refl) refl h
 
--- values for one's own argument, or for another's
+-- the values are for another argument, or there is at least one
 abbrev fills : Text → Text → List Text → Bool
 fills id at values = not (bytes_eq at id) || has_some values
 
@@ -207,7 +207,7 @@ module _ (s : Shape) (id : Text) (leaves : list_all (leaves_value id) s.rules �
   abbrev kept : Held → Type 0
   kept h = have_values id h.rows ≡ true
 
-  -- what is found among the arguments leaves a value
+  -- an argument that is found is another one, or takes a value in each use
   abbrev Leaves : Option Rule → Type 0
   Leaves o = (a : Rule) → o ≡ Some a → leaves_value id a ≡ true
 

@@ -48,7 +48,7 @@ abbrev pub check_line : App
 check_line =
     with_rule (with_rule (with_rule (new_app (codes "check")) bin_rule) json_rule) tree_rule
 
--- a command is required, and there is a version
+-- the program requires a subcommand, and has a version
 abbrev pub top_line : App
 top_line = on_top (λ s. record s {
   has_version = true;
@@ -56,7 +56,7 @@ top_line = on_top (λ s. record s {
   disable_help_subcommand = true;
 }) (new_app (codes "complgen"))
 
--- the commands that write scripts and registrations
+-- the program with the subcommands that write scripts and registrations
 abbrev pub writing_line : App
 writing_line = with_subcommand (with_subcommand (with_subcommand top_line
     (shell_line (codes "script")).top) scripts_line.top) (shell_line (codes "register")).top

@@ -8,7 +8,7 @@ use Rattle.complgen_commands.specs.declared.plans.Plan.{Plan}
 use Rattle.complgen_commands.specs.declared.plans.Plan.TheVariants.{Candidates, Check, Register}
 use Rattle.complgen_commands.specs.declared.plans.Plan.TheVariants.{Script, Scripts}
 
--- the command of this name was entered, and its rows have this property
+-- the subcommand with this name was entered, and its rows have this property
 pub record Enters (name : Text) (Has : List Row → Type 0) (entered : Option (Text × List Row))
     : Type 0 where
   pub rows : List Row
@@ -44,7 +44,7 @@ pub record HasReport (bin : Option Text) (json : Bool) (tree : Text) (rows : Lis
   pub has_json : json ≡ is_set (codes "json") rows
   pub has_tree : first_of (codes "tree") rows ≡ Some tree
 
--- the text is digits, after at most one `+`, and spells this `usize`
+-- the text consists of digits after at most one `+`, and is this `usize`
 pub record Writes (text : Text) (number : ℕ) : Type 0 where
   pub is_numeral : IsNumeral 10 (without_leading_plus text)
   pub fits : digits_value 10 (without_leading_plus text) < 2 ^ 64
@@ -56,7 +56,7 @@ pub record HasIndex (index : ℕ) (rows : List Row) : Type 0 where
   pub has_text : first_of (codes "index") rows ≡ Some text
   pub writes : Writes text index
 
--- a text of `--index` that spells no `usize`
+-- a text of `--index` that is not a `usize`
 pub record HasBadIndex (rows : List Row) : Type 0 where
   pub text : Text
   pub has_text : first_of (codes "index") rows ≡ Some text
@@ -74,7 +74,7 @@ pub record HasWords (index : ℕ) (tree : Text) (words : List Text) (rows : List
 
 -- ---- what words ask for
 
--- the command that was entered asks for this plan
+-- the subcommand that was entered asks for this plan
 abbrev pub AsksFor : Option (Text × List Row) → Plan → Type 0
 AsksFor entered (Script shell bin tree) = Enters (codes "script")
     (HasNames (string_bytes shell) (string_bytes bin) (string_bytes tree)) entered
@@ -92,20 +92,20 @@ abbrev pub GivesNames : List Row → Type 0
 GivesNames rows = IsSome (first_of (codes "shell") rows) × IsSome (first_of (codes "bin") rows)
     × IsSome (first_of (codes "tree") rows)
 
--- those of `scripts`
+-- the required arguments of `scripts` have values
 abbrev pub GivesDirectory : List Row → Type 0
 GivesDirectory rows = IsSome (first_of (codes "bin") rows) × IsSome (first_of (codes "out-dir") rows)
     × IsSome (first_of (codes "tree") rows)
 
--- those of `candidates`
+-- the required arguments of `candidates` have values
 abbrev pub GivesWords : List Row → Type 0
 GivesWords rows = IsSome (first_of (codes "index") rows) × IsSome (first_of (codes "tree") rows)
 
--- that of `check`
+-- the required argument of `check` has a value
 abbrev pub GivesTree : List Row → Type 0
 GivesTree rows = IsSome (first_of (codes "tree") rows)
 
--- a command was entered, with its required arguments
+-- a subcommand was entered, with its required arguments
 abbrev pub EntersOne : Option (Text × List Row) → Type 0
 EntersOne entered = Enters (codes "script") GivesNames entered
     ⊎ (Enters (codes "scripts") GivesDirectory entered

@@ -26,8 +26,8 @@ pub record IsBadIndex (refusal : Refusal) : Type 0 where
   pub status : refusal.status ≡ 2
   pub text_is : text_of refusal ≡ codes "index: bad number\n"
 
--- The refusal for a parse that fails by one of these kinds. If it fails by none of them, the index
--- is not a number.
+-- The refusal for a parse that fails with one of these kinds. If there are no kinds, the index is
+-- not a number.
 abbrev pub Fails : Kinds → Option (Text × List Row) → Refusal → Type 0
 Fails [] entered refusal = IsBadIndex refusal × Enters (codes "candidates") HasBadIndex entered
 Fails (first ∷ more) entered refusal =

@@ -1,4 +1,4 @@
-//! The arguments of the commands.
+//! The arguments of the subcommands.
 
 ghost use Rattle.std.specs.Prelude.{◌≡◌, false};
 ghost use Rattle.clap.specs.Words.{rule_of};
@@ -9,7 +9,8 @@ use crate::texts::{CHECK_BIN_HELP, JSON_HELP, TREE_HELP, WORDS_HELP};
 use clap::{Arg, ArgAction};
 use std::alloc::Global;
 
-/// Returns the required option `--NAME VALUE`.
+/// Returns the required option with the id and long `name`, one value called `value_name`, and the
+/// help text `help`.
 pub fn option<'a>(
     alloc: Global,
     name: &'static str,

@@ -16,7 +16,7 @@ use crate::texts::{
 use clap::Command;
 use std::alloc::{AllocError, Global};
 
-// `NAME --shell S --bin N TREE`
+// Returns the subcommand `name`: `NAME --shell S --bin N TREE`.
 fn for_shell<'a>(
     alloc: Global,
     name: &'static str,
@@ -33,7 +33,7 @@ fn for_shell<'a>(
         .arg(tree(alloc))
 }
 
-// `script --shell S --bin N TREE`
+// Returns the subcommand `script --shell S --bin N TREE`.
 fn script<'a>(alloc: Global) -> Result<Command<'a>, AllocError>
     ensures shape { IfOk result (λ command. app_of command ≡ shell_line (codes "script")) }
     ensures local { IfOk result (λ command. (out-Command command).has_globals ≡ false) }
@@ -42,7 +42,7 @@ fn script<'a>(alloc: Global) -> Result<Command<'a>, AllocError>
     Ok(command.after_long_help(SCRIPT_FILES))
 }
 
-// `scripts --bin N --out-dir DIR TREE`
+// Returns the subcommand `scripts --bin N --out-dir DIR TREE`.
 fn scripts<'a>(alloc: Global) -> Result<Command<'a>, AllocError>
     ensures shape { IfOk result (λ command. app_of command ≡ scripts_line) }
     ensures local { IfOk result (λ command. (out-Command command).has_globals ≡ false) }
@@ -55,7 +55,7 @@ fn scripts<'a>(alloc: Global) -> Result<Command<'a>, AllocError>
         .arg(tree(alloc))
 }
 
-// `candidates --index I TREE WORDS..`
+// Returns the subcommand `candidates --index I TREE WORDS..`.
 fn candidates<'a>(alloc: Global) -> Result<Command<'a>, AllocError>
     ensures shape { IfOk result (λ command. app_of command ≡ candidates_line) }
     ensures local { IfOk result (λ command. (out-Command command).has_globals ≡ false) }
@@ -67,7 +67,7 @@ fn candidates<'a>(alloc: Global) -> Result<Command<'a>, AllocError>
         .arg(words(alloc))
 }
 
-// `check [--bin N] [--json] TREE`
+// Returns the subcommand `check [--bin N] [--json] TREE`.
 fn check<'a>(alloc: Global) -> Result<Command<'a>, AllocError>
     ensures shape { IfOk result (λ command. app_of command ≡ check_line) }
     ensures local { IfOk result (λ command. (out-Command command).has_globals ≡ false) }
@@ -80,7 +80,7 @@ fn check<'a>(alloc: Global) -> Result<Command<'a>, AllocError>
         .arg(tree(alloc))
 }
 
-// The command line without its commands.
+// Returns the command line without its subcommands.
 fn top<'a>(alloc: Global) -> Result<Command<'a>, AllocError>
     ensures { IfOk result (λ command. app_of command ≡ top_line) }
 {
@@ -95,8 +95,8 @@ fn top<'a>(alloc: Global) -> Result<Command<'a>, AllocError>
     )
 }
 
-// The command line with the commands that write scripts and registrations. Each is added before the
-// next one is made, so that few are alive if an allocation fails.
+// Returns the command line with the subcommands that write scripts and registrations. Adds each one
+// before it makes the next, so that few exist if an allocation fails.
 fn writing<'a>(alloc: Global) -> Result<Command<'a>, AllocError>
     ensures { IfOk result (λ command. app_of command ≡ writing_line) }
 {
@@ -106,7 +106,7 @@ fn writing<'a>(alloc: Global) -> Result<Command<'a>, AllocError>
     line.subcommand(for_shell(alloc, "register", REGISTER_ABOUT, REGISTER_SHELL_HELP)?)
 }
 
-/// Returns the whole command line.
+/// Returns the whole command line of `complgen`.
 ///
 /// # Errors
 ///

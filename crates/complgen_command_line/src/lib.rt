@@ -1,5 +1,5 @@
-//! The command line of `complgen`: the words that it accepts, the plan that they ask for, and what
-//! is printed instead of the output.
+//! Parses the command line of `complgen`: returns the plan that the words ask for, or the text to
+//! print instead.
 #![tactic(auto)]
 
 mod arguments;

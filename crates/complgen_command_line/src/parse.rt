@@ -68,7 +68,7 @@ fn is_true(value: Option<&str>) -> bool
     }
 }
 
-/// Returns what is printed for the error of a parse.
+/// Returns what is printed for the `error` of a parse.
 pub fn refusal_of(alloc: Global, error: &Error) -> Refusal
     ensures { ReportsKind (kind_of error.now) result }
 {

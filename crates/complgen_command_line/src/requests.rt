@@ -1,4 +1,4 @@
-//! Tells requests of shells from the words of the command line.
+//! Distinguishes requests of shells from command lines.
 
 ghost use Rattle.std.specs.Prelude.{◌≡◌, codes, false, map, string_bytes, true};
 ghost use Rattle.clap.specs.Words.{takes};
@@ -9,9 +9,9 @@ ghost use Rattle.complgen_live.specs.Requests.{is_request};
 use cc_replies::EnvValues;
 use complgen_live::is_request;
 
-/// Returns whether `words` are a request of a shell, by the variables `env`, and not a command line
-/// for `plan`. The command line accepts no request, so every command line that works keeps its
-/// meaning when `COMPLETE` is set. The first word is the program's name.
+/// Returns whether `words` are a request of a shell, and not a command line for `plan`. `env` has
+/// the environment variables. The command line accepts no request, so every command line that works
+/// keeps its meaning if `COMPLETE` is set. The first word is the program's name.
 pub fn is_shell_request(env: &EnvValues, words: &[String]) -> bool
     ensures value { result
         ≡ is_request (value_of (codes "COMPLETE") env.now) (map string_bytes words.now) }

@@ -3,7 +3,7 @@
 /// The version of `complgen`, then the version of the original whose scripts it writes.
 pub const VERSION: &str = "0.1.0 (clap_complete 4.6.11)";
 
-// The shells of `script`, between two texts.
+// Returns the names of the shells of `script` between two texts.
 macro_rules! script_shells {
     ($before:literal, $after:literal) => {
         concat!(

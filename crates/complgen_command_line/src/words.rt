@@ -1,4 +1,4 @@
-//! Makes the plan that the words of the command line ask for.
+//! Finds the plan that the words of the command line ask for.
 
 ghost use Rattle.std.specs.Prelude.{◌≡◌, ◌⊎◌, [], IfOk, IfErr, IsSome, codes, map, option_map, true};
 ghost use Rattle.std.specs.Prelude.{string_bytes};
@@ -25,8 +25,8 @@ const BAD_INDEX: &str = "index: bad number\n";
 ///
 /// A refusal with
 ///
-/// - status 2 if the command line does not accept the words, or the index among them is not a number
-///   that fits a `usize`;
+/// - status 2 if the command line does not accept the words, or if the index among them is not a
+///   number that fits in a `usize`;
 /// - status 0 and the text that they ask for: a help text or the version;
 /// - status 1 if an allocation fails.
 pub fn plan(alloc: Global, words: &[String]) -> Result<Plan, Refusal>
@@ -49,7 +49,7 @@ pub fn plan(alloc: Global, words: &[String]) -> Result<Plan, Refusal>
     }
 }
 
-// Makes the plan of a parse.
+// Returns the plan of a parse.
 fn plan_of(alloc: Global, matches: &ArgMatches<'_>) -> Result<Plan, Refusal>
     requires { EntersOne (subcommand_rows_of matches.now) }
     ensures ok { IfOk result (AsksFor (subcommand_rows_of matches.now)) }

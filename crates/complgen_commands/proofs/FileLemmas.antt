@@ -1,4 +1,4 @@
--- How the writing of scripts to files ends.
+-- The outcomes of writing scripts to files.
 use Rattle.std.proofs.Common.{◌≡◌, ◌∙◌, ◌++◌, ◌⊎◌, inl, inr, refl, subst, sym, ap, ℕ, List, [], ◌∷◌}
 use Rattle.std.proofs.Common.{Option, None, Some, Result, Ok, Err}
 use Rattle.std.specs.Bool.{IsTrue}
@@ -66,7 +66,7 @@ module _ {S : Type 0} (taken : S → List ℕ) (failed : S → Failures) (folder
   file_refused T (Some label) line state error refusal (inr is) reported =
       (inl (subst (λ (e : Error). ReportsFile folder e refusal) is reported), same state)
 
-  -- ---- several
+  -- ---- several scripts
 
   pub none_shared : (clash : Option (List ℕ)) (line : List ℕ) (old new : S)
       (result : Result (Unit {0}) Refusal) → clash ≡ None
@@ -105,7 +105,7 @@ module _ {S : Type 0} (taken : S → List ℕ) (failed : S → Failures) (bin fo
   scripts_unread state (Some bytes) refusal (tree_error.Memory, reported, reads) =
       no_memory (Some bytes) refusal reported (same taken failed folder state)
 
-  -- that of bash is not written
+  -- the script of bash is not written
   pub first_failed : (clash : Option (List ℕ)) (old new : S) (file : Option (List ℕ)) (tree : Tree)
       (refusal : Refusal) → (shell_spec Bash).clash (built_under (Some bin) tree) ≡ clash
       → HoldsTree file tree
@@ -117,7 +117,7 @@ module _ {S : Type 0} (taken : S → List ℕ) (failed : S → Failures) (bin fo
       shared_label file tree refusal held
       (record { label = label; shared = is; reported = made }) untouched
 
-  -- that of bash is written, and then the others
+  -- the script of bash is written, and then the others
   pub others_follow : (clash : Option (List ℕ)) (old mid new : S) (file : Option (List ℕ)) (tree : Tree)
       (result : Result (Unit {0}) Refusal) → HoldsTree file tree
       → EndsFile taken failed clash folder (path_line bin folder Bash) old mid (Ok tt)

@@ -1,4 +1,4 @@
--- How writing a registration ends.
+-- The outcomes of writing a registration.
 use Rattle.std.proofs.Common.{◌≡◌, ap, refl, subst, sym, ℕ, List, Option, None, Some}
 use Rattle.std.proofs.Common.{true, Result, Ok, Err}
 use Rattle.std.specs.Prelude.{option_map}
@@ -29,7 +29,7 @@ module _ {S : Type 0} (taken : S → List ℕ) (failed : S → Failures) (messag
       (option_map registration_by f) (Err refusal)) (sym is)
       (no_registration refusal reported (same taken failed state))
 
-  -- there is one
+  -- there is an adapter for the shell
   pub with_registration : (old new : S) (adapter : Builtin) (result : Result (Unit {0}) Refusal)
       → found ≡ Some adapter
       → Finishes taken failed true (λ tree refusal. ⊥)
@@ -44,7 +44,7 @@ module _ {S : Type 0} (taken : S → List ℕ) (failed : S → Failures) (messag
 module _ {S : Type 0} (taken : S → List ℕ) (failed : S → Failures)
     (registration : List ℕ → List ℕ → List ℕ) (Reads : List ℕ → List ℕ → Type 0) (bin : List ℕ)
     (old new : S) (file : Option (List ℕ)) (tree : Tree) (name : List ℕ) where
-  -- the text is the registration, and is read so
+  -- the text is the registration, and it reads back
   is_registration : name ≡ tree.node.name → Reads name bin
       → IsRegistration registration Reads bin tree (registration name bin)
   is_registration named read = record {

@@ -1,4 +1,4 @@
--- How writing the candidates for a word ends.
+-- The outcomes of writing the candidates for a word.
 use Rattle.std.proofs.Common.{◌≡◌, ◌∙◌, ap, refl, subst, sym, ℕ, List, Option, Result, Ok, Err}
 use Rattle.std.proofs.Common.{Global, String, Vec, [], false, true, length, map, IfOk, OnOk}
 use Rattle.std.proofs.lemmas.List.{length-map}
@@ -33,7 +33,7 @@ finds_none old new count index error.NoCompletion refused =
     subst (λ tree. is_in_range tree.node count index ≡ false) refused.0 refused.1
 finds_none old new count index _ refused = absurd refused
 
--- without completers and lists only paths are found
+-- without completers and lists, only paths are found
 pub without_completers : {B C L G : Type 0}
     (Boxes : ℕ → List ℕ → B → List CompletionCandidate → Type 0)
     (Closures : ℕ → List ℕ → C → List CompletionCandidate → Type 0)
@@ -51,7 +51,7 @@ pub without_completers : {B C L G : Type 0}
 without_completers Boxes Closures completers added ListBoxes ListClosures lists added_lists Finds none no_lists =
     rw (none.0, none.1, no_lists.0, no_lists.1) refl
 
--- what a call that builds the command finds, where only paths are found
+-- what a call that builds the command finds if it finds only paths
 pub are_found : {A : Type 0} (items : A → List CompletionCandidate) (Finds : Paths) (sources : MayReturn)
     (words : List (String Global)) (index : ℕ) (old new : Tree) (result : Result A Error)
     → sources ≡ only_paths Finds
@@ -70,7 +70,7 @@ are_found items Finds sources words index old new (Ok found) is completes built 
 }
 are_found items Finds sources words index old new (Err e) is completes built ranges = tt
 
--- how carrying out a plan of candidates ends, where these words are handed on
+-- the outcomes of carrying out a plan of candidates for these words
 pub ends_plan : {S : Type 0} (taken : S → List ℕ) (failed : S → Failures) (Finds : Paths)
     (plan : Plan) (index : ℕ) (path : String Global) (words : Vec (String Global) Global)
     (passed : List (String Global)) (file : Option (List ℕ)) (old new : S)
@@ -107,7 +107,7 @@ module _ {S : Type 0} (taken : S → List ℕ) (failed : S → Failures) (Finds 
       }) (same taken failed state)
   none_found state file tree _ refusal copies are held none reported = absurd none
 
-  -- they are found, and written
+  -- candidates are found, and written
   pub reply_written : (old new : S) (file : Option (List ℕ)) (tree : Tree)
       (found shown : List CompletionCandidate) (copies : List (String Global))
       → map string_bytes copies ≡ words → HoldsTree file tree
@@ -124,7 +124,7 @@ module _ {S : Type 0} (taken : S → List ℕ) (failed : S → Failures) (Finds 
         read_back = subst LinesRead all read;
       }) wrote.ok wrote.failures
 
-  -- they are found, and writing them fails
+  -- candidates are found, and writing them fails
   pub reply_failed : (old new : S) (file : Option (List ℕ)) (tree : Tree)
       (found shown : List CompletionCandidate) (e : Error) (refusal : Refusal)
       (copies : List (String Global)) → map string_bytes copies ≡ words → HoldsTree file tree

@@ -1,4 +1,4 @@
--- How writing the script of a tree file ends.
+-- The outcomes of writing the script for a tree file.
 use Rattle.std.proofs.Common.{◌≡◌, ◌⊎◌, inl, inr, refl, subst, ℕ, List, Option, None, Some, Result}
 use Rattle.std.proofs.Common.{true, Ok, Err, OnOk}
 use Rattle.complgen_commands.specs.declared.refusals.Refusal.{Refusal}
@@ -19,19 +19,19 @@ use Rattle.complgen_commands.proofs.WritingLemmas.{ends_failed, ends_rejected, e
 use Rattle.complgen_commands.proofs.WritingLemmas.{ends_written}
 use Rattle.complgen_tree_file.specs.TreeFile.{HoldsTree}
 
--- what fails is no shell
+-- a failure is not a shell
 pub none_found : (shell : Shell) (e : Error)
     → ◌≡◌ {A = Result Shell Error} (Err e) (Ok shell) → ⊥
 none_found shell e is = cc
 
--- what a name that no shell has reports
+-- the report of a name that no shell has
 pub unknown_reported : (name : List ℕ) (e : Error) (refusal : Refusal)
     → (e ≡ error.InvalidVariant (invalid_variant name)) ⊎ (e ≡ error.Memory) → Reports e refusal
     → IsMade (shown_line (error.InvalidVariant (invalid_variant name))) refusal
 unknown_reported name e refusal (inl is) reported = subst (λ f. Reports f refusal) is reported
 unknown_reported name e refusal (inr is) reported = inl (subst (λ f. Reports f refusal) is reported)
 
--- what a script is read as, for the shell that has this name
+-- the script for the shell with this name reads back
 pub named_reads : (shell : Shell) (name bin : List ℕ) (file : Option (List ℕ))
     (result : Result (Unit {0}) Refusal) → name ≡ shell_text shell
     → OnOk result (ScriptReads shell bin file) → OnOk result (NamedScriptReads name bin file)
@@ -40,7 +40,7 @@ named_reads shell name bin file (Err refusal) is reads = tt
 
 module _ {S : Type 0} (taken : S → List ℕ) (failed : S → Failures) (shell : Shell)
     (bin : List ℕ) where
-  -- how it ends
+  -- the outcomes of writing a script
   abbrev Ends : S → S → Option (List ℕ) → Result (Unit {0}) Refusal → Type 0
   Ends old new file result =
       Finishes taken failed true (SharesLabel shell bin) (IsScript shell bin) old new file result
@@ -52,12 +52,12 @@ module _ {S : Type 0} (taken : S → List ℕ) (failed : S → Failures) (shell 
   same_error : (e f : Error) → ◌≡◌ {A = Result (Unit {0}) Error} (Err e) (Err f) → e ≡ f
   same_error e f h = cc
 
-  -- what the generator does, where the file describes this command
+  -- what the generator does if the file describes this command
   abbrev Wrote : Tree → Result (Unit {0}) Error → S → S → Type 0
   Wrote tree result old new =
       Generates taken failed (shell_spec shell) (built_under (Some bin) tree) result old new
 
-  -- a call returns `Ok` only where no label is shared
+  -- a call returns `Ok` only if no label is shared
   none_shared : (clash : Option (List ℕ)) (old new : List ℕ)
       → ReportsClash clash (Ok tt) old new → clash ≡ None
   none_shared None old new reports = refl
@@ -72,12 +72,12 @@ module _ {S : Type 0} (taken : S → List ℕ) (failed : S → Failures) (shell 
       ((shell_spec shell).script (built_under (Some bin) tree)) held
       (record { unshared = none_shared _ _ _ wrote.clashes; is = refl }) wrote.ok wrote.failures
 
-  -- what is counted for one error is counted for the other, where they are the same
+  -- what is counted for one error is counted for another if they are the same
   as_counted : (old new : S) (e f : Error) → ◌≡◌ {A = Result (Unit {0}) Error} (Err e) (Err f)
       → Counts e old new → Counts f old new
   as_counted old new e f is counts = subst (λ x. Counts x old new) (same_error e f is) counts
 
-  -- an error where this label is shared, if any is
+  -- the generator fails, with the label that two nodes share, if they share one
   failed_with : (old new : S) (file : Option (List ℕ)) (tree : Tree) (e : Error) (refusal : Refusal)
       (clash : Option (List ℕ)) → (shell_spec shell).clash (built_under (Some bin) tree) ≡ clash
       → HoldsTree file tree → Counts e old new → ReportsClash clash (Err e) (taken old) (taken new)

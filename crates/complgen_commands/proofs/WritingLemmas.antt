@@ -1,4 +1,4 @@
--- How writing a text for the command of a tree file ends, outcome by outcome.
+-- The outcomes of writing a text for the command of a tree file, one by one.
 use Rattle.std.proofs.Common.{◌≡◌, ◌++◌, refl, ℕ, Bool, List, Option, None, Some, Result, Ok, Err}
 use Rattle.std.specs.Prelude.{IsTrue}
 use Rattle.complgen_commands.specs.Refusals.{IsOutOfMemory}
@@ -15,7 +15,7 @@ use Rattle.complgen_commands.specs.Writing.{out_of_memory_in_text, write_failed,
 use Rattle.complgen_tree_file.specs.TreeFile.{HoldsTree}
 use Rattle.complgen_tree_file.specs.declared.error.TreeError.TheVariants.{BadForm, Memory, NotJson}
 
--- where the sink is as it was, it is untouched
+-- a sink that is as it was is untouched
 pub same : {S : Type 0} (taken : S → List ℕ) (failed : S → Failures) (state : S)
     → Untouched taken failed state state
 same taken failed state = record { taken_same = refl; failed_same = refl }
@@ -35,7 +35,7 @@ module _ {S : Type 0} (taken : S → List ℕ) (failed : S → Failures) (alloca
   ends_unread state (Some bytes) refusal (Memory, reported, reads) =
       out_of_memory bytes refusal reported (same taken failed state)
 
-  -- nothing is written yet
+  -- memory runs out before anything is written
   pub ends_unwritten : (state : S) (file : Option (List ℕ)) (tree : Tree) (refusal : Refusal)
       → HoldsTree file tree → IsOutOfMemory refusal
       → Finishes taken failed allocates Rejects IsText state state file (Err refusal)
@@ -67,7 +67,7 @@ module _ {S : Type 0} (taken : S → List ℕ) (failed : S → Failures) (alloca
   ends_written old new (Some bytes) tree text held is took counts =
       written bytes text tree held is took counts
 
-  -- writing the text fails, where memory may be asked for
+  -- writing the text fails, if the call may allocate
   pub ends_failed : (old new : S) (file : Option (List ℕ)) (tree : Tree) (text : List ℕ) (e : Error)
       (refusal : Refusal) → IsTrue allocates → HoldsTree file tree → IsText tree text
       → CountsWrite {T = Unit {0}} (Err e) (failed old) (failed new) → IsMemoryOrWrite e
@@ -80,7 +80,7 @@ module _ {S : Type 0} (taken : S → List ℕ) (failed : S → Failures) (alloca
       write_failed bytes text tree why refusal held is reported counts
   ends_failed old new (Some bytes) tree text _ refusal asked held is counts kind reported = absurd kind
 
-  -- writing the text fails, where no memory is asked for
+  -- writing the text fails, if the call does not allocate
   pub ends_cut_off : (old new : S) (file : Option (List ℕ)) (tree : Tree) (text : List ℕ) (e : Error)
       (refusal : Refusal) → HoldsTree file tree → IsText tree text
       → CountsWrite {T = Unit {0}} (Err e) (failed old) (failed new) → IsWrite e

@@ -1,4 +1,4 @@
--- What writing the scripts of all shells prints, and how it ends.
+-- The outcomes of writing the scripts of all shells, and what that prints.
 use Rattle.std.specs.Prelude.{◌≡◌, ◌⊎◌, ◌++◌, ℕ, List, [], ◌∷◌, IsTrue, None, Option, Some, Result, Ok, Err, codes}
 use Rattle.std.specs.List.{flat_map}
 use Rattle.std.specs.Path.{path_join}
@@ -22,25 +22,25 @@ use Rattle.complgen_commands.specs.Scripts.{SharesLabel}
 use Rattle.complgen_commands.specs.TreeFiles.{HoldsNoTreeAt}
 use Rattle.complgen_commands.specs.Writing.{Untouched}
 
--- the path of the script for a shell, as a line, each control character as `?`
+-- the path of the script for a shell as a line, with `?` for each control character
 abbrev pub path_line : List ℕ → List ℕ → Shell → List ℕ
 path_line bin folder shell = as_line (path_join folder ((shell_spec shell).file bin))
 
--- the paths of the scripts for some shells, a line each
+-- the paths of the scripts for some shells, one on each line
 abbrev pub path_lines : List ℕ → List ℕ → List Shell → List ℕ
 path_lines bin folder shells = flat_map (path_line bin folder) shells
 
--- a file in this folder can't be made or written
+-- the line for a file in this folder that can't be made or written
 abbrev pub folder_line : List ℕ → List ℕ
 folder_line folder = on_one_line folder ++ codes ": write failed\n"
 
--- what an error of writing a script to a file in this folder prints
+-- what is printed for an error of writing a script to a file in this folder
 abbrev pub ReportsFile : List ℕ → Error → Refusal → Type 0
 ReportsFile folder (Write kind) refusal = IsMade (folder_line folder) refusal
 ReportsFile folder error refusal = Reports error refusal
 
--- how the printing of a line ends: out of memory, or with a write that failed, which is counted
--- with its kind
+-- the outcomes of printing a line: it is printed, memory runs out, or a write fails, which is
+-- counted with its kind
 abbrev pub PrintsLine : {S : Type 0} → (S → List ℕ) → (S → Failures) → List ℕ → S → S
     → Result (Unit {0}) Refusal → Type 0
 PrintsLine taken failed line old new (Ok tt) =
@@ -49,7 +49,7 @@ PrintsLine taken failed line old new (Err refusal) =
     (IsOutOfMemory refusal × (failed new ≡ failed old)) ⊎ ((kind : ErrorKind)
     × IsRefusal (error_line (Write kind)) refusal × (failed new ≡ add_failure kind (failed old)))
 
--- How the writing of scripts to their files, and of lines to the output, ends. Where it fails, some
+-- The outcomes of writing scripts to their files, and lines to the output. If that fails, some
 -- lines may be printed.
 pub data EndsFiles {S : Type 0} (taken : S → List ℕ) (failed : S → Failures)
     (folder lines : List ℕ) (old new : S) : Result (Unit {0}) Refusal → Type 0 where
@@ -67,7 +67,7 @@ pub data EndsFiles {S : Type 0} (taken : S → List ℕ) (failed : S → Failure
   written : taken new ≡ taken old ++ lines → failed new ≡ failed old
       → EndsFiles taken failed folder lines old new (Ok tt)
 
--- the same of one script; where two nodes share a label, that is reported, and nothing is printed
+-- the same for one script; if two nodes share a label, that is reported, and nothing is printed
 abbrev pub EndsFile : {S : Type 0} → (S → List ℕ) → (S → Failures) → Option (List ℕ) → List ℕ
     → List ℕ → S → S → Result (Unit {0}) Refusal → Type 0
 EndsFile taken failed None folder line old new result =
@@ -76,7 +76,7 @@ EndsFile taken failed (Some label) folder line old new (Ok tt) = ⊥
 EndsFile taken failed (Some label) folder line old new (Err refusal) =
     IsMade (shown_line (LabelClash label)) refusal × Untouched taken failed old new
 
--- How the writing of all scripts of the tree file at a path ends.
+-- The outcomes of writing all scripts for the tree file at a path.
 pub data EndsScripts {S : Type 0} (taken : S → List ℕ) (failed : S → Failures)
     (bin folder path : List ℕ) (old new : S)
     : Option (List ℕ) → Result (Unit {0}) Refusal → Type 0 where
@@ -98,7 +98,7 @@ pub data EndsScripts {S : Type 0} (taken : S → List ℕ) (failed : S → Failu
       → EndsFiles taken failed folder (path_lines bin folder all_shells) old new result
       → EndsScripts taken failed bin folder path old new file result
 
--- the shells but bash
+-- the shells other than bash
 abbrev pub other_shells : List Shell
 other_shells = Elvish ∷ Fish ∷ PowerShell ∷ Zsh ∷ Nushell ∷ []
 
@@ -106,7 +106,7 @@ other_shells = Elvish ∷ Fish ∷ PowerShell ∷ Zsh ∷ Nushell ∷ []
 abbrev pub HasNoLabels : Shell → Type 0
 HasNoLabels shell = (tree : Tree) → (shell_spec shell).clash tree ≡ None
 
--- the script of a built tree reads back, where the tree and the bin name are plain
+-- the script of a built tree reads back if the tree and the bin name are plain
 abbrev pub ReadsBack : List ℕ → Tree → Shell → Type 0
 ReadsBack bin tree shell = IsTrue (is_plain_tree tree) → IsTrue (is_plain_name bin)
     → (shell_spec shell).Reads tree

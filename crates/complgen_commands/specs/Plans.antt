@@ -1,5 +1,5 @@
 -- The parts of a plan.
-use Rattle.std.specs.Prelude.{⊤, ℕ, List, string_bytes}
+use Rattle.std.specs.Prelude.{ℕ, List, string_bytes}
 use Rattle.complgen_commands.specs.declared.plans.Plan.{Plan}
 use Rattle.complgen_commands.specs.declared.plans.Plan.TheVariants.{Candidates, Check, Register}
 use Rattle.complgen_commands.specs.declared.plans.Plan.TheVariants.{Script, Scripts}
@@ -11,11 +11,3 @@ tree_of (Register shell bin tree) = string_bytes tree
 tree_of (Candidates index tree words) = string_bytes tree
 tree_of (Check bin json tree) = string_bytes tree
 tree_of (Scripts bin out_dir tree) = string_bytes tree
-
--- a plan that writes one text to the output
-abbrev pub IsForRun : Plan → Type 0
-IsForRun (Script shell bin tree) = ⊤
-IsForRun (Register shell bin tree) = ⊤
-IsForRun (Candidates index tree words) = ⊤
-IsForRun (Check bin json tree) = ⊥
-IsForRun (Scripts bin out_dir tree) = ⊥

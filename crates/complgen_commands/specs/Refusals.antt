@@ -40,7 +40,7 @@ not_json_line = codes "tree: not JSON\n"
 abbrev pub bad_form_line : List ℕ
 bad_form_line = codes "tree: bad form\n"
 
--- ---- the same with the path of the tree file, each control character in it as `?`
+-- ---- the same with the path of the tree file, and `?` for each control character in it
 
 -- a text about the file at a path
 abbrev pub about_file : List ℕ → List ℕ → List ℕ
@@ -64,13 +64,17 @@ bad_form_at path = checked_line path (codes "tree: bad form")
 abbrev pub out_of_memory_line : List ℕ
 out_of_memory_line = codes "out of memory\n"
 
+-- the plan is one of `check` or `scripts`
+abbrev pub other_plan_line : List ℕ
+other_plan_line = codes "plan: check and scripts are not carried out by run\n"
+
 -- ---- which refusal it is
 
 -- what is printed
 abbrev pub text_of : Refusal → List ℕ
 text_of refusal = cow_str_bytes refusal.text
 
--- the program ends with status 1 and this text
+-- the refusal has status 1 and this text
 pub record IsRefusal (text : List ℕ) (refusal : Refusal) : Type 0 where
   pub status : refusal.status ≡ 1
   pub text_is : text_of refusal ≡ text
@@ -83,8 +87,8 @@ IsOutOfMemory = IsRefusal out_of_memory_line
 abbrev pub IsMade : List ℕ → Refusal → Type 0
 IsMade text refusal = IsOutOfMemory refusal ⊎ IsRefusal text refusal
 
--- what is printed for an error of the library; a text that names a label, a shell or a path may
--- come from outside
+-- what is printed for an error of the library; a text that names a label or a shell may come from
+-- outside
 abbrev pub Reports : Error → Refusal → Type 0
 Reports (error.LabelClash label) refusal = IsMade (shown_line (error.LabelClash label)) refusal
 Reports (error.UnknownShell text) refusal = IsMade (shown_line (error.UnknownShell text)) refusal
@@ -104,12 +108,12 @@ ReportsTreeAt path NotJson refusal = IsMade (not_json_at path) refusal
 ReportsTreeAt path BadForm refusal = IsMade (bad_form_at path) refusal
 ReportsTreeAt path Memory refusal = IsOutOfMemory refusal
 
--- a text that was made, if there was memory for it
+-- the refusal with a text, or the one for out of memory if there was no memory for the text
 abbrev pub HasText : Result (String Global) AllocError → Refusal → Type 0
 HasText (Ok text) refusal = IsRefusal (string_bytes text) refusal
 HasText (Err failed) refusal = IsOutOfMemory refusal
 
--- finding the shell of a name: the shell that has it, or a report that none has it
+-- finding a shell by its name: the shell that has the name, or a report that no shell has it
 abbrev pub FindsShell : List ℕ → Result Shell Refusal → Type 0
 FindsShell name (Ok shell) = name ≡ shell_text shell
 FindsShell name (Err refusal) = ((shell : Shell) → name ≡ shell_text shell → ⊥)

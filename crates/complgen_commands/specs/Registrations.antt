@@ -1,4 +1,5 @@
--- The registration for the command of a tree file, with which a shell asks a program for candidates.
+-- The registration for the command of a tree file, which makes a shell ask a program for
+-- candidates.
 use Rattle.std.specs.Prelude.{◌≡◌, ℕ, true, List, Option, Some, None, Result, Err, codes, find, map, option_map}
 use Rattle.cc_env.specs.declared.builtin.Builtin.{Builtin}
 use Rattle.cc_env.specs.Builtins.{all_builtins, builtin_spec}
@@ -13,20 +14,19 @@ use Rattle.complgen_commands.specs.declared.refusals.Refusal.{Refusal}
 use Rattle.complgen_commands.specs.Refusals.{error_line}
 use Rattle.complgen_commands.specs.Writing.{Finishes, Untouched}
 
--- the variable that makes a program reply to a shell
+-- the environment variable that makes a program reply to a shell
 abbrev pub variable : List ℕ
 variable = codes "COMPLETE"
 
--- the adapter of a shell: the first that has its text as a name
+-- the adapter for a shell: the first that has the shell's text as a name
 abbrev pub adapter_for : Shell → Option Builtin
 adapter_for shell = find (λ adapter. (builtin_spec adapter).named (shell_text shell)) all_builtins
 
--- a registration of the name of a command and of the bin name, under which it is called and
--- completes
+-- a registration for the name of a command and its bin name, by which it is called and completed
 abbrev pub registration_by : Builtin → List ℕ → List ℕ → List ℕ
 registration_by adapter name bin = (builtin_spec adapter).registration variable name bin bin
 
--- what it is read as, of the same names
+-- what that registration reads back as
 abbrev pub RegistrationReadsBy : Builtin → List ℕ → List ℕ → Type 0
 RegistrationReadsBy adapter name bin = (builtin_spec adapter).Reads variable name bin bin
 
@@ -34,7 +34,7 @@ RegistrationReadsBy adapter name bin = (builtin_spec adapter).Reads variable nam
 abbrev pub registration_for : Shell → Option (List ℕ → List ℕ → List ℕ)
 registration_for shell = option_map registration_by (adapter_for shell)
 
--- what the registration of an adapter is read as; nothing is read if there is no adapter
+-- what the registration of an adapter reads back as; nothing if there is no adapter
 abbrev pub AdapterReads : Option Builtin → List ℕ → List ℕ → Type 0
 AdapterReads None name bin = ⊥
 AdapterReads (Some adapter) name bin = RegistrationReadsBy adapter name bin
@@ -47,14 +47,14 @@ abbrev pub no_registration_text : Shell → List ℕ
 no_registration_text shell =
     unknown_shell (map (λ adapter. (builtin_spec adapter).name) all_builtins) (shell_text shell)
 
--- the registration of a command, and what it is read as holds
+-- the text is the registration of a command, and it reads back
 pub record IsRegistration (registration : List ℕ → List ℕ → List ℕ)
     (Reads : List ℕ → List ℕ → Type 0) (bin : List ℕ) (tree : Tree) (text : List ℕ) : Type 0 where
   pub is : text ≡ registration tree.node.name bin
   pub read_back : Reads tree.node.name bin
 
--- The outcomes of writing the registration for a shell, by the registration that it has, if any. If
--- it has none, the message is printed before the file is parsed.
+-- The outcomes of writing a registration, which a shell may have or not. If it has none, the
+-- message is reported before the file is parsed.
 pub data Registers {S : Type 0} (taken : S → List ℕ) (failed : S → Failures)
     (Reads : List ℕ → List ℕ → Type 0) (message bin : List ℕ) (file : Option (List ℕ)) (old new : S)
     : Option (List ℕ → List ℕ → List ℕ) → Result (Unit {0}) Refusal → Type 0 where

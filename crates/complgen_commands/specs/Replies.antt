@@ -1,4 +1,4 @@
--- The candidates for a word of a command line, where there are no completers, and their reply.
+-- The candidates for a word of a command line without completers, and the reply with them.
 use Rattle.std.specs.Prelude.{⊤, ◌≡◌, ℕ, List, [], true, false, length}
 use Rattle.cc_gather.specs.Values.{MayReturn}
 use Rattle.cc_command.specs.Built.{built_tree}
@@ -17,7 +17,7 @@ use Rattle.complgen_commands.specs.Refusals.{error_line}
 abbrev pub Paths : Type 1
 Paths = ValueHint → List ℕ → List CompletionCandidate → Type 0
 
--- there is no completer and no list, so that no number has candidates; paths are found
+-- there are no completers and no lists, so they have no candidates; only paths are found
 abbrev pub only_paths : Paths → MayReturn
 only_paths Finds = record {
   completes = λ which number text found. found ≡ [];
@@ -25,24 +25,24 @@ only_paths Finds = record {
   finds = Finds;
 }
 
--- the candidates may be those for the word at the index, of the built command
+-- the candidates are possible ones for the word at the index of the built command
 pub record AreFound (Finds : Paths) (words : List (List ℕ)) (index : ℕ) (tree : Tree)
     (found : List CompletionCandidate) : Type 0 where
   pub in_range : is_in_range (built_tree tree).node (length words) index ≡ true
   pub completes : Completes (only_paths Finds) (built_tree tree) words index found
 
--- why no candidates are found: out of memory; or no word is at the index
+-- why no candidates are found: memory runs out, or there is no word at the index
 abbrev pub FindsNone : ℕ → ℕ → Tree → Error → Type 0
 FindsNone count index tree Memory = ⊤
 FindsNone count index tree NoCompletion = is_in_range (built_tree tree).node count index ≡ false
 FindsNone count index tree _ = ⊥
 
--- no word of the command line is at the index, and that is reported
+-- there is no word at the index of the command line, and that is reported
 pub record IsOutOfRange (count index : ℕ) (tree : Tree) (refusal : Refusal) : Type 0 where
   pub out_of_range : is_in_range (built_tree tree).node count index ≡ false
   pub reported : IsRefusal (error_line NoCompletion) refusal
 
--- the reply to fish of such candidates, and what it is read as holds
+-- the text is the reply to fish with such candidates, and it reads back
 pub record IsReply (Finds : Paths) (words : List (List ℕ)) (index : ℕ) (tree : Tree) (text : List ℕ)
     : Type 0 where
   pub found : List CompletionCandidate

@@ -1,4 +1,4 @@
--- How a call ends that is given the name of a shell, and how writing a script for it ends.
+-- The outcomes of a call with the name of a shell, and of writing a script for that shell.
 use Rattle.std.specs.Prelude.{◌≡◌, ℕ, true, List, Option, Result, Ok, Err}
 use Rattle.cc_base.specs.declared.failures.Failures.{Failures}
 use Rattle.cc_shell.specs.declared.shell.Shell.{Shell}
@@ -8,8 +8,7 @@ use Rattle.complgen_commands.specs.Refusals.{FindsShell}
 use Rattle.complgen_commands.specs.Scripts.{IsScript, ScriptReads, SharesLabel}
 use Rattle.complgen_commands.specs.Writing.{Finishes, Untouched}
 
--- how a call ends that is given the name of a shell; a name that no shell has is reported before
--- anything else is done
+-- the outcomes of a call with the name of a shell; a name that no shell has is reported first
 pub data EndsFor {S : Type 0} (taken : S → List ℕ) (failed : S → Failures) (name : List ℕ)
     (old new : S) (EndsBy : Shell → Result (Unit {0}) Refusal → Type 0)
     : Result (Unit {0}) Refusal → Type 0 where
@@ -18,14 +17,14 @@ pub data EndsFor {S : Type 0} (taken : S → List ℕ) (failed : S → Failures)
   known_shell : (shell : Shell) (result : Result (Unit {0}) Refusal) → FindsShell name (Ok shell)
       → EndsBy shell result → EndsFor taken failed name old new EndsBy result
 
--- how writing a script for the shell of this name ends
+-- the outcomes of writing a script for the shell with this name
 abbrev pub EndsScript : {S : Type 0} → (S → List ℕ) → (S → Failures) → List ℕ → List ℕ
     → Option (List ℕ) → S → S → Result (Unit {0}) Refusal → Type 0
 EndsScript taken failed name bin file old new result = EndsFor taken failed name old new
     (λ shell. Finishes taken failed true (SharesLabel shell bin) (IsScript shell bin) old new file)
     result
 
--- what the script for the shell of this name is read as, once it is written
+-- a shell has this name, and its script for the tree file reads back
 abbrev pub NamedScriptReads : List ℕ → List ℕ → Option (List ℕ) → Type 0
 NamedScriptReads name bin file =
     (shell : Shell) × (name ≡ shell_text shell) × ScriptReads shell bin file

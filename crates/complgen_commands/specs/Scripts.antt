@@ -1,4 +1,4 @@
--- The script for the command of a tree file, and when there is none.
+-- The script for the command of a tree file, and the case without a script.
 use Rattle.std.specs.Prelude.{◌≡◌, ℕ, List, Option, Some, None, IsTrue}
 use Rattle.cc_command.specs.Built.{built_under}
 use Rattle.cc_base.specs.declared.error.Error.TheVariants.{LabelClash}
@@ -18,13 +18,12 @@ pub record SharesLabel (shell : Shell) (bin : List ℕ) (tree : Tree) (refusal :
   pub shared : (shell_spec shell).clash (built_under (Some bin) tree) ≡ Some label
   pub reported : IsMade (shown_line (LabelClash label)) refusal
 
--- the script of the command, built under the bin name, of which no two nodes share a label
+-- the text is the script of the command built under the bin name, and no two nodes share a label
 pub record IsScript (shell : Shell) (bin : List ℕ) (tree : Tree) (text : List ℕ) : Type 0 where
   pub unshared : (shell_spec shell).clash (built_under (Some bin) tree) ≡ None
   pub is : text ≡ (shell_spec shell).script (built_under (Some bin) tree)
 
--- the file holds a command of which the script reads back, where the command and the bin name are
--- plain
+-- the file holds a command whose script reads back if the command and the bin name are plain
 pub record ScriptReads (shell : Shell) (bin : List ℕ) (file : Option (List ℕ)) : Type 0 where
   pub tree : Tree
   pub held : HoldsTree file tree

@@ -13,25 +13,25 @@ use Rattle.complgen_tree_file.specs.declared.error.TreeError.{TreeError}
 pub data HoldsNoTree : Option (List ℕ) → Refusal → Type 0 where
   -- the file can't be read
   unreadable : (refusal : Refusal) → IsRefusal unreadable_line refusal → HoldsNoTree None refusal
-  -- its bytes spell no JSON
+  -- its bytes are not JSON
   not_json : (bytes : List ℕ) (refusal : Refusal) → SpellsNone bytes
       → IsRefusal not_json_line refusal → HoldsNoTree (Some bytes) refusal
   -- the JSON describes no command
   bad_form : (bytes : List ℕ) (refusal : Refusal) → Describes bytes None
       → IsRefusal bad_form_line refusal → HoldsNoTree (Some bytes) refusal
 
--- how a tree file from which no command is read is reported
+-- the report of a tree file from which no command is read
 abbrev pub ReportsFile : Option (List ℕ) → Refusal → Type 0
 ReportsFile None refusal = IsRefusal unreadable_line refusal
 ReportsFile (Some bytes) refusal =
     (error : TreeError) × ReportsTree error refusal × ReadsTree bytes (Err error)
 
--- what reading a tree file gives
+-- the result of parsing a tree file
 abbrev pub ReadsFile : Option (List ℕ) → Result Tree Refusal → Type 0
 ReadsFile file (Ok command) = HoldsTree file command
 ReadsFile file (Err refusal) = ReportsFile file refusal
 
--- ---- the same of the file at a path, which is named
+-- ---- the same for the file at a path, which the report names
 
 -- the file holds no tree, and that is reported
 abbrev pub HoldsNoTreeAt : List ℕ → Option (List ℕ) → Refusal → Type 0
@@ -39,13 +39,13 @@ HoldsNoTreeAt path None refusal = IsMade (unreadable_at path) refusal
 HoldsNoTreeAt path (Some bytes) refusal = (SpellsNone bytes × IsMade (not_json_at path) refusal)
     ⊎ (Describes bytes None × IsMade (bad_form_at path) refusal)
 
--- how a file from which no command is read is reported
+-- the report of a file from which no command is read
 abbrev pub ReportsFileAt : List ℕ → Option (List ℕ) → Refusal → Type 0
 ReportsFileAt path None refusal = IsMade (unreadable_at path) refusal
 ReportsFileAt path (Some bytes) refusal =
     (error : TreeError) × ReportsTreeAt path error refusal × ReadsTree bytes (Err error)
 
--- what parsing it gives
+-- the result of parsing the file
 abbrev pub ReadsFileAt : List ℕ → Option (List ℕ) → Result Tree Refusal → Type 0
 ReadsFileAt path file (Ok command) = HoldsTree file command
 ReadsFileAt path file (Err refusal) = ReportsFileAt path file refusal

@@ -1,4 +1,4 @@
--- How a call ends that writes a text for the command of a tree file: one case for each outcome.
+-- The outcomes of writing a text for the command of a tree file.
 use Rattle.std.specs.Prelude.{◌≡◌, ◌++◌, ℕ, Bool, IsTrue, List, Option, Some, Result, Ok, Err}
 use Rattle.std.specs.declared.io.ErrorKind.{ErrorKind}
 use Rattle.cc_base.specs.declared.error.Error.TheVariants.{Write}
@@ -11,16 +11,16 @@ use Rattle.complgen_commands.specs.Refusals.{error_line}
 use Rattle.complgen_commands.specs.TreeFiles.{HoldsNoTree}
 use Rattle.complgen_tree_file.specs.TreeFile.{Describes}
 
--- nothing is taken, and no write failed
+-- the sink took nothing more, and no write failed
 pub record Untouched {S : Type 0} (taken : S → List ℕ) (failed : S → Failures) (old new : S)
     : Type 0 where
   pub taken_same : taken new ≡ taken old
   pub failed_same : failed new ≡ failed old
 
--- How it ends, where `IsText` says which text is written for a command, `Rejects` how one is
--- reported for which none is, and `allocates` whether memory may be asked for once the text is
--- begun. The command is the very one that the file describes; a text is begun only where there is
--- one for it.
+-- The outcomes of writing a text. `IsText` relates a command to the text for it. `Rejects` relates
+-- a command without a text to the report of it. `allocates` is true if the call may allocate after
+-- it starts to write the text. The command is the one that the file describes. The call starts to
+-- write only if there is a text for it.
 pub data Finishes {S : Type 0} (taken : S → List ℕ) (failed : S → Failures) (allocates : Bool)
     (Rejects : Tree → Refusal → Type 0) (IsText : Tree → List ℕ → Type 0) (old new : S)
     : Option (List ℕ) → Result (Unit {0}) Refusal → Type 0 where
@@ -41,7 +41,7 @@ pub data Finishes {S : Type 0} (taken : S → List ℕ) (failed : S → Failures
       → Describes bytes (Some tree) → IsText tree text
       → IsRefusal (error_line (Write kind)) refusal → failed new ≡ add_failure kind (failed old)
       → Finishes taken failed allocates Rejects IsText old new (Some bytes) (Err refusal)
-  -- out of memory once the text may have been begun; how much of it is written is left open
+  -- out of memory after the text may have been started; some of it may be written
   out_of_memory_in_text : (bytes text : List ℕ) (tree : Tree) (refusal : Refusal)
       → IsTrue allocates → Describes bytes (Some tree) → IsText tree text → IsOutOfMemory refusal
       → failed new ≡ failed old

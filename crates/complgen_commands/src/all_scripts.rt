@@ -1,4 +1,4 @@
-//! The scripts of all shells, each in a file.
+//! Writes the scripts of all shells to files.
 
 ghost use Rattle.std.specs.Prelude.{◌≡◌, IfOk, IsTrue, OnOk, Some};
 ghost use Rattle.std.specs.List.{AllByRecursion};
@@ -23,17 +23,17 @@ use cc_shell::{Shell, generate_to};
 use std::alloc::{AllocError, Global};
 use std::rt::Files;
 
-/// Writes the scripts of all shells for the tree in `file`, under the name `bin`. Each goes to the
-/// file in `folder` that its shell looks for. Prints the paths of these files, one on each line, with
-/// `?` for each control character.
+/// Writes the scripts of all shells for the tree in `file`, built under the name `bin`. Each goes
+/// to a file in `folder`, with the name that its shell looks for. Prints the paths of these files
+/// to `out`, one on each line, with `?` for each control character.
 ///
 /// # Errors
 ///
-/// A refusal with status 1
+/// A refusal with status 1:
 ///
-/// - before any file is made, if the tree file holds no tree, which names that file, or if two of
+/// - before any file is made, if the tree file, which the text names, holds no tree, or if two of
 ///   its commands share a label of the bash script;
-/// - if a file cannot be made or written, for example because the folder does not exist;
+/// - if a file cannot be made or written, for example because the directory does not exist;
 /// - if a path cannot be printed, or an allocation fails.
 pub fn scripts<R: Files, W: Sink>(
     files: &R,
@@ -49,8 +49,8 @@ pub fn scripts<R: Files, W: Sink>(
         ((shell : Shell) → ScriptReads shell bin.now (option_copied file.entry.bytes)) }
 {
     let mut command = named_tree(alloc, file)?;
-    // Only the bash script has labels that two commands may share. It is written first, so that this
-    // is reported before any file is made.
+    // Only the bash script has labels that two commands may share. It is written first, so that a
+    // shared label is reported before any file is made.
     write_one(files, alloc, Shell::Bash, &mut command, bin, folder, out)?;
     write_each(files, alloc, OTHERS, &mut command, bin, folder, out)
 }
@@ -63,7 +63,8 @@ const OTHERS: &[Shell] = &[
     Shell::Nushell,
 ];
 
-// The labels were looked at before, so that no file is made where two commands share one.
+// Writes the script of each of `shells`. Their scripts have no labels that two commands could
+// share.
 fn write_each<R: Files, W: Sink>(
     files: &R,
     alloc: Global,
@@ -85,7 +86,7 @@ fn write_each<R: Files, W: Sink>(
     Ok(())
 }
 
-// Writes the script of a shell to its file, and the path of the file to the output.
+// Writes the script of `shell` to its file in `folder`, and the path of the file to `out`.
 fn write_one<R: Files, W: Sink>(
     files: &R,
     alloc: Global,
@@ -109,7 +110,7 @@ fn write_one<R: Files, W: Sink>(
     }
 }
 
-// Puts a path as a line, each control character as `?`.
+// Writes `path` as a line, with `?` for each control character.
 fn put_path<W: Sink>(alloc: Global, out: &mut W, path: &str) -> Result<(), Refusal>
     ensures { PrintsLine W.taken W.failed (as_line path.now) out.old out.new result }
 {
@@ -120,7 +121,7 @@ fn put_path<W: Sink>(alloc: Global, out: &mut W, path: &str) -> Result<(), Refus
     }
 }
 
-// What is printed where a script is not written to its file.
+// Returns the refusal for an `error` of writing a script to a file in `folder`.
 fn file_refusal(alloc: Global, folder: &str, error: &Error) -> Refusal
     ensures { ReportsFile folder.now error.now result }
 {
@@ -130,7 +131,7 @@ fn file_refusal(alloc: Global, folder: &str, error: &Error) -> Refusal
     }
 }
 
-// The line that says that a file in this folder can't be made or written.
+// Returns the line for a file in `folder` that cannot be made or written.
 fn folder_line(alloc: Global, folder: &str) -> Result<String, AllocError>
     ensures { IfOk result (λ line. string_bytes line ≡ folder_line folder.now) }
 {

@@ -1,5 +1,5 @@
 //! Carries out what the command line asks for: parses a tree file, and writes a script, the scripts
-//! of all shells, a registration or candidates. Also has the text that is printed for each error.
+//! of all shells, a registration or candidates. Also has the text for each error.
 #![tactic(auto)]
 
 mod all_scripts;

@@ -1,4 +1,4 @@
-//! Writes a script.
+//! Writes the script for one shell.
 
 ghost use Rattle.std.specs.Prelude.{OnOk, true};
 ghost use Rattle.std.specs.Option.{option_copied};
@@ -14,7 +14,13 @@ use cc_generator::generate;
 use cc_shell::Shell;
 use std::alloc::Global;
 
-/// Writes the script for the shell of this name.
+/// Writes the script for the shell named `shell` to `out`. `file` has the bytes of the tree file,
+/// or is `None` if it cannot be read. The command is built under the name `bin`.
+///
+/// # Errors
+///
+/// A refusal with status 1 and the text of the error. An unknown shell is reported before the tree
+/// is parsed.
 pub fn script<W: Sink>(
     alloc: Global,
     shell: &str,
@@ -31,7 +37,7 @@ pub fn script<W: Sink>(
     script_by(alloc, shell, bin, file, out)
 }
 
-// Writes the script for this shell of a tree file.
+// Writes the script for `shell` of the command in a tree file.
 fn script_by<W: Sink>(
     alloc: Global,
     shell: Shell,

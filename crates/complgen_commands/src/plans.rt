@@ -1,10 +1,9 @@
-//! The plans that the command line makes, and how one is carried out.
+//! The tasks that the command line asks for. Carries out those that write one text.
 
 ghost use Rattle.std.specs.Prelude.{OnOk, Some, codes};
 ghost use Rattle.std.specs.Option.{option_copied};
 ghost use Rattle.cc_engine.specs.Paths.{PathsOf};
 ghost use Rattle.complgen_commands.specs.Ends.{Ends, ReadsBack};
-ghost use Rattle.complgen_commands.specs.Plans.{IsForRun};
 
 use crate::one_script::script;
 use crate::refusals::Refusal;
@@ -14,13 +13,16 @@ use cc_base::Sink;
 use cc_paths::Folder;
 use std::alloc::Global;
 
+const OTHER_PLAN: &str = "plan: check and scripts are not carried out by run\n";
+
 /// A task that the command line asks for.
 #[derive(Debug, Drop)]
 pub enum Plan {
     /// Write a completion script: the name of the shell, the name by which users call the program,
     /// and the path of the tree file.
     Script(String, String, String),
-    /// Write a registration: the same three.
+    /// Write a registration: the name of the shell, the name by which users call the program, and
+    /// the path of the tree file.
     Register(String, String, String),
     /// Write candidates: the index of the word, the path of the tree file, and the words.
     Candidates(usize, String, Vec<String>),
@@ -28,7 +30,7 @@ pub enum Plan {
     Check {
         /// The name by which users call the program, if it is not the one in the tree file.
         bin: Option<String>,
-        /// Set if the report is JSON, with one object on each line.
+        /// True if the report is JSON, with one object on each line.
         json: bool,
         /// The path of the tree file.
         tree: String,
@@ -64,12 +66,12 @@ impl Plan {
 
 /// Carries out a plan of `script`, `register` or `candidates` over the bytes of its tree file, or
 /// `None` if that file cannot be read, and writes to `out`. Looks up the shell before it parses the
-/// tree. Completes paths from `folder`, in which the current directory is `.`. The plans of `check`
-/// and `scripts` have functions of their own.
+/// tree. Completes paths from `folder`, in which the current directory is `.`.
 ///
 /// # Errors
 ///
-/// A refusal with status 1 and the text of the error.
+/// A refusal with status 1 and the text of the error. Refuses the plans of `check` and `scripts`, and
+/// writes nothing: they have functions of their own.
 pub fn run<D: Folder, W: Sink>(
     alloc: Global,
     plan: &Plan,
@@ -77,7 +79,6 @@ pub fn run<D: Folder, W: Sink>(
     folder: &D,
     out: &mut W,
 ) -> Result<(), Refusal>
-    requires { IsForRun plan.now }
     ensures ends { Ends W.taken W.failed (PathsOf (D.facts folder.now) (Some (codes "."))) plan.now
         (option_copied file.entry) out.old out.new result }
     ensures read_back { OnOk result (ReadsBack plan.now (option_copied file.entry)) }
@@ -88,6 +89,6 @@ pub fn run<D: Folder, W: Sink>(
         Plan::Candidates(index, _, words) => {
             reply(alloc, words.as_slice(), *index, file, folder, out)
         }
-        Plan::Check { .. } | Plan::Scripts { .. } => unreachable!(),
+        Plan::Check { .. } | Plan::Scripts { .. } => Err(Refusal::from_static(1, OTHER_PLAN)),
     }
 }

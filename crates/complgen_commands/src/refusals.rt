@@ -62,7 +62,7 @@ impl From<AllocError> for Refusal {
     }
 }
 
-/// Returns what is printed of the error of a tree file.
+/// Returns what is printed for the `error` of a tree file.
 pub(crate) fn tree_refusal(error: TreeError) -> Refusal
     ensures { ReportsTree error result }
 {
@@ -73,9 +73,9 @@ pub(crate) fn tree_refusal(error: TreeError) -> Refusal
     }
 }
 
-/// Returns what is printed for an error of the library: status 1 and the error's text as a line, or
-/// the text of `Memory` if there is no memory for the line. A text that names a label, a shell or a
-/// path may come from a tree file or a caller, so each control character in it becomes `?`.
+/// Returns what is printed for an `error` of the library: status 1 and the error's text as a line,
+/// or the text of `Memory` if there is no memory for the line. A text that names a label or a shell
+/// may come from a tree file or a caller, so each control character in it becomes `?`.
 pub fn error_refusal(alloc: Global, error: &Error) -> Refusal
     ensures { Reports error.now result }
 {

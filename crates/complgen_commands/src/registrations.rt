@@ -1,4 +1,4 @@
-//! Writes a registration, with which a shell asks a program for candidates.
+//! Writes a registration, which makes a shell ask a program for candidates.
 
 ghost use Rattle.std.specs.Prelude.{◌≡◌, find, true};
 ghost use Rattle.std.specs.Option.{option_copied};
@@ -20,7 +20,7 @@ use cc_env::{Builtin, EnvCompleter, Shells};
 use cc_shell::{Shell, each_shell};
 use std::alloc::Global;
 
-// The variable that makes a program reply to a shell.
+// The environment variable that makes a program reply to a shell.
 const VARIABLE: &str = "COMPLETE";
 
 // Returns the line for a shell without a registration. It names the shells that have one.
@@ -35,8 +35,8 @@ macro_rules! no_registration {
     };
 }
 
-/// Writes the registration for the shell `name`, of the tree in `file`, for a program that users call
-/// `bin`.
+/// Writes the registration for the shell `name` to `out`. `file` has the bytes of the tree file, or
+/// is `None` if it cannot be read. Users call the program `bin`.
 ///
 /// # Errors
 ///

@@ -16,15 +16,16 @@ use cc_paths::Folder;
 use cc_replies::write_lines;
 use std::alloc::{AllocError, Global};
 
-// The directory where relative paths begin.
+// The directory in which relative paths begin.
 const CURRENT_DIR: &str = ".";
 
-/// Writes the candidates for the word at `index`, of the command in the tree file `file`, as the
-/// reply to fish.
+/// Writes the candidates for the word of `words` at `index` to `out`, in the form of a reply to
+/// fish. `file` has the bytes of the tree file, or is `None` if it cannot be read.
 ///
 /// # Errors
 ///
-/// The refusal of a file that describes no command, and of an error of `complete` or of `out`.
+/// A refusal with status 1 if the file cannot be read or describes no command, if `index` is out of
+/// range, if a write fails, or if an allocation fails.
 pub(crate) fn reply<D: Folder, W: Sink>(
     alloc: Global,
     words: &[String],
@@ -58,7 +59,7 @@ fn copies(alloc: Global, words: &[String]) -> Result<Vec<String>, AllocError>
     Ok(copies)
 }
 
-// Returns the candidates for the word at `index`, without completers.
+// Returns the candidates for the word at `index`. There are no completers.
 fn candidates<D: Folder>(
     alloc: Global,
     mut command: Command,

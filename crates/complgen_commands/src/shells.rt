@@ -1,4 +1,4 @@
-//! The shell that a word names.
+//! Finds the shell with a name.
 
 ghost use Rattle.complgen_commands.specs.Refusals.{FindsShell};
 
@@ -6,8 +6,12 @@ use crate::refusals::{Refusal, error_refusal};
 use cc_shell::Shell;
 use std::alloc::Global;
 
-/// The shell of this name. Fails with status 1 and the text of the error where no shell has it, and
-/// where memory runs out.
+/// Returns the shell with this `name`.
+///
+/// # Errors
+///
+/// A refusal with status 1 and the text of the error if no shell has the name, or if an allocation
+/// fails.
 pub fn shell_of(alloc: Global, name: &str) -> Result<Shell, Refusal>
     ensures { FindsShell name.now result }
 {

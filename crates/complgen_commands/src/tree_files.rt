@@ -1,4 +1,4 @@
-//! Parses tree files, and reports one that holds no tree.
+//! Parses tree files, and reports a file that holds no tree.
 
 ghost use Rattle.std.specs.Prelude.{◌≡◌, IfOk, string_bytes};
 ghost use Rattle.std.specs.Option.{option_copied};
@@ -21,7 +21,7 @@ pub struct TreeFile<'f> {
     pub bytes: Option<&'f [u8]>,
 }
 
-/// Parses the bytes of a tree file, or `None` if the file cannot be read.
+/// Parses the bytes of a tree file. `file` is `None` if the file cannot be read.
 ///
 /// # Errors
 ///
@@ -35,7 +35,7 @@ pub fn tree(alloc: Global, file: Option<&[u8]>) -> Result<Command, Refusal>
     read_tree(alloc, bytes).map_err(tree_refusal)
 }
 
-/// Parses a tree file.
+/// Parses the tree file `file`.
 ///
 /// # Errors
 ///

@@ -1,4 +1,4 @@
--- Conflicts are warned about alike where the same ids are known.
+-- The warnings about conflicts are the same if the same ids are known.
 use Rattle.std.proofs.Common.{◌≡◌, ap, ap₂, refl, ℕ, suc, Bool, true, false, ◌||◌, List, [], ◌∷◌, ◌++◌, is_some, codes}
 use Rattle.std.specs.Borrow.{Bor}
 use Rattle.std.specs.BTreeMap.{BTreeMap}
@@ -42,7 +42,7 @@ neither false false h = (refl, refl)
 neither false true h = cc
 neither true b h = cc
 
--- without conflicts nothing is wrong with them
+-- without conflicts there are no findings about them
 pub none_of_none : (known : List ℕ → Bool) (index : ℕ) (arguments : List Arg) → have_conflicts arguments ≡ false →
     each_from (conflicts_of known) index arguments ≡ []
 none_of_none known index [] h = refl

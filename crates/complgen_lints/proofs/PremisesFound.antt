@@ -1,4 +1,4 @@
--- There are no warnings about premises exactly where these hold.
+-- There are only notes about premises exactly if the premises hold.
 use Rattle.std.proofs.Common.{◌≡◌, ◌∙◌, ap₂, refl, subst, ℕ, Bool, true, false, ◌&&◌, IsTrue, List, [], ◌++◌, Option, Some, None}
 use Rattle.std.proofs.lemmas.Bool.{and_parts}
 use Rattle.cc_command.specs.Escaped.{is_escaped_tree}
@@ -53,7 +53,7 @@ premise_notes bin tree =
     (is_plain_node tree.node && (siblings_differ tree.children && is_plain_forest tree.children))
     (is_quiet_tree tree) (is_escaped_tree tree)
 
--- where a list and what follows it are notes, the list is
+-- if a list and what follows it are notes, the list is
 first_notes : (some others : List Warning) → IsTrue (are_notes (some ++ others)) → IsTrue (are_notes some)
 first_notes some others h = (and_parts (are_notes some) (are_notes others) (subst IsTrue (notes_append some others) h)).0
 

@@ -1,4 +1,4 @@
--- A step of a loop that lists something of each thing, and the nodes below a child.
+-- A step of a loop that lists something for each thing, and the number of nodes below a child.
 use Rattle.std.proofs.Common.{◌≡◌, ◌∙◌, ap, sym, subst, ℕ, suc, zero, ◌+◌, ◌<◌, ◌≤◌, List, [], ◌∷◌, ◌++◌, length, drop, get_or, arith}
 use Rattle.std.proofs.lemmas.List.{append_assoc, drop_more}
 use Rattle.cc_command.specs.Tree.{Tree, forest_of, forest_size, tree_size}

@@ -1,4 +1,4 @@
--- No name of a child is taken exactly where the names of the children differ.
+-- No name of a child is taken exactly if the names of the children differ.
 use Rattle.std.proofs.Common.{◌≡◌, ◌∙◌, ap, ap₂, refl, sym, ℕ, suc, Bool, true, false, not, cond, ◌&&◌, ◌||◌, List, [], ◌∷◌, ◌++◌, map, fold, Option, Some, None, is_some}
 use Rattle.std.specs.List.{list_all}
 use Rattle.std.specs.Str.{bytes_eq}
@@ -42,7 +42,7 @@ found_some found (name ∷ names) word =
     ∙ ap (λ b. b || contains_name (texts names) word) (some_kept same found name.owner)
     ∙ or_assoc (is_some found) same (contains_name (texts names) word)
 
--- a name has an owner where it is among those before it
+-- a name has an owner exactly if it is among those before it
 owner_some : (before : List PlacedName) (word : List ℕ) → is_some (owner_with before word) ≡ contains_name (texts before) word
 owner_some before word = found_some None before word
 

@@ -1,4 +1,4 @@
--- Nothing is found in names and descriptions exactly where the tree is plain, quiet and escaped.
+-- Nothing is found in names and descriptions exactly if the tree is plain, quiet and escaped.
 use Rattle.std.proofs.Common.{◌≡◌, ◌∙◌, ap, ap₂, refl, ℕ, suc, Bool, true, false, not, cond, ◌&&◌, List, [], ◌∷◌, ◌++◌, flat_map, Option, Some, None, is_none, unwrap_or}
 use Rattle.std.specs.Char.{is_ascii_alphanumeric}
 use Rattle.std.specs.List.{list_all}
@@ -90,7 +90,7 @@ none_unless : (test : Bool) (kind : Kind) → is_none (unless_kind test kind) �
 none_unless true kind = refl
 none_unless false kind = refl
 
--- what a test of texts says of the parts of a text, where there is one, and of a list
+-- the result of a test of texts for the part of an optional text, and for the parts of a list
 module _ (lint : TextLint) (key : Key) (test : List ℕ → Bool) (same : (text : List ℕ) → is_none (text_kind lint key text) ≡ test text) where
   some_text_passes : (text : Option (List ℕ)) → list_all (passes lint) (some_text key None text) ≡ passes_if_some test text
   some_text_passes None = refl
@@ -111,7 +111,7 @@ shorts_pass key index [] = refl
 shorts_pass key index (short ∷ shorts) =
     ap₂ (λ a b. a && b) (none_unless (is_ascii_alphanumeric short) (ShortNotPlain short)) (shorts_pass key (suc index) shorts)
 
--- three lists of parts pass where each does
+-- three lists of parts pass together if each passes
 three_pass : (lint : TextLint) (some others last : List Part) → list_all (passes lint) ((some ++ others) ++ last)
     ≡ ((list_all (passes lint) some && list_all (passes lint) others) && list_all (passes lint) last)
 three_pass lint some others last =
@@ -168,7 +168,7 @@ labels_pass argument =
     ap₂ (λ a b. a && b) (label_same Key.Id refl argument.id)
     (texts_pass lint.Plain Key.ValueNames has_no_quote (label_same Key.ValueNames refl) 0 argument.value_names)
 
--- the tests of an argument, in groups and in a row
+-- the tests of an argument are the same in groups and in a row
 in_a_row : (a b c d e f g h : Bool) →
     (((a && b) && ((c && d) && e)) && ((f && g) && h)) ≡ (a && (b && (c && (d && (e && (f && (g && h)))))))
 in_a_row false b c d e f g h = refl
@@ -190,7 +190,7 @@ plain_argument index argument =
     (list_all is_ascii_alphanumeric argument.short_aliases)
     (passes_if_some is_plain_name argument.long) (list_all is_plain_name argument.visible_aliases) (list_all is_plain_name argument.aliases)
 
--- the tests of a command: those of a lint, and of the names of its children
+-- the tests of a command: its names are plain, and the names of its subcommands differ
 abbrev plain_test : Tree → Bool
 plain_test tree = is_plain_node tree.node && siblings_differ tree.children
 

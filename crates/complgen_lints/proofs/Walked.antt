@@ -1,4 +1,4 @@
--- Where a walk over a tree finds nothing but notes.
+-- Conditions under which a walk over a tree finds only notes.
 use Rattle.std.proofs.Common.{◌≡◌, ◌∙◌, ap, ap₂, refl, ℕ, suc, Bool, true, false, ◌&&◌, List, [], ◌∷◌, ◌++◌, map}
 use Rattle.std.specs.List.{list_all}
 use Rattle.std.proofs.lemmas.List.Folds.{list_all-append}
@@ -12,12 +12,12 @@ use Rattle.complgen_lints.specs.declared.warning.Warning.{Warning}
 pub notes_append : (some others : List Warning) → are_notes (some ++ others) ≡ (are_notes some && are_notes others)
 notes_append some others = list_all-append (λ warning. is_note warning.kind) some others
 
--- a warning that is no note is there exactly where its test fails
+-- a list with a warning unless a test passes has only notes exactly if the test passes
 pub unless_notes : (test : Bool) (warning : Warning) → is_note warning.kind ≡ false → are_notes (unless test warning) ≡ test
 unless_notes true warning h = refl
 unless_notes false warning h = ap (λ b. b && true) h
 
--- the same of findings, which have no path yet
+-- the same for findings, which have no path yet
 abbrev pub only_notes : List Finding → Bool
 only_notes findings = list_all (λ finding. is_note finding.kind) findings
 
@@ -38,7 +38,7 @@ placed_notes path (finding ∷ findings) = ap (λ b. is_note finding.kind && b) 
 
 module _ (of_command : Tree → List Finding) (test : Tree → Bool)
     (same : (tree : Tree) → only_notes (of_command tree) ≡ test tree) where
-  -- each of some siblings and of those below them passes
+  -- all siblings and all commands below them pass
   abbrev pub all_pass : Forest → Bool
   all_pass none = true
   all_pass (more node below rest) =

@@ -1,4 +1,4 @@
--- What clap refuses of an argument, alone and in its command.
+-- Findings about an argument: what clap refuses, and settings with no effect or a surprising one.
 use Rattle.std.specs.Prelude.{ℕ, suc, Bool, true, false, not, ◌&&◌, ◌==◌, nat_lt, List, [], ◌∷◌, ◌++◌, codes, length, if◌then◌else◌, is_some, Option, Some, None}
 use Rattle.std.specs.Str.{bytes_eq}
 use Rattle.cc_arg.specs.declared.action.ArgAction.{ArgAction}
@@ -25,7 +25,7 @@ use Rattle.complgen_lints.specs.declared.warning.Kind.TheVariants.{TakenByHelp, 
 
 -- ---- one argument, whatever else its command has
 
--- an option that is last, one that has an index, and an argument that is global and required
+-- an option with `last`, an option with an index, and an argument that is both global and required
 abbrev pub kinds_list : Spot → Arg → List Finding
 kinds_list spot argument =
     (when (argument.last && not (is_positional argument)) (finding spot key.Last None LastOption)
@@ -33,16 +33,16 @@ kinds_list spot argument =
     (finding spot key.Index None IndexOfOption))
     ++ when (argument.global && argument.required) (finding spot key.Global None GlobalRequired)
 
--- the hint of a whole command line
+-- the hint `CommandWithArguments`
 abbrev pub has_command_hint : ValueHint → Bool
 has_command_hint CommandWithArguments = true
 has_command_hint _ = false
 
--- the key that says how many values an argument takes
+-- the key that sets how many values an argument takes
 abbrev pub count_key : Arg → Key
 count_key argument = if is_some argument.num_args then key.NumArgs else key.Action
 
--- more value names than values, the hint of a whole command line at an argument that is no
+-- more value names than values, the hint `CommandWithArguments` on an argument that is not a
 -- positional of many values, and a positional that takes no value
 abbrev pub counts_list : Spot → Arg → List Finding
 counts_list spot argument =
@@ -56,12 +56,12 @@ counts_list spot argument =
     ++ when (is_positional argument && not (takes_values argument))
     (finding spot (count_key argument) None PositionalWithoutValue)
 
--- a list of possible values that is empty
+-- an empty list of possible values
 abbrev pub is_empty_list : Option (List PossibleValue) → Bool
 is_empty_list (Some []) = true
 is_empty_list _ = false
 
--- possible values of an argument that takes none, and an empty list of them
+-- possible values of an argument that takes no value, and an empty list of possible values
 abbrev pub values_list : Spot → Arg → List Finding
 values_list spot argument =
     when (not (takes_values argument) && is_some argument.possible_values)
@@ -71,7 +71,7 @@ values_list spot argument =
 
 -- ---- an argument in its command
 
--- a text, where there is one, is this text; a short likewise
+-- whether there is a text that equals this one, and the same for a short
 abbrev pub is_text : Option (List ℕ) → List ℕ → Bool
 is_text None text = false
 is_text (Some other) text = bytes_eq other text
@@ -80,12 +80,13 @@ abbrev pub is_short : Option ℕ → ℕ → Bool
 is_short None short = false
 is_short (Some other) short = other == short
 
--- a flag that building adds to this node
+-- whether building adds the flag to this node
 abbrev pub is_added : AddedFlag → Node → Bool
 is_added added.Help node = not node.disable_help_flag
 is_added added.Version node = is_some node.version && not node.disable_version_flag
 
--- its id, which is its long too, its short, and what is said of an argument that has one of these
+-- the id of the flag, which is also its long; its short; and the finding about an argument that has
+-- one of these
 abbrev pub added_name : AddedFlag → List ℕ
 added_name added.Help = codes "help"
 added_name added.Version = codes "version"
@@ -98,7 +99,7 @@ abbrev pub added_kind : AddedFlag → Kind
 added_kind added.Help = TakenByHelp
 added_kind added.Version = TakenByVersion
 
--- the id, the long and the short of the flag, where building adds it
+-- the id, the long and the short of the flag, if building adds it and the argument has them too
 abbrev pub added_list : AddedFlag → Node → Spot → Arg → List Finding
 added_list flag node spot argument =
     (when (is_added flag node && bytes_eq argument.id (added_name flag))
@@ -108,13 +109,13 @@ added_list flag node spot argument =
     ++ when (is_added flag node && is_short argument.short (added_short flag))
     (finding spot key.Short None (added_kind flag))
 
--- the action that shows a version
+-- the action `Version`
 abbrev pub is_version : Option ArgAction → Bool
 is_version (Some Version) = true
 is_version _ = false
 
--- that action in a command without a version, and a required argument that is last in a command
--- with children
+-- the action `Version` in a command without a version, and a required argument with `last` in a
+-- command with subcommands
 abbrev pub missing_list : Tree → Spot → Arg → List Finding
 missing_list tree spot argument =
     when (is_version argument.action && not (is_some tree.node.version))
@@ -131,29 +132,30 @@ argument_list tree index argument = (((((kinds_list (Argument index) argument)
 
 -- ---- the order of positionals
 
--- a required positional that is not last
+-- a required positional without `last`
 abbrev pub is_needed : Arg → Bool
 is_needed argument = is_positional argument && (argument.required && not argument.last)
 
--- the id of the last optional positional after an argument, where this one was the last before it
+-- the id of the last optional positional up to an argument, given the last one before it; a
+-- positional with `last` counts as optional
 abbrev pub optional_after : Option (List ℕ) → Arg → Option (List ℕ)
 optional_after before argument =
     if is_positional argument && not (is_needed argument) then Some argument.id else before
 
--- a required positional, where there is an optional one before it
+-- a required positional, if an optional one comes before it
 abbrev pub needed_list : ℕ → Option (List ℕ) → Bool → List Finding
 needed_list index (Some id) true =
     finding (Argument index) key.Required None (RequiredAfterOptional id) ∷ []
 needed_list index _ _ = []
 
--- each required positional after an optional one, of the arguments from this index on
+-- each required positional after an optional one, among the arguments from this index on
 abbrev pub order_list : Option (List ℕ) → ℕ → List Arg → List Finding
 order_list before index [] = []
 order_list before index (argument ∷ arguments) =
     needed_list index before (is_needed argument)
     ++ order_list (optional_after before argument) (suc index) arguments
 
--- of the arguments of a command, one by one, and of their order
+-- findings about each argument of a command, then about their order
 abbrev pub arguments_list : Tree → List Finding
 arguments_list tree = each_from (argument_list tree) 0 tree.node.arguments
     ++ order_list None 0 tree.node.arguments

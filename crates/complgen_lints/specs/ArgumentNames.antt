@@ -11,7 +11,7 @@ use Rattle.complgen_lints.specs.declared.names.Named.TheVariants as named
 use Rattle.complgen_lints.specs.declared.names.PlacedName.{PlacedName}
 use Rattle.complgen_lints.specs.declared.place.Key.TheVariants as key
 
--- the index of a positional, where one is given
+-- the index of a positional, if one is set
 abbrev pub index_name : ℕ → ℕ → List ℕ → PlacedName
 index_name argument index id = placed_name argument key.Index None (decimal index) id
 
@@ -29,12 +29,11 @@ names_of named.Index index argument =
     some_index (is_positional argument) index argument.id argument.index
 names_of named.Child index argument = []
 
--- those of some arguments
+-- the names of this kind that some arguments have
 abbrev pub all_names : Named → List Arg → List PlacedName
 all_names named arguments = each_from (names_of named) 0 arguments
 
--- the names of this kind of a command's arguments that an earlier one of them has, or one of these
--- arguments, which are global and from the commands above
+-- the names of this kind of a command's arguments that an earlier argument or an inherited one has
 abbrev pub taken_of : Named → List Arg → List Arg → List Finding
 taken_of named inherited arguments =
     taken_from named (all_names named inherited) (all_names named arguments)

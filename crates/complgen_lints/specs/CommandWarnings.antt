@@ -1,4 +1,4 @@
--- All warnings about a tree, that about labels of bash not counted.
+-- All warnings about a tree, except the one about labels of the bash script.
 use Rattle.std.specs.Prelude.{ℕ, List, [], ◌++◌, Option, None}
 use Rattle.cc_arg.specs.declared.parts.ArgParts.{ArgParts as Arg}
 use Rattle.cc_command.specs.Tree.{Tree}
@@ -18,7 +18,7 @@ use Rattle.complgen_lints.specs.declared.text_lints.TextLint.TheVariants.{Zsh}
 use Rattle.complgen_lints.specs.declared.warning.Kind.TheVariants.{HiddenCommand, HiddenArgument}
 use Rattle.complgen_lints.specs.declared.warning.Warning.{Warning}
 
--- what clap refuses of the arguments of a command, and of its positionals together
+-- findings about each argument of a command, and about its positionals together
 abbrev pub clap_list : Tree → List Finding
 clap_list tree = arguments_list tree ++ positional_list tree.node.arguments
 
@@ -38,8 +38,8 @@ lint_list (lint.Texts texts) = text_list texts
 lint_list lint.Clap = clap_list
 lint_list lint.Hidden = hidden_list
 
--- all of them: what the promises of scripts take for granted, texts that end a text of the zsh
--- script, what clap refuses, with the arguments that a command inherits, and what is hidden
+-- all warnings: premises that do not hold, texts that end a text of the zsh script, what clap
+-- refuses about a command alone, then together with inherited arguments, and what is hidden
 abbrev pub command_list : Option (List ℕ) → Tree → List Warning
 command_list bin tree = (((premise_list bin tree ++ tree_list (text_list Zsh) [] tree)
     ++ tree_list clap_list [] tree) ++ scope_list [] [] tree) ++ tree_list hidden_list [] tree

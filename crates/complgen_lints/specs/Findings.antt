@@ -1,4 +1,4 @@
--- What is found about one command, and its place in the tree.
+-- Findings about one command, and their places in the tree.
 use Rattle.std.specs.Prelude.{ℕ, List, [], ◌∷◌, ◌++◌, Option, Some, None}
 use Rattle.complgen_lints.specs.declared.found.Finding.{Finding}
 use Rattle.complgen_lints.specs.declared.found.Spot.{Spot}
@@ -11,12 +11,12 @@ use Rattle.complgen_lints.specs.declared.warning.Warning.{Warning}
 abbrev pub finding : Spot → Key → Option ℕ → Kind → Finding
 finding spot key item kind = record { spot = spot; key = key; item = item; kind = kind }
 
--- a finding, where there is something to say
+-- a finding of this kind, if there is a kind
 abbrev pub some_finding : Spot → Key → Option ℕ → Option Kind → List Finding
 some_finding spot key item None = []
 some_finding spot key item (Some kind) = finding spot key item kind ∷ []
 
--- the path and the argument of a spot, where the command is at this path
+-- the path and the argument of a spot, for a command at this path
 abbrev pub spot_path : List ℕ → Spot → List ℕ
 spot_path path (Child index) = path ++ index ∷ []
 spot_path path _ = path

@@ -11,7 +11,7 @@ use Rattle.complgen_lints.specs.declared.parts.Part.{Part}
 use Rattle.complgen_lints.specs.declared.place.Key.{Key}
 use Rattle.complgen_lints.specs.declared.place.Key.TheVariants as key
 
--- a text at a key, or at an item of the key's list, and a short there
+-- a text at a key or at an item of the key's list, and the same for a short
 abbrev pub text_part : Key → Option ℕ → List ℕ → Part
 text_part key item text = record { key = key; item = item; content = content.Text text }
 
@@ -23,7 +23,7 @@ abbrev pub content_text : Content → List ℕ
 content_text (content.Text text) = text
 content_text (content.Short short) = encode_utf8 short
 
--- a text, where there is one, and the texts of a list; shorts likewise
+-- a text if there is one, and the texts of a list; the same for shorts
 abbrev pub some_text : Key → Option ℕ → Option (List ℕ) → List Part
 some_text key item None = []
 some_text key item (Some text) = text_part key item text ∷ []

@@ -1,4 +1,4 @@
--- Names of arguments or of children, each at its place, and those that an earlier one has.
+-- Names of arguments or subcommands with their places, and names that are already taken.
 use Rattle.std.specs.Prelude.{ℕ, List, [], ◌∷◌, ◌++◌, fold, if◌then◌else◌, Option, Some, None}
 use Rattle.std.specs.Borrow.{Bor}
 use Rattle.std.specs.BTreeMap.{BTreeMap, get_by}
@@ -18,7 +18,7 @@ use Rattle.complgen_lints.specs.declared.place.Key.{Key}
 use Rattle.complgen_lints.specs.declared.warning.Kind.{Kind}
 use Rattle.complgen_lints.specs.declared.warning.Kind.TheVariants.{TakenId, TakenIndex, TakenLong, TakenName, TakenShort}
 
--- a name of the argument or child with this index, at its place
+-- a name of the argument or subcommand with this index, at its place
 abbrev pub placed_name : ℕ → Key → Option ℕ → List ℕ → List ℕ → PlacedName
 placed_name index key item name owner =
     record { index = index; key = key; item = item; name = name; owner = owner }
@@ -28,12 +28,12 @@ abbrev pub named_part : ℕ → List ℕ → Part → PlacedName
 named_part index owner part =
     placed_name index part.key part.item (content_text part.content) owner
 
--- the one that has a name, the last one of these
+-- the last owner of a name among these names
 abbrev pub owner_with : List PlacedName → List ℕ → Option (List ℕ)
 owner_with names word =
     fold (λ found name. if bytes_eq name.name word then Some name.owner else found) None names
 
--- the same of the names that a map holds
+-- the owner of a name in a map
 abbrev pub owner_in : BTreeMap (Bor (List ℕ)) (List ℕ) → List ℕ → Option (List ℕ)
 owner_in seen word = get_by (λ other. slice_cmp nat_cmp word other.now) seen
 
@@ -45,18 +45,18 @@ taken_kind named.Short name id = TakenShort name id
 taken_kind named.Index name id = TakenIndex name id
 taken_kind named.Child name command = TakenName name command
 
--- where a name of this kind is
+-- the spot of a name of this kind
 abbrev pub spot_of : Named → ℕ → Spot
 spot_of named.Child index = Child index
 spot_of _ index = Argument index
 
--- a name that this owner, where there is one, has before
+-- a finding about a name, if it has an earlier owner
 abbrev pub taken_by : Named → Option (List ℕ) → PlacedName → List Finding
 taken_by named None name = []
 taken_by named (Some owner) name =
     finding (spot_of named name.index) name.key name.item (taken_kind named name.name owner) ∷ []
 
--- of names after others each that one of those before it is
+-- a finding for each name that equals a name before it
 abbrev pub taken_from : Named → List PlacedName → List PlacedName → List Finding
 taken_from named before [] = []
 taken_from named before (name ∷ names) = taken_by named (owner_with before name.name) name

@@ -1,9 +1,9 @@
--- The keys as they are written.
+-- The keys as a tree file spells them.
 use Rattle.std.specs.Prelude.{ℕ, List, codes}
 use Rattle.complgen_lints.specs.declared.place.Key.{Key}
 use Rattle.complgen_lints.specs.declared.place.Key.TheVariants.{Name, BinName, About, Aliases, VisibleAliases, Hide, Id, Short, Long, ShortAliases, VisibleShortAliases, Help, Action, NumArgs, ValueNames, PossibleValues, ValueHint, Index, ConflictsWith, Required, Last, Global}
 
--- a key as it is written
+-- a key as a tree file spells it
 abbrev pub key_text : Key → List ℕ
 key_text Name = codes "name"
 key_text BinName = codes "bin_name"

@@ -1,4 +1,4 @@
--- What clap refuses of the positionals of a command together.
+-- Findings about the positionals of a command together, which clap refuses.
 use Rattle.std.specs.Prelude.{ℕ, suc, Bool, true, false, not, ◌&&◌, ◌||◌, ◌==◌, ◌+◌, ◌-◌, nat_lt, List, [], ◌∷◌, ◌++◌, decimal, fold, if◌then◌else◌, is_some, Option, Some, None, unwrap_or}
 use Rattle.cc_arg.specs.declared.action.ArgAction.{ArgAction}
 use Rattle.cc_arg.specs.declared.action.ArgAction.TheVariants.{Append}
@@ -18,7 +18,7 @@ use Rattle.complgen_lints.specs.declared.names.Named.TheVariants as named
 use Rattle.complgen_lints.specs.declared.place.Key.TheVariants as key
 use Rattle.complgen_lints.specs.declared.warning.Kind.TheVariants.{IndexOutOfRange, ManyBeforeLast, SecondLast}
 
--- how many positionals there are: with one more argument, and of all
+-- the number of positionals: with one more argument, and of all arguments
 abbrev pub counted_with : ℕ → Arg → ℕ
 counted_with count argument = if is_positional argument then count + 1 else count
 
@@ -36,25 +36,25 @@ outside_list count argument true (Some index) = when (is_outside count index)
     (finding (Argument argument) key.Index None (IndexOutOfRange (decimal index) (decimal count)))
 outside_list count argument _ _ = []
 
--- the index of a positional, where this one is the next that is free
+-- the index of a positional: the one that is set, or else this number
 abbrev pub index_of : ℕ → Arg → ℕ
 index_of number argument = unwrap_or argument.index number
 
--- what a function lists of each argument, where these indexes are the next that are free: of an
--- argument and of one of the list
+-- what a function lists for each argument; the function gets the next index to count and the
+-- argument's place in the list, which begin with these
 abbrev pub each_numbered : {B : Type 0} → (ℕ → ℕ → Arg → List B) → ℕ → ℕ → List Arg → List B
 each_numbered f number index [] = []
 each_numbered f number index (argument ∷ arguments) = f number index argument
     ++ each_numbered f (next_index number argument) (suc index) arguments
 
--- the index of a positional for which none is given, as a name of it
+-- the counted index of a positional without a set one, as a name
 abbrev pub counted_index : ℕ → ℕ → Arg → List PlacedName
 counted_index number index argument =
     if lacks_index argument then index_name index number argument.id ∷ [] else []
 
 -- ---- positionals of many values, and those that are last
 
--- an argument takes more than one value, or is used more than once
+-- an argument takes more than one value, or more than one use
 abbrev pub is_append : Option ArgAction → Bool
 is_append (Some Append) = true
 is_append _ = false
@@ -69,12 +69,12 @@ with_index wanted number (argument ∷ arguments) =
     if is_positional argument && (index_of number argument == wanted) then Some argument
     else with_index wanted (next_index number argument) arguments
 
--- where a positional of many values ends: this one, the last of all, is required or last
+-- clap can tell where many values end if the last positional is missing, required or has `last`
 abbrev pub ends_before : Option Arg → Bool
 ends_before None = true
 ends_before (Some argument) = argument.required || argument.last
 
--- or this one, before the last of all, is last or has a terminator
+-- or if the positional before the last one has `last` or a terminator
 abbrev pub ends_itself : Option Arg → Bool
 ends_itself None = false
 ends_itself (Some argument) = argument.last || is_some argument.value_terminator
@@ -83,7 +83,7 @@ abbrev pub many_end : ℕ → List Arg → Bool
 many_end count arguments = ends_before (with_index count 1 arguments)
     || ends_itself (with_index (count - 1) 1 arguments)
 
--- a positional of many values that is not the last of all, unless it is known where they end
+-- a positional of many values before the last positional, unless clap can tell where the values end
 abbrev pub many_list : ℕ → Bool → ℕ → ℕ → Arg → List Finding
 many_list count end number index argument =
     when (is_positional argument && (takes_many argument
@@ -94,15 +94,15 @@ many_list count end number index argument =
 abbrev pub is_last : Arg → Bool
 is_last argument = is_positional argument && argument.last
 
--- each one but the first, of the arguments from this index on
+-- each such positional except the first, among the arguments from this index on
 abbrev pub last_list : Bool → ℕ → List Arg → List Finding
 last_list before index [] = []
 last_list before index (argument ∷ arguments) = when (before && is_last argument)
     (finding (Argument index) key.Last None SecondLast)
     ++ last_list (before || is_last argument) (suc index) arguments
 
--- of the arguments of a command, of which so many are positionals: indexes that no positional can
--- have or that another one has, positionals of many values, and those that are last
+-- for arguments with this number of positionals: indexes that no positional can have, indexes that
+-- another one has, positionals of many values, and positionals with `last`
 abbrev pub counted_list : ℕ → List Arg → List Finding
 counted_list count arguments = ((each_from (λ index argument. outside_list count index
     (is_positional argument) argument.index) 0 arguments

@@ -1,4 +1,4 @@
--- What the promises of scripts take for granted, and the warnings about it.
+-- The premises of the promises about scripts, and the warnings if they do not hold.
 use Rattle.std.specs.Prelude.{ℕ, Bool, ◌&&◌, List, [], ◌++◌, Option, Some, None}
 use Rattle.cc_command.specs.Escaped.{is_escaped_tree}
 use Rattle.cc_command.specs.Plain.{is_plain_tree, passes_if_some}
@@ -16,7 +16,7 @@ use Rattle.complgen_lints.specs.declared.warning.Kind.{Kind}
 use Rattle.complgen_lints.specs.declared.warning.Kind.TheVariants.{BinNotPlain, NotPlain}
 use Rattle.complgen_lints.specs.declared.warning.Warning.{Warning}
 
--- a bin name that is not plain: that of a call, which has no place in the tree, or the root's
+-- a warning about a bin name that is not plain: that of a call, which has no key, or the root's
 abbrev pub bin_kind : Option Key → List ℕ → Kind
 bin_kind None name = BinNotPlain name
 bin_kind (Some key) name = NotPlain name
@@ -32,15 +32,14 @@ bin_list key (Some name) = unless (is_plain_name name) (record {
 abbrev pub names_list : Tree → List Finding
 names_list tree = text_list Plain tree ++ taken_names tree.children
 
--- the warnings about names, about possible values and about quotes of a tree that is called by this
--- bin name, where there is one
+-- the warnings about the names, the possible values and the quotes of a tree, and about the bin
+-- name of the call if there is one
 abbrev pub premise_list : Option (List ℕ) → Tree → List Warning
 premise_list bin tree = (((bin_list None bin ++ bin_list (Some BinName) tree.node.bin_name)
     ++ tree_list names_list [] tree) ++ tree_list (text_list Quiet) [] tree)
     ++ tree_list (text_list Quotes) [] tree
 
--- the bin name, where there is one, is plain; the tree is plain and quiet, and its quotes are
--- escaped
+-- the bin name is plain if there is one; the tree is plain and quiet, and its quotes are escaped
 abbrev pub holds_premises : Option (List ℕ) → Tree → Bool
 holds_premises bin tree = passes_if_some is_plain_name bin
     && (is_plain_tree tree && (is_quiet_tree tree && is_escaped_tree tree))

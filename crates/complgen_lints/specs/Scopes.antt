@@ -1,5 +1,5 @@
--- What clap refuses of the arguments of a command together, with the global ones
--- of the commands above it.
+-- What clap refuses about the arguments of a command together with the global arguments of the
+-- commands above it.
 use Rattle.std.specs.Prelude.{ℕ, suc, Bool, true, false, not, ◌||◌, List, [], ◌∷◌, ◌++◌, codes, filter, is_some, map, Option, Some, None}
 use Rattle.std.specs.Borrow.{Bor}
 use Rattle.std.specs.BTreeMap.{BTreeMap}
@@ -22,16 +22,16 @@ use Rattle.complgen_lints.specs.declared.warning.Kind.{Kind}
 use Rattle.complgen_lints.specs.declared.warning.Kind.TheVariants.{UnknownConflict, SelfConflict}
 use Rattle.complgen_lints.specs.declared.warning.Warning.{Warning}
 
--- what a command with these arguments inherits: the others, but for those with an id of its own
+-- what a command with these arguments inherits: the others without those whose id it has itself
 abbrev pub inherited_with : List Arg → List Arg → List Arg
 inherited_with arguments others = filter (λ other. not (has_id arguments other.id)) others
 
--- what the children of a command with these arguments inherit, where it inherits these
+-- what the subcommands of a command with these arguments may inherit, if it inherits these
 abbrev pub passed_on : List Arg → List Arg → List Arg
 passed_on inherited arguments = inherited ++ globals arguments
 
--- what is wrong with an id in the list of conflicts of an argument, by whether an argument has it,
--- and whether it is the argument itself
+-- what is wrong with an id in an argument's list of conflicts; the tests are whether the id is
+-- known, and whether it is the argument's own
 abbrev pub conflict_kind : Bool → Bool → List ℕ → Option Kind
 conflict_kind false same id = Some (UnknownConflict id)
 conflict_kind true true id = Some SelfConflict
@@ -40,23 +40,23 @@ conflict_kind true false id = None
 abbrev pub conflict_list : ℕ → ℕ → Option Kind → List Finding
 conflict_list index item kind = some_finding (Argument index) ConflictsWith (Some item) kind
 
--- the conflicts of an argument, where these ids are known
+-- findings about the conflicts of an argument, if these ids are known
 abbrev pub conflicts_of : (List ℕ → Bool) → ℕ → Arg → List Finding
 conflicts_of known index argument = each_from (λ item id.
     conflict_list index item (conflict_kind (known id) (bytes_eq id argument.id) id))
     0 argument.conflicts
 
--- an argument has the id, or it is that of a flag that building may add
+-- the id is among the names, or is that of a flag that building may add
 abbrev pub is_known : List PlacedName → List ℕ → Bool
 is_known names id =
     is_some (owner_with names id) || (bytes_eq id (codes "help") || bytes_eq id (codes "version"))
 
--- the same of the names that a map holds
+-- the same for the names in a map
 abbrev pub is_known_in : BTreeMap (Bor (List ℕ)) (List ℕ) → List ℕ → Bool
 is_known_in seen id =
     is_some (owner_in seen id) || (bytes_eq id (codes "help") || bytes_eq id (codes "version"))
 
--- a list of conflicts is there, of one argument and of some
+-- an argument has conflicts, and one of some arguments does
 abbrev pub has_conflicts : List (List ℕ) → Bool
 has_conflicts [] = false
 has_conflicts (id ∷ ids) = true
@@ -64,22 +64,21 @@ has_conflicts (id ∷ ids) = true
 abbrev pub have_conflicts : List Arg → Bool
 have_conflicts arguments = list_any (λ argument. has_conflicts argument.conflicts) arguments
 
--- the conflicts of a command's arguments that no argument of the command has, and those of an
--- argument with itself
+-- conflicts of a command's arguments with unknown ids, and conflicts of an argument with itself
 abbrev pub all_conflicts : List Arg → List Arg → List Finding
 all_conflicts inherited arguments = each_from (conflicts_of
     (is_known (all_names named.Id inherited ++ all_names named.Id arguments))) 0 arguments
 
--- of the arguments of a command: ids that an earlier one has; longs, then shorts that an earlier
--- one or an inherited one has; and conflicts
+-- findings about the arguments of a command: ids that an earlier one has; longs, then shorts that
+-- an earlier one or an inherited one has; and conflicts
 abbrev pub together_list : List Arg → List Arg → List Finding
 together_list inherited arguments = ((taken_of named.Id [] arguments
     ++ taken_of named.Long inherited arguments)
     ++ taken_of named.Short inherited arguments)
     ++ all_conflicts inherited arguments
 
--- the warnings about the arguments of siblings together, which may inherit these arguments, from
--- this index on, and of all below them
+-- the warnings about the arguments of each sibling from this index on, which may inherit these
+-- arguments, and about all below them
 abbrev pub scopes_list : List Arg → List ℕ → ℕ → Forest → List Warning
 scopes_list others path index none = []
 scopes_list others path index (more node below rest) =
@@ -89,7 +88,7 @@ scopes_list others path index (more node below rest) =
     (path ++ index ∷ []) 0 below)
     ++ scopes_list others path (suc index) rest
 
--- the same of a command
+-- the same for one command
 abbrev pub scope_list : List Arg → List ℕ → Tree → List Warning
 scope_list others path tree =
     map (placed path)

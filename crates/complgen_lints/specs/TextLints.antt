@@ -1,6 +1,6 @@
--- What is wrong with names and descriptions: names that scripts cannot hold as they are, possible
--- values that bash splits or runs, quotes that a PowerShell script does not escape, and texts that
--- end a text of the zsh script.
+-- What is wrong with names and descriptions: names that are not plain, possible values that bash
+-- may split, change or run, quotes that a PowerShell script does not escape, and texts that end a
+-- text of the zsh script.
 use Rattle.std.specs.Prelude.{ℕ, Bool, true, false, not, ◌&&◌, ◌==◌, List, [], ◌∷◌, ◌++◌, codes, flat_map, if◌then◌else◌, Option, Some, None}
 use Rattle.std.specs.Char.{is_ascii_alphanumeric}
 use Rattle.cc_base.specs.Bytes.{dash}
@@ -39,7 +39,7 @@ abbrev pub unless_kind : Bool → Kind → Option Kind
 unless_kind true kind = None
 unless_kind false kind = Some kind
 
--- an id or a value name is not plain if it holds a `'`
+-- the keys of labels, which are not plain if they contain a `'`
 abbrev pub is_label : Key → Bool
 is_label key.Id = true
 is_label key.ValueNames = true
@@ -62,8 +62,8 @@ abbrev pub quote_kind : Option ℕ → Option Kind
 quote_kind None = None
 quote_kind (Some quote) = Some (UnescapedQuote quote)
 
--- the signs that end a text of the zsh script: a help there, a help of a possible value, which
--- stands between `"`, and a name, which stands between `:`
+-- the signs that end a text of the zsh script: a help text, the help text of a possible value,
+-- which is between `"`, and a name, which is between `:`
 abbrev pub ending_signs : Key → List ℕ
 ending_signs key.Help = codes "\\"
 ending_signs key.PossibleValues = codes "\""
@@ -84,20 +84,20 @@ content_kind lint key (content.Short short) =
 abbrev pub part_kind : TextLint → Part → Option Kind
 part_kind lint part = content_kind lint part.key part.content
 
--- the parts of a command that a lint looks at
+-- the parts of a command that a lint examines
 abbrev pub command_parts : TextLint → Node → List Part
 command_parts lint.Plain node = name_parts node
 command_parts lint.Quotes node = some_text key.About None node.about
 command_parts _ node = []
 
--- the texts of the zsh script that an argument begins: the id and the help of a positional, the
--- value names of an option
+-- the texts of an argument that the zsh script has: the id and the help text of a positional, or
+-- the value names of an option
 abbrev pub zsh_parts : Arg → List Part
 zsh_parts argument = if is_positional argument
     then text_part key.Id None argument.id ∷ [] ++ some_text key.Help None argument.help
     else listed_texts key.ValueNames argument.value_names
 
--- the parts of an argument that a lint looks at
+-- the parts of an argument that a lint examines
 abbrev pub argument_parts : TextLint → Arg → List Part
 argument_parts lint.Plain argument =
     (label_parts argument ++ short_parts argument) ++ long_parts argument

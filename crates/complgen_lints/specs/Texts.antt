@@ -1,4 +1,4 @@
--- What a warning prints.
+-- The text of a warning.
 use Rattle.std.specs.Prelude.{ℕ, List, [], ◌++◌, Option, Some, codes, decimal, encode_utf8, if◌then◌else◌}
 use Rattle.complgen_lints.specs.Running.{may_run_name, may_run_value}
 use Rattle.complgen_lints.specs.declared.place.Key.{Key}
@@ -12,13 +12,13 @@ use Rattle.complgen_lints.specs.declared.warning.Level.{Level}
 use Rattle.complgen_lints.specs.declared.warning.Level.TheVariants as level
 use Rattle.complgen_lints.specs.declared.warning.Warning.{Warning}
 
--- how serious a kind is
+-- the severity of a kind
 abbrev pub level_of : Kind → Level
 level_of HiddenCommand = level.Note
 level_of HiddenArgument = level.Note
 level_of _ = level.Warning
 
--- what a name is, by its key
+-- what messages call a text at a key
 abbrev pub named : Option Key → List ℕ
 named (Some BinName) = codes "bin name"
 named (Some Aliases) = codes "alias"
@@ -31,7 +31,7 @@ named (Some Help) = codes "help"
 named (Some PossibleValues) = codes "help of this value"
 named _ = codes "name"
 
--- what the flags `help` and `version` are called, by the key
+-- the short of the flag `help` or `version` at the key `short`, or else its long
 abbrev pub help_name : Option Key → List ℕ
 help_name (Some Short) = codes "h"
 help_name _ = codes "help"
@@ -40,7 +40,7 @@ abbrev pub version_name : Option Key → List ℕ
 version_name (Some Short) = codes "V"
 version_name _ = codes "version"
 
--- the text that names nothing of the command
+-- the text of a kind that has the same text for every command
 abbrev pub fixed_text : Kind → List ℕ
 fixed_text SelfConflict = codes "the argument conflicts with itself"
 fixed_text LastOption = codes "only a positional (no short, no long) can be last"
@@ -85,7 +85,7 @@ abbrev pub hyphen_text : List ℕ → List ℕ
 hyphen_text long = (codes "the long `" ++ long
     ++ codes "` begins with a hyphen (write it without)") ++ harm_text long
 
--- the text of a short that is no letter or digit
+-- the text of a short that is not a letter or digit
 abbrev pub sign_text : ℕ → List ℕ
 sign_text short =
     codes "the short `" ++ encode_utf8 short ++ codes "` is not an ASCII letter or digit"
@@ -93,13 +93,13 @@ sign_text short =
 abbrev pub short_text : ℕ → List ℕ
 short_text short = sign_text short ++ harm_text (encode_utf8 short)
 
--- the sign that ends a text of the zsh script, by the key
+-- the signs that end a text of the zsh script, by the key
 abbrev pub zsh_sign : Option Key → List ℕ
 zsh_sign (Some Help) = codes "\\"
 zsh_sign (Some PossibleValues) = codes "\""
 zsh_sign _ = codes ": or a \\"
 
--- the text of a name or a help that ends a text of the zsh script by a sign
+-- the text of a name or a help text that ends a text of the zsh script
 abbrev pub ended_text : List ℕ → List ℕ → List ℕ
 ended_text named sign = codes "the " ++ named ++ codes " contains a " ++ sign
     ++ codes ", which ends a text of the zsh script: the shell may run what follows"
@@ -112,7 +112,7 @@ loud_value_text value = if may_run_value value
     else codes "bash may split or change the value `" ++ value
     ++ codes "` (letters, digits and +-./:@_,= are safe)"
 
--- the text of a name that a generated flag has
+-- the text of a name that a generated flag also has
 abbrev pub generated_text : List ℕ → List ℕ → List ℕ → List ℕ
 generated_text named name flag = codes "the generated " ++ flag ++ codes " flag also has the "
     ++ named ++ codes " `" ++ name ++ codes "`; disable_" ++ flag ++ codes "_flag omits that flag"
@@ -127,7 +127,7 @@ abbrev pub outside_text : List ℕ → List ℕ → List ℕ
 outside_text index count = (codes "there is no index " ++ index ++ codes ": ")
     ++ (codes "indexes go from 1 to " ++ count ++ codes " here")
 
--- the texts of what clap refuses
+-- the texts of the other kinds
 abbrev pub clap_text : Option Key → Kind → List ℕ
 clap_text key (TakenName name command) = taken_text (codes "command") command (codes "name") name
 clap_text key (TakenId id) = codes "an earlier argument has the id `" ++ id ++ codes "`"
@@ -144,7 +144,7 @@ clap_text key (MoreNamesThanValues names greatest) =
 clap_text key (IndexOutOfRange index count) = outside_text index count
 clap_text key kind = fixed_text kind
 
--- the text of a kind, where the key of its place is this one
+-- the text of a kind at this key
 abbrev pub kind_text : Option Key → Kind → List ℕ
 kind_text key (BinNotPlain name) = not_plain_text (codes "bin name") name
 kind_text key (NotPlain name) = not_plain_text (named key) name

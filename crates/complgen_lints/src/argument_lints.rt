@@ -1,4 +1,4 @@
-//! What clap refuses of an argument, alone and in its command.
+//! Finds what clap refuses about an argument, and settings with no effect or a surprising one.
 
 ghost use Rattle.std.specs.Prelude.{◌≡◌, ◌++◌, None, OnOk};
 ghost use Rattle.std.specs.Option.{option_copied};
@@ -18,7 +18,7 @@ use cc_arg::{Arg, ArgAction, ValueHint, counted_range, listed_values};
 use cc_base::Text;
 use cc_command::{Command, Node, node_of};
 
-/// Adds what clap refuses of the arguments of `command`, one by one, and of their order.
+/// Adds findings about each argument of `command`, and then about the order of its positionals.
 pub(crate) fn push_arguments(found: &mut Found, command: &Command) -> Added
     ensures { OnOk result (found.new ≡ found.old ++ arguments_list command.now) }
 {
@@ -50,8 +50,8 @@ fn push_argument(found: &mut Found, command: &Command, index: usize, argument: &
     push_missing(found, command, spot, argument)
 }
 
-// Adds what only a positional can be, or only an option, and an argument that is global and
-// required.
+// Adds findings about an option with `last` or an index, and about an argument that is both global
+// and required.
 fn push_kinds(found: &mut Found, spot: Spot, argument: &Arg) -> Added
     ensures { OnOk result (found.new ≡ found.old ++ kinds_list spot argument.now) }
 {
@@ -64,8 +64,8 @@ fn push_kinds(found: &mut Found, spot: Spot, argument: &Arg) -> Added
     found.note_if(required, spot, Key::Global, Kind::GlobalRequired)
 }
 
-// Adds more value names than values, the hint of a whole command line where there is no room for
-// one, and a positional that takes no value.
+// Adds findings about more value names than values, about the hint `CommandWithArguments` on
+// anything but a positional of many values, and about a positional that takes no value.
 fn push_counts(found: &mut Found, spot: Spot, argument: &Arg) -> Added
     ensures { OnOk result (found.new ≡ found.old ++ counts_list spot argument.now) }
 {
@@ -91,7 +91,8 @@ fn has_command_hint(argument: &Arg) -> bool
     matches!(argument.get_value_hint(), ValueHint::CommandWithArguments)
 }
 
-/// Returns the key that says how many values `argument` takes.
+/// Returns the key that sets how many values `argument` takes: `num_args` if it is set, or else
+/// `action`.
 pub(crate) fn count_key(argument: &Arg) -> Key
     ensures { result ≡ count_key argument.now }
 {
@@ -102,7 +103,8 @@ pub(crate) fn count_key(argument: &Arg) -> Key
     }
 }
 
-// Adds possible values of an argument that takes none, and an empty list of them.
+// Adds findings about possible values of an argument that takes no value, and about an empty list
+// of possible values.
 fn push_values(found: &mut Found, spot: Spot, argument: &Arg) -> Added
     ensures { OnOk result (found.new ≡ found.old ++ values_list spot argument.now) }
 {
@@ -122,14 +124,15 @@ fn has_empty_list(argument: &Arg) -> bool
     }
 }
 
-// A flag that building adds.
+// A flag that building a command may add.
 #[derive(Clone, Copy)]
 enum AddedFlag {
     Help,
     Version,
 }
 
-// Adds the id, the long and the short of the flag, if building adds it.
+// If building adds `flag`, adds a finding for each of its id, long and short that `argument` also
+// has.
 fn push_added(found: &mut Found, flag: AddedFlag, node: &Node, spot: Spot, argument: &Arg) -> Added
     ensures { OnOk result (found.new ≡ found.old ++ added_list flag node.now spot argument.now) }
 {
@@ -151,7 +154,7 @@ fn is_added(flag: AddedFlag, node: &Node) -> bool
     }
 }
 
-// Returns the id of the flag, which is its long too.
+// Returns the id of `flag`, which is also its long.
 fn added_name(flag: AddedFlag) -> &'static str
     ensures { result.now ≡ added_name flag }
 {
@@ -197,7 +200,8 @@ fn is_short(short: Option<char>, other: char) -> bool
     }
 }
 
-// Adds an action that shows a version that is not there, and what children leave no room for.
+// Adds findings about the action `Version` in a command without a version, and about a required
+// `last` argument in a command with subcommands.
 fn push_missing(found: &mut Found, command: &Command, spot: Spot, argument: &Arg) -> Added
     ensures { OnOk result (found.new ≡ found.old ++ missing_list command.now spot argument.now) }
 {
@@ -214,7 +218,7 @@ fn shows_version(argument: &Arg) -> bool
     matches!(argument.get_action(), ArgAction::Version)
 }
 
-// Adds each required positional after an optional one.
+// Adds a finding for each required positional after an optional one.
 fn push_order(found: &mut Found, arguments: &[Arg]) -> Added
     ensures { OnOk result (found.new ≡ found.old ++ order_list None 0 arguments.now) }
 {
@@ -240,7 +244,8 @@ fn push_if_needed(found: &mut Found, index: usize, before: Option<&str>, argumen
     found.note(Spot::Argument(index), Key::Required, None, kind)
 }
 
-// Returns the id of the last optional positional, where `before` is that before `argument`.
+// Returns the id of the last optional positional up to `argument`. `before` is the last one before
+// it. A positional with `last` counts as optional.
 fn optional_after<'a>(before: Option<&'a str>, argument: &'a Arg) -> Option<&'a str>
     ensures { option_copied result
         ≡ optional_after (option_copied before.entry) argument.now }
@@ -252,7 +257,7 @@ fn optional_after<'a>(before: Option<&'a str>, argument: &'a Arg) -> Option<&'a 
     }
 }
 
-// Returns whether `argument` is a required positional that is not last.
+// Returns whether `argument` is a required positional without `last`.
 fn is_needed(argument: &Arg) -> bool
     ensures { result ≡ is_needed argument.now }
 {

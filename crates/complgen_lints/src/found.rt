@@ -1,4 +1,4 @@
-//! The collector of what is found about one command.
+//! Collects findings about one command.
 
 ghost use Rattle.std.specs.Prelude.{◌≡◌, ◌∷◌, [], ◌++◌, None, OnOk};
 ghost use Rattle.complgen_lints.specs.Findings.{finding};
@@ -10,10 +10,11 @@ use cc_base::Items;
 use std::alloc::{AllocError, Global};
 use std::marker::Model;
 
-/// The result of adding to a list.
+/// The result of adding to a list: `AllocError` if an allocation fails.
 pub(crate) type Added = Result<(), AllocError>;
 
-/// A command, one of its children, or one of its arguments. Both are counted from 0.
+/// A command, one of its subcommands, or one of its arguments. Subcommands and arguments are
+/// counted from 0.
 #[derive(Clone, Copy)]
 pub(crate) enum Spot {
     Command,
@@ -26,12 +27,12 @@ pub(crate) enum Spot {
 pub(crate) struct Finding {
     pub(crate) spot: Spot,
     pub(crate) key: Key,
-    /// The item of the key's list, counted from 0.
+    /// The index of an item in the key's list, counted from 0.
     pub(crate) item: Option<usize>,
     pub(crate) kind: Kind,
 }
 
-/// Collects what is found about one command, in order.
+/// The findings about one command, in the order in which they were added.
 #[derive(Drop)]
 pub(crate) struct Found {
     alloc: Global,
@@ -56,7 +57,7 @@ impl Found {
         Found { alloc, list }
     }
 
-    /// Returns what allocates the texts of findings.
+    /// Returns the allocator for the texts of findings.
     pub(crate) fn allocator(&self) -> Global {
         self.alloc
     }
@@ -75,7 +76,7 @@ impl Found {
         Ok(())
     }
 
-    /// Adds a finding about a key if something is `wrong`.
+    /// Adds a finding about `key` if `wrong` is true.
     pub(crate) fn note_if(&mut self, wrong: bool, spot: Spot, key: Key, kind: Kind) -> Added
         ensures { OnOk result (self.new ≡ self.old ++ when wrong (finding spot key None kind)) }
     {

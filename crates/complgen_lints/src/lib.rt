@@ -1,5 +1,5 @@
-//! What a described command has that is taken without a word, and that a script, a promise or clap
-//! fails at: a list of warnings, each with its place and a text for a reader.
+//! Lints for commands: finds what a tree file may describe, but scripts, the promises about scripts
+//! or clap cannot handle. Each warning has a place in the tree and a text for the reader.
 #![tactic(auto)]
 
 mod argument_lints;

@@ -1,4 +1,4 @@
-//! The lints, each of one command and its arguments.
+//! The lints. Each examines one command and its arguments.
 
 ghost use Rattle.std.specs.Prelude.{◌≡◌, ◌++◌, OnOk};
 ghost use Rattle.complgen_lints.specs.CommandWarnings.{clap_list, hidden_argument, hidden_list};
@@ -16,16 +16,17 @@ use crate::warning::Kind;
 use cc_arg::Arg;
 use cc_command::Command;
 
-/// What is looked for in each command of a tree.
+/// A lint that is run on each command of a tree.
 #[derive(Clone, Copy)]
 pub(crate) enum Lint {
-    /// Names that are not plain, and names of children that an earlier one has.
+    /// Names that are not plain, and names of subcommands that are already taken.
     Names,
     /// Names and descriptions that fail a test.
     Texts(TextLint),
-    /// What clap refuses of arguments, but for what they inherit.
+    /// Arguments that clap refuses, and settings with no effect. `push_scope` finds taken ids,
+    /// longs and shorts, and wrong conflicts.
     Clap,
-    /// Hidden commands and arguments, which scripts offer.
+    /// Hidden commands and arguments, which scripts still offer.
     Hidden,
 }
 

@@ -1,4 +1,4 @@
-//! Names of arguments or of children that an earlier one has.
+//! Finds names of arguments or subcommands that are already taken.
 
 ghost use Rattle.std.specs.Prelude.{◌≡◌, ◌++◌, ◌∷◌, [], if◌then◌else◌};
 ghost use Rattle.std.specs.Prelude.{IfOk, List, None, OnOk, Some, ℕ, decimal, map};
@@ -19,7 +19,7 @@ use cc_base::{Text, TextRef};
 use std::alloc::{AllocError, Global};
 use std::collections::BTreeMap;
 
-/// A kind of names of which no two arguments, or no two children, may have the same.
+/// A kind of name. No two arguments of a command may share one, nor may two subcommands.
 #[derive(Clone, Copy)]
 pub(crate) enum Named {
     Id,
@@ -29,20 +29,20 @@ pub(crate) enum Named {
     Child,
 }
 
-/// A name of an argument or of a child.
+/// A name of an argument or subcommand, with its place and owner.
 #[derive(Drop)]
 pub(crate) struct PlacedName<'a> {
-    /// The index of the argument or child.
+    /// The index of the argument or subcommand, counted from 0.
     pub(crate) index: usize,
     pub(crate) key: Key,
-    /// The item of the key's list, counted from 0.
+    /// The index of an item in the key's list, counted from 0.
     pub(crate) item: Option<usize>,
     pub(crate) name: Text,
-    /// The id of the argument, or the name of the child that is no alias.
+    /// The id of the argument, or the name of the subcommand, which is not an alias.
     pub(crate) owner: TextRef<'a>,
 }
 
-/// Adds the names of this kind that `argument` has. An argument has none of a child.
+/// Adds the names of the kind `named` that `argument` has. Adds none for `Named::Child`.
 pub(crate) fn push_names_of<'a>(
     names: &mut Vec<PlacedName<'a>>,
     alloc: Global,
@@ -65,7 +65,7 @@ pub(crate) fn push_names_of<'a>(
     push_named_parts(names, alloc, index, id, &parts)
 }
 
-/// Adds the names of this kind that some arguments have.
+/// Adds the names of the kind `named` that `arguments` have.
 pub(crate) fn push_all_names<'a>(
     names: &mut Vec<PlacedName<'a>>,
     alloc: Global,
@@ -81,7 +81,7 @@ pub(crate) fn push_all_names<'a>(
     Ok(())
 }
 
-/// Adds parts as names of the argument or child with this index.
+/// Adds `parts` as names of `owner`, the argument or subcommand at `index`.
 pub(crate) fn push_named_parts<'a>(
     names: &mut Vec<PlacedName<'a>>,
     alloc: Global,
@@ -134,7 +134,7 @@ fn push_name<'a>(
     Ok(())
 }
 
-// Adds the index of a positional, if one is given.
+// Adds the index of a positional, if one is set.
 fn push_some_index<'a>(
     names: &mut Vec<PlacedName<'a>>,
     alloc: Global,
@@ -153,7 +153,7 @@ fn push_some_index<'a>(
     }
 }
 
-/// Adds an index as a name of a positional.
+/// Adds `index` as a name of the positional with this `id`, which is argument number `argument`.
 pub(crate) fn push_index<'a>(
     names: &mut Vec<PlacedName<'a>>,
     alloc: Global,
@@ -174,15 +174,15 @@ pub(crate) fn push_index<'a>(
     )
 }
 
-/// Returns a number in decimal digits.
+/// Returns `number` in decimal digits.
 pub(crate) fn number_text(alloc: Global, number: usize) -> Result<Text, AllocError>
     ensures { IfOk result (λ text. text ≡ decimal number) }
 {
     Ok(Text::from(format!(in alloc; "{number}")?))
 }
 
-/// Adds a finding for each name that an earlier one, or one of `others`, has. Takes time that grows
-/// with the number of names times its logarithm.
+/// Adds a finding for each of `names` that equals an earlier one of them, or one of `others`. Looks
+/// names up in a `BTreeMap`, so that n names take n log n steps.
 pub(crate) fn push_taken(
     found: &mut Found,
     named: Named,
@@ -199,7 +199,7 @@ pub(crate) fn push_taken(
     Ok(())
 }
 
-/// Returns the names, each with the last owner that has it.
+/// Returns a map from each name to its last owner in `names`.
 pub(crate) fn seen_of<'a>(
     alloc: Global,
     names: &'a [PlacedName<'_>],
@@ -214,7 +214,7 @@ pub(crate) fn seen_of<'a>(
     Ok(seen)
 }
 
-// Keeps the name with the owner that has it, and returns the last one that had it before.
+// Makes `owner` the owner of `name` in `seen`, and returns its previous owner.
 fn keep<'a>(
     seen: &mut BTreeMap<&'a str, TextRef<'a>>,
     name: &'a str,
@@ -227,7 +227,7 @@ fn keep<'a>(
     Ok(seen.insert(name, TextRef::new(owner))?)
 }
 
-// Adds a finding about a name that `owner`, if there is one, has before.
+// Adds a finding about `name` if it has an earlier `owner`.
 fn push_if_taken(
     found: &mut Found,
     named: Named,

@@ -13,7 +13,7 @@ use cc_arg::{Arg, PossibleValue};
 use cc_base::{Text, TextRef};
 use cc_command::Command;
 
-/// A text, or a short.
+/// A text or a short.
 #[derive(Drop)]
 pub(crate) enum Content<'a> {
     Text(TextRef<'a>),
@@ -24,7 +24,7 @@ pub(crate) enum Content<'a> {
 #[derive(Drop)]
 pub(crate) struct Part<'a> {
     pub(crate) key: Key,
-    /// The item of the key's list, counted from 0.
+    /// The index of an item in the key's list, counted from 0.
     pub(crate) item: Option<usize>,
     pub(crate) content: Content<'a>,
 }
@@ -65,7 +65,7 @@ pub(crate) fn push_label_parts<'a>(parts: &mut Vec<Part<'a>>, argument: &'a Arg)
     push_texts(parts, Key::ValueNames, argument.get_value_names())
 }
 
-/// Adds a text at a key, or at an item of the key's list.
+/// Adds `text` at `key`, or at `item` of the key's list.
 pub(crate) fn push_text<'a>(
     parts: &mut Vec<Part<'a>>,
     key: Key,
@@ -79,7 +79,7 @@ pub(crate) fn push_text<'a>(
     Ok(())
 }
 
-/// Adds a text at a key, or at an item of the key's list, if there is one.
+/// Adds `text`, unless it is `None`, at `key`, or at `item` of the key's list.
 pub(crate) fn push_some_text<'a>(
     parts: &mut Vec<Part<'a>>,
     key: Key,
@@ -95,7 +95,7 @@ pub(crate) fn push_some_text<'a>(
     }
 }
 
-/// Adds the texts of a key's list.
+/// Adds `texts`, the list at `key`.
 pub(crate) fn push_texts<'a>(parts: &mut Vec<Part<'a>>, key: Key, texts: &'a [Text]) -> Added
     ensures { OnOk result (parts.new.items ≡ parts.old.items ++ listed_texts key texts.now) }
 {
@@ -131,7 +131,7 @@ fn push_shorts(parts: &mut Vec<Part<'_>>, key: Key, shorts: &[char]) -> Added
     Ok(())
 }
 
-/// Adds the names of possible values.
+/// Adds the names of the possible values `values`.
 pub(crate) fn push_value_names<'a>(parts: &mut Vec<Part<'a>>, values: &'a [PossibleValue]) -> Added
     ensures { OnOk result (parts.new.items
         ≡ parts.old.items ++ value_names values.now) }
@@ -142,7 +142,7 @@ pub(crate) fn push_value_names<'a>(parts: &mut Vec<Part<'a>>, values: &'a [Possi
     Ok(())
 }
 
-/// Adds the help texts of possible values.
+/// Adds the help texts of the possible values `values`.
 pub(crate) fn push_value_helps<'a>(parts: &mut Vec<Part<'a>>, values: &'a [PossibleValue]) -> Added
     ensures { OnOk result (parts.new.items ≡ parts.old.items ++ value_helps values.now) }
 {

@@ -1,11 +1,11 @@
-//! Where in a tree a warning is.
+//! The place of a warning in a tree.
 
 ghost use Rattle.std.specs.Prelude.{◌≡◌};
 ghost use Rattle.complgen_lints.specs.Places.{key_text};
 
 use cc_base::Items;
 
-/// A key of a command, of an argument or of a possible value, as a tree file has it.
+/// A key of a command or of an argument in a tree file.
 #[derive(Clone, Copy, PartialEq, Eq, Debug)]
 pub enum Key {
     /// `name`
@@ -55,7 +55,7 @@ pub enum Key {
 }
 
 impl Key {
-    /// The key as it is written.
+    /// Returns the key as a tree file spells it.
     pub fn as_str(self) -> &'static str
         ensures { result.now ≡ key_text self }
     {
@@ -86,15 +86,17 @@ impl Key {
     }
 }
 
-/// A place in a tree: a command, one of its arguments, a key of that, an item of the key's list.
+/// A place in a tree: a command, one of its arguments, a key of either, or an item of the key's
+/// list.
 #[derive(Drop, Debug)]
 pub struct Place {
-    /// The command: from the root on, which of the children (`subcommands`), counted from 0.
+    /// The path from the root to the command: indexes in `subcommands`, counted from 0.
     pub command: Items<usize>,
-    /// Which of its arguments (`args`), counted from 0; `None` where the place is the command's.
+    /// The index of the argument in `args`, counted from 0, or `None` for the command itself.
     pub argument: Option<usize>,
-    /// The key; `None` for the whole command.
+    /// The key, or `None` for the whole command.
     pub key: Option<Key>,
-    /// Which item of the key's list, counted from 0; `None` for the whole value of the key.
+    /// The index of an item in the key's list, counted from 0, or `None` for the whole value of the
+    /// key.
     pub item: Option<usize>,
 }

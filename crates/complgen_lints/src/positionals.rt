@@ -1,4 +1,4 @@
-//! What clap refuses of the positionals of a command together.
+//! Finds what clap refuses about the positionals of a command together.
 
 ghost use Rattle.std.specs.Prelude.{◌≡◌, ◌<◌, ◌-◌, ◌^◌, ◌++◌, IfOk, OnOk, decimal, false};
 ghost use Rattle.std.specs.Option.{option_copied};
@@ -24,7 +24,8 @@ use cc_arg::{Arg, ArgAction, counted_range};
 use cc_command::lacks_index;
 use std::alloc::{AllocError, Global};
 
-/// Adds what clap refuses of the positionals of a command together.
+/// Adds what clap refuses about the positionals among `arguments`: indexes out of range, taken
+/// indexes, many values before the last positional, and a second positional with `last`.
 pub(crate) fn push_positionals(found: &mut Found, arguments: &[Arg]) -> Added
     ensures { OnOk result (found.new ≡ found.old ++ positional_list arguments.now) }
 {
@@ -56,7 +57,7 @@ fn counted_with(count: usize, argument: &Arg) -> usize
     }
 }
 
-// Adds indexes that are 0, or greater than the number of positionals.
+// Adds a finding for each index that is 0, or greater than `count`, the number of positionals.
 fn push_outside(found: &mut Found, count: usize, arguments: &[Arg]) -> Added
     ensures { OnOk result (found.new ≡ found.old
         ++ each_from (λ index argument. outside_list count index (is_positional argument)
@@ -99,7 +100,8 @@ fn outside_kind(alloc: Global, index: usize, count: usize) -> Result<Kind, Alloc
     Ok(Kind::IndexOutOfRange(index, count))
 }
 
-// Adds given indexes that another positional has.
+// Adds a finding for each index that is set, if an earlier positional sets it too, or if a
+// positional without one gets it by counting.
 fn push_taken_indexes(found: &mut Found, arguments: &[Arg]) -> Added
     ensures { OnOk result (found.new ≡ found.old
         ++ taken_from named.Index (each_numbered counted_index 1 0 arguments.now)
@@ -113,7 +115,7 @@ fn push_taken_indexes(found: &mut Found, arguments: &[Arg]) -> Added
     push_taken(found, Named::Index, &counted, &given)
 }
 
-// Adds the indexes of the positionals for which none is given.
+// Adds the counted indexes of the positionals for which none is set.
 fn push_counted<'a>(names: &mut Vec<PlacedName<'a>>, alloc: Global, arguments: &'a [Arg]) -> Added
     ensures { OnOk result (names.new.items
         ≡ names.old.items ++ each_numbered counted_index 1 0 arguments.now) }
@@ -142,7 +144,7 @@ fn push_if_counted<'a>(
     push_index(names, alloc, index, number, argument.get_id())
 }
 
-// Returns the index that is free after an argument.
+// Returns the next index to count after `argument`. `number` is the next one before it.
 fn next_index(number: usize, argument: &Arg) -> usize
     requires { number < 2 ^ 64 - 1 }
     ensures { result ≡ next_index number argument.now }
@@ -154,7 +156,8 @@ fn next_index(number: usize, argument: &Arg) -> usize
     }
 }
 
-// Adds positionals of many values that are not the last one, unless it is known where these end.
+// Adds a finding for each positional of many values before the last positional, unless `many_end`
+// holds.
 fn push_many(found: &mut Found, count: usize, arguments: &[Arg]) -> Added
     ensures { OnOk result (found.new ≡ found.old
         ++ each_numbered (many_list count (many_end count arguments.now)) 1 0 arguments.now) }
@@ -197,14 +200,16 @@ fn is_append(argument: &Arg) -> bool
     matches!(argument.get_action(), ArgAction::Append)
 }
 
-// Returns the index of a positional, where `number` is the next that is free.
+// Returns the index of a positional: the one that is set, or else `number`.
 fn index_of(number: usize, argument: &Arg) -> usize
     ensures { result ≡ index_of number argument.now }
 {
     argument.get_index().unwrap_or(number)
 }
 
-// Returns whether it is known where the values of a positional that is not the last one end.
+// Returns whether clap can tell where many values before the last positional end: the last
+// positional is required or has `last`, or the one before it has `last` or a terminator. Also
+// returns true if no positional has the index `count`.
 fn many_end(count: usize, arguments: &[Arg]) -> bool
     ensures { result ≡ many_end count arguments.now }
 {
@@ -230,7 +235,7 @@ fn ends_itself(argument: Option<&Arg>) -> bool
     }
 }
 
-// Returns the first positional with the index `wanted`.
+// Returns the first positional with the index `wanted`, if there is one.
 fn with_index(wanted: usize, arguments: &[Arg]) -> Option<&Arg>
     ensures { option_copied result ≡ with_index wanted 1 arguments.now }
 {
@@ -244,7 +249,7 @@ fn with_index(wanted: usize, arguments: &[Arg]) -> Option<&Arg>
     None
 }
 
-// Adds positionals that are last, but for the first one.
+// Adds a finding for each positional with `last` except the first.
 fn push_last(found: &mut Found, arguments: &[Arg]) -> Added
     ensures { OnOk result (found.new ≡ found.old ++ last_list false 0 arguments.now) }
 {

@@ -1,4 +1,4 @@
-//! The warnings about what the promises of scripts take for granted.
+//! Warns if a premise of the promises about scripts does not hold.
 
 ghost use Rattle.std.specs.Prelude.{◌≡◌, [], ◌++◌, IfOk, IsTrue, None, OnOk, Some};
 ghost use Rattle.std.specs.Option.{option_copied};
@@ -17,11 +17,15 @@ use cc_base::{Items, Text, is_plain_name};
 use cc_command::Command;
 use std::alloc::{AllocError, Global};
 
-/// Returns the warnings about what the promises of scripts take for granted: that names are plain,
-/// also the bin name `bin`, that possible values are quiet, and that PowerShell's script escapes
-/// each quote. There are none exactly if all of this holds. First come those about names, then
-/// those about possible values, then those about quotes; each command by command, a command before
-/// those below it.
+/// Returns the warnings about premises of the promises about scripts that do not hold. There are no
+/// warnings exactly if all these premises hold:
+///
+/// - names are plain, also the bin name `bin`, and subcommands of one command have different names;
+/// - possible values are quiet;
+/// - the PowerShell script escapes each quote.
+///
+/// First come the warnings about names, then those about possible values, then those about quotes.
+/// In each group, those about a command come before those about the commands below it.
 ///
 /// # Errors
 ///
@@ -42,12 +46,17 @@ pub fn premise_warnings(
     Ok(warnings)
 }
 
-/// Returns the warnings and notes about a command that is called by the bin name `bin`, if one is
-/// passed: those of `premise_warnings`; then those about names and help texts that end a text of
-/// the zsh script; then those about what clap refuses, first of each command by itself, then of its
-/// arguments together with those that it inherits; then the notes about what is hidden. A label of
-/// the bash script that two commands share is not among them. If there are none but notes, what the
-/// promises of scripts take for granted holds.
+/// Returns the warnings and notes about `command`, which is called by the bin name `bin` if that is
+/// not `None`. They come in this order:
+///
+/// 1. the warnings of `premise_warnings`;
+/// 2. names and help texts that end a text of the zsh script;
+/// 3. what clap refuses about each command by itself, and settings of its arguments with no effect;
+/// 4. what clap refuses about the arguments of a command together with those that it inherits;
+/// 5. notes about hidden commands and arguments.
+///
+/// A label of the bash script that two commands share is not among them. If there are only notes,
+/// the premises that `premise_warnings` checks hold.
 ///
 /// # Errors
 ///
@@ -100,8 +109,8 @@ fn root(alloc: Global) -> At<'static>
     At { alloc, path: &[] }
 }
 
-// Adds a bin name that is not plain: that of a call, which has no place in the tree, or the root's,
-// which has a key.
+// Adds a warning if `bin` is not plain. `key` is `None` for the bin name of a call, which has no
+// place in the tree.
 fn push_bin(
     warnings: &mut Vec<Warning>,
     alloc: Global,

@@ -1,12 +1,13 @@
-//! Which values and names a shell may run, or a part of them.
+//! Checks whether a shell may run a value or a name, or a part of it.
 
 ghost use Rattle.std.specs.Prelude.{◌≡◌};
 ghost use Rattle.complgen_lints.specs.Running.{ends_with_backslash, holds_one_of};
 ghost use Rattle.complgen_lints.specs.Running.{is_one_of, is_word_byte, may_run_name};
 ghost use Rattle.complgen_lints.specs.Running.{may_run_value};
 
-/// Returns whether bash may run a possible value, or a part of it, when a user presses Tab: it
-/// holds a `$`, a backtick or a `"`, ends with a backslash, or holds a `(` and a `<` or `>`.
+/// Returns whether bash may run the possible value `value`, or a part of it, when a user presses
+/// Tab: it contains a `$`, a backtick or a `"`, ends with a backslash, or contains a `(` and a `<`
+/// or `>`.
 pub(crate) fn may_run_value(value: &str) -> bool
     ensures { result ≡ may_run_value value.now }
 {
@@ -16,8 +17,9 @@ pub(crate) fn may_run_value(value: &str) -> bool
         || (holds_one_of(b"<>", bytes) && holds_one_of(b"(", bytes))
 }
 
-/// Returns whether a shell may run a name, or a part of it, where a script writes it bare: it holds
-/// something other than ASCII letters, digits, `+-./:@_,=%?*`, spaces and characters beyond ASCII.
+/// Returns whether a shell may run `name`, or a part of it, if a script writes it without quotes:
+/// it contains something other than ASCII letters, digits, `+-./:@_,=%?*`, spaces and characters
+/// beyond ASCII.
 pub(crate) fn may_run_name(name: &str) -> bool
     ensures { result ≡ may_run_name name.now }
 {
@@ -30,7 +32,7 @@ fn is_word_byte(byte: u8) -> bool
     byte.is_ascii_alphanumeric() || is_one_of(b"+-./:@_,=%?* ", byte) || byte > 127
 }
 
-/// Returns whether a text holds one of some signs.
+/// Returns whether `bytes` contains one of `signs`.
 pub(crate) fn holds_one_of(signs: &[u8], bytes: &[u8]) -> bool
     ensures { result ≡ holds_one_of signs.now bytes.now }
 {

@@ -1,5 +1,5 @@
-//! What clap refuses of the arguments of a command together, with the global ones of the commands
-//! above it.
+//! Finds what clap refuses about the arguments of a command together with the global arguments of
+//! the commands above it.
 
 ghost use Rattle.std.specs.Prelude.{◌≡◌, ◌++◌, [], IfOk, OnOk, map};
 ghost use Rattle.std.specs.Str.{bytes_eq};
@@ -23,8 +23,8 @@ use cc_command::{Command, has_id};
 use std::alloc::{AllocError, Global};
 use std::collections::BTreeMap;
 
-/// Adds the warnings about the arguments of a command together, which may inherit `others`, then
-/// those about each child.
+/// Adds the warnings about the arguments of `command` together with those of `others` that it
+/// inherits, then the warnings about each subcommand.
 #[cycle(scopes)]
 pub(crate) fn push_scope<'a>(
     warnings: &mut Vec<Warning>,
@@ -78,7 +78,7 @@ fn place_together(
     place_all(warnings, at, found)
 }
 
-// Returns the others, but for those with an id that one of the arguments has.
+// Returns `others` without those whose id one of `arguments` has.
 fn inherited_with<'a>(
     alloc: Global,
     arguments: &[Arg],
@@ -97,7 +97,7 @@ fn inherited_with<'a>(
     Ok(kept)
 }
 
-// Adds the global ones of the arguments.
+// Adds the global ones among `arguments`.
 fn push_globals<'a>(inherited: &mut Vec<&'a Arg>, arguments: &'a [Arg]) -> Added
     ensures { OnOk result (map (λ other. other.now) inherited.new.items
         ≡ passed_on (map (λ other. other.now) inherited.old.items) arguments.now) }
@@ -111,7 +111,7 @@ fn push_globals<'a>(inherited: &mut Vec<&'a Arg>, arguments: &'a [Arg]) -> Added
     Ok(())
 }
 
-// Adds ids, then longs, then shorts that an earlier argument has, and conflicts.
+// Adds findings about taken ids, then longs, then shorts, and then about conflicts.
 fn push_together(found: &mut Found, inherited: &[&Arg], arguments: &[Arg]) -> Added
     ensures { OnOk result (found.new ≡ found.old
         ++ together_list (map (λ other. other.now) inherited.now) arguments.now) }
@@ -149,7 +149,7 @@ fn push_inherited_names<'a>(
     Ok(())
 }
 
-// Adds conflicts. Ids are collected only if an argument has a list of conflicts.
+// Adds findings about conflicts. Collects ids only if an argument has conflicts.
 fn push_conflicts_if_any(found: &mut Found, inherited: &[&Arg], arguments: &[Arg]) -> Added
     ensures { OnOk result (found.new ≡ found.old
         ++ all_conflicts (map (λ other. other.now) inherited.now) arguments.now) }
@@ -225,7 +225,7 @@ fn push_conflict(found: &mut Found, argument: usize, item: usize, kind: Option<K
     }
 }
 
-// Returns what is wrong with the id of a conflict.
+// Returns what is wrong with `id`, a conflict of `argument`, if anything is.
 fn conflict_kind(
     alloc: Global,
     seen: &BTreeMap<&str, TextRef<'_>>,
@@ -244,7 +244,7 @@ fn conflict_kind(
     Ok(None)
 }
 
-// Returns whether an argument, or a flag that building may add, has the id.
+// Returns whether `id` is in `seen`, or is the id of a flag that building may add.
 fn is_known(seen: &BTreeMap<&str, TextRef<'_>>, id: &str) -> bool
     ensures { result ≡ is_known_in seen.now id.now }
 {

@@ -1,4 +1,4 @@
-//! Names of children that an earlier one has.
+//! Finds names of subcommands that are already taken.
 
 ghost use Rattle.std.specs.Prelude.{◌≡◌, ◌++◌, OnOk};
 ghost use Rattle.cc_command.specs.Tree.{forest_of};
@@ -10,7 +10,8 @@ use crate::parts::push_name_parts;
 use cc_command::Command;
 use std::alloc::Global;
 
-/// Adds a finding for each name of a child that an earlier one, or the same child, has.
+/// Adds a finding for each name or alias of `children` that an earlier child has, or the same child
+/// before.
 pub(crate) fn push_taken_names(found: &mut Found, children: &[Command]) -> Added
     ensures { OnOk result (found.new ≡ found.old ++ taken_names (forest_of children.now)) }
 {

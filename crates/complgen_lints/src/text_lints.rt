@@ -1,4 +1,4 @@
-//! What is wrong with names and descriptions.
+//! Finds what is wrong with names and descriptions.
 
 ghost use Rattle.std.specs.Prelude.{◌≡◌, ◌++◌, IfOk, OnOk};
 ghost use Rattle.complgen_lints.specs.Parts.{values_of};
@@ -24,13 +24,13 @@ use std::alloc::{AllocError, Global};
 /// A test of names and descriptions.
 #[derive(Clone, Copy)]
 pub(crate) enum TextLint {
-    /// Names that scripts cannot hold as they are.
+    /// Names that are not plain.
     Plain,
-    /// Possible values that bash splits or runs.
+    /// Possible values that bash may split, change or run.
     Quiet,
     /// Quotes that a PowerShell script does not escape.
     Quotes,
-    /// Texts at which a text of the zsh script ends, so that zsh may run what follows.
+    /// Names and help texts that end a text of the zsh script, so that zsh may run what follows.
     Zsh,
 }
 
@@ -62,7 +62,7 @@ fn push_argument(found: &mut Found, lint: TextLint, index: usize, argument: &Arg
     push_parts(found, lint, Spot::Argument(index), &parts)
 }
 
-// Adds the parts of a command that the lint looks at.
+// Adds the parts of `command` that `lint` examines.
 fn push_command_parts<'a>(parts: &mut Vec<Part<'a>>, lint: TextLint, command: &'a Command) -> Added
     ensures { OnOk result (parts.new.items
         ≡ parts.old.items ++ command_parts lint command.now.node) }
@@ -74,7 +74,7 @@ fn push_command_parts<'a>(parts: &mut Vec<Part<'a>>, lint: TextLint, command: &'
     }
 }
 
-// Adds the parts of an argument that the lint looks at.
+// Adds the parts of `argument` that `lint` examines.
 fn push_argument_parts<'a>(parts: &mut Vec<Part<'a>>, lint: TextLint, argument: &'a Arg) -> Added
     ensures { OnOk result (parts.new.items ≡ parts.old.items ++ argument_parts lint argument.now) }
 {
@@ -93,7 +93,7 @@ fn push_argument_parts<'a>(parts: &mut Vec<Part<'a>>, lint: TextLint, argument: 
     }
 }
 
-// Adds the id and the help of a positional, or the value names of an option.
+// Adds the id and the help text of a positional, or the value names of an option.
 fn push_zsh_parts<'a>(parts: &mut Vec<Part<'a>>, argument: &'a Arg) -> Added
     ensures { OnOk result (parts.new.items ≡ parts.old.items ++ zsh_parts argument.now) }
 {
@@ -131,7 +131,7 @@ fn push_part(found: &mut Found, lint: TextLint, spot: Spot, part: &Part<'_>) -> 
     }
 }
 
-// Returns what is wrong with a text or a short at a key.
+// Returns what is wrong with a text or a short at `key`, if anything is.
 fn content_kind(
     alloc: Global,
     lint: TextLint,
@@ -205,8 +205,8 @@ fn begins_with_hyphen(text: &str) -> bool
     matches!(text.as_bytes(), [b'-', ..])
 }
 
-// Returns the signs that end a text of the zsh script: a help there, the help of a possible value,
-// or a name.
+// Returns the signs that end a text of the zsh script, depending on `key`: a help text, the help
+// text of a possible value, or a name.
 fn ending_signs(key: Key) -> &'static [u8]
     ensures { result.now ≡ ending_signs key }
 {

@@ -1,4 +1,4 @@
-//! The text of a warning.
+//! Writes the text of a warning.
 
 ghost use Rattle.std.specs.Prelude.{◌≡◌, Some};
 ghost use Rattle.std.specs.Fmt.{DisplaysOnOk};
@@ -14,7 +14,7 @@ use crate::running::{may_run_name, may_run_value};
 use crate::warning::{Kind, Warning};
 use std::fmt;
 
-/// The text of the warning, without its place.
+/// Writes the text of the warning, without its place.
 impl fmt::Display for Warning {
     ghost output = { λ warning. Some (warning_text warning) };
 
@@ -127,7 +127,7 @@ fn write_ended<W: fmt::Write>(named: &str, sign: &str, f: &mut fmt::Formatter<W>
     )
 }
 
-// Returns the sign that ends a text of the zsh script.
+// Returns the signs that end a text of the zsh script, as messages name them.
 fn zsh_sign(key: Option<Key>) -> &'static str
     ensures { result.now ≡ zsh_sign key }
 {
@@ -156,7 +156,7 @@ fn write_loud_value<W: fmt::Write>(value: &str, f: &mut fmt::Formatter<W>) -> fm
     }
 }
 
-// Writes what clap refuses of names, numbers of values and indexes.
+// Writes the text of a kind that `write_kind` does not write itself.
 fn write_clap<W: fmt::Write>(
     key: Option<Key>,
     kind: &Kind,
@@ -234,7 +234,7 @@ fn write_generated<W: fmt::Write>(
     )
 }
 
-// Returns the word for a text at this key.
+// Returns what messages call a text at `key`.
 fn named(key: Option<Key>) -> &'static str
     ensures { result.now ≡ named key }
 {
@@ -251,7 +251,7 @@ fn named(key: Option<Key>) -> &'static str
     }
 }
 
-// Returns the short of the generated help flag, or its long.
+// Returns the short of the generated help flag if `key` is `short`, or else its long.
 fn help_name(key: Option<Key>) -> &'static str
     ensures { result.now ≡ help_name key }
 {
@@ -261,7 +261,7 @@ fn help_name(key: Option<Key>) -> &'static str
     }
 }
 
-// Returns the short of the generated version flag, or its long.
+// Returns the short of the generated version flag if `key` is `short`, or else its long.
 fn version_name(key: Option<Key>) -> &'static str
     ensures { result.now ≡ version_name key }
 {
@@ -271,7 +271,7 @@ fn version_name(key: Option<Key>) -> &'static str
     }
 }
 
-// Returns a text that names nothing of the command.
+// Returns the text of a kind that has the same text for every command, or else an empty text.
 fn fixed_text(kind: &Kind) -> &'static str
     ensures { result.now ≡ fixed_text kind.now }
 {

@@ -1,4 +1,4 @@
-//! A walk over a tree, which places what is found about each command.
+//! Walks over a tree, and turns the findings about each command into warnings.
 
 ghost use Rattle.std.specs.Prelude.{◌≡◌, ◌∷◌, [], ◌++◌, IfOk, OnOk, map};
 ghost use Rattle.cc_command.specs.Tree.{forest_of};
@@ -14,15 +14,15 @@ use cc_base::Items;
 use cc_command::Command;
 use std::alloc::{AllocError, Global};
 
-/// The command that warnings are about, and what allocates their parts.
+/// The path of a command, and the allocator for warnings about it.
 #[derive(Clone, Copy)]
 pub(crate) struct At<'a> {
     pub(crate) alloc: Global,
-    /// The path of the command from the root on: indexes of children, counted from 0.
+    /// The path from the root to the command: indexes of subcommands, counted from 0.
     pub(crate) path: &'a [usize],
 }
 
-/// Adds what `lint` finds in a command, then in each child and all below it.
+/// Adds what `lint` finds in `command`, then in each subcommand and all below it.
 #[cycle(walk)]
 pub(crate) fn push_tree(
     warnings: &mut Vec<Warning>,
@@ -55,7 +55,7 @@ fn push_children(warnings: &mut Vec<Warning>, lint: Lint, at: At<'_>, children: 
     Ok(())
 }
 
-/// Adds what was found about the command at a path, as warnings.
+/// Adds the findings about the command at `at`, as warnings.
 pub(crate) fn place_all(warnings: &mut Vec<Warning>, at: At<'_>, found: Found) -> Added
     ensures { OnOk result (warnings.new.items
         ≡ warnings.old.items ++ map (placed at.entry.path.now) found) }
@@ -97,7 +97,7 @@ fn spot_argument(spot: Spot) -> Option<usize>
     }
 }
 
-/// Returns the path of a child.
+/// Returns the path of the subcommand at `index`.
 pub(crate) fn child_path(at: At<'_>, index: usize) -> Result<Vec<usize>, AllocError>
     ensures { IfOk result (λ path. path.items ≡ at.entry.path.now ++ index ∷ []) }
 {

@@ -1,4 +1,4 @@
-//! A warning.
+//! Warnings, and what they are about.
 
 ghost use Rattle.std.specs.Prelude.{◌≡◌};
 ghost use Rattle.complgen_lints.specs.Notes.{are_notes, is_note};
@@ -7,16 +7,16 @@ ghost use Rattle.complgen_lints.specs.Texts.{level_of};
 use crate::place::Place;
 use cc_base::Text;
 
-/// How serious a warning is.
+/// The severity of a warning.
 #[derive(Clone, Copy, PartialEq, Eq, Debug)]
 pub enum Level {
     /// A script may break, or clap refuses the command.
     Warning,
-    /// Nothing is wrong; a reader may expect something else.
+    /// Nothing is wrong, but the reader may expect something else.
     Note,
 }
 
-/// What a warning is about, with what its text names.
+/// The subject of a warning, with the names and numbers in its text.
 #[derive(Drop, Debug)]
 pub enum Kind {
     /// The bin name of a call is not plain.
@@ -25,66 +25,71 @@ pub enum Kind {
     NotPlain(Text),
     /// A long begins with a hyphen.
     LongWithHyphen(Text),
-    /// A short is no ASCII letter or digit.
+    /// A short is not an ASCII letter or digit.
     ShortNotPlain(char),
-    /// An id or a value name holds a `'`.
+    /// An id or a value name contains a `'`.
     Quote,
-    /// A name or a help that ends a text of the zsh script: a value name of an option, or an id of a
-    /// positional, with a `:` or a backslash; the help of a positional with a backslash; or the help
-    /// of a possible value with a `"`.
+    /// A name or a help text that ends a text of the zsh script:
+    ///
+    /// - a value name of an option, or an id of a positional, with a `:` or a backslash;
+    /// - the help text of a positional with a backslash;
+    /// - the help text of a possible value with a `"`.
     ZshSign,
-    /// A name of a child that an earlier one has, or the same child: the name, and the name of that
-    /// child.
+    /// A name of a subcommand that an earlier one has, or the same one before: the name, and the
+    /// name of that subcommand.
     TakenName(Text, Text),
     /// A possible value that is not quiet.
     LoudValue(Text),
     /// A label of the bash script that two commands share.
     SharedLabel(Text),
-    /// A quote of PowerShell that its script does not escape.
+    /// A character that PowerShell takes as a quote, and that its script does not escape.
     UnescapedQuote(char),
     /// An id that an earlier argument has.
     TakenId(Text),
-    /// A long or an alias of a long that an argument has: the long, and the id of that argument.
+    /// A long or an alias of a long that another argument has, or the same one before: the long,
+    /// and the id of that argument.
     TakenLong(Text, Text),
-    /// A short or an alias of a short that an argument has: the short, and the id of that argument.
+    /// A short or an alias of a short that another argument has, or the same one before: the short,
+    /// and the id of that argument.
     TakenShort(Text, Text),
-    /// The short, the long or the id of the generated flag `help`.
+    /// An argument with the short, the long or the id of the generated flag `help`.
     TakenByHelp,
-    /// The short, the long or the id of the generated flag `version`.
+    /// An argument with the short, the long or the id of the generated flag `version`.
     TakenByVersion,
     /// An id in a list of conflicts that no argument has.
     UnknownConflict(Text),
-    /// An argument in conflict with itself.
+    /// An argument that conflicts with itself.
     SelfConflict,
-    /// A required positional after an optional one, which has this id.
+    /// A required positional after an optional one: the id of the optional one.
     RequiredAfterOptional(Text),
-    /// An option that is last.
+    /// An option with `last`.
     LastOption,
-    /// An argument that is global and required.
+    /// An argument that is both global and required.
     GlobalRequired,
     /// More value names than values: how many names, and the greatest number of values.
     MoreNamesThanValues(usize, usize),
-    /// The hint of a whole command line at an argument that is no positional of many values.
+    /// The hint `CommandWithArguments` on an argument that is not a positional of many values.
     CommandHintWithoutMany,
     /// A positional that takes no value.
     PositionalWithoutValue,
-    /// The action that shows a version, in a command without one.
+    /// The action `Version` in a command without a version.
     NoVersion,
-    /// The index of an option.
+    /// An index of an option.
     IndexOfOption,
     /// An index that is 0, or greater than the number of positionals: the index, and that number.
     IndexOutOfRange(Text, Text),
-    /// An index that another positional has: the index, and the id of that one.
+    /// An index that another positional has: the index, and the id of that positional.
     TakenIndex(Text, Text),
-    /// A positional of many values that is not the last one, where nothing says where they end.
+    /// A positional of many values before the last positional, if clap cannot tell where the values
+    /// end.
     ManyBeforeLast,
-    /// A positional that is last, after another such one.
+    /// A positional with `last` after another such positional.
     SecondLast,
-    /// Possible values of an argument that takes none.
+    /// Possible values of an argument that takes no value.
     ValuesOfFlag,
-    /// An empty list of possible values, at an argument that takes values.
+    /// An empty list of possible values, on an argument that takes values.
     NoValues,
-    /// A required positional that is last, in a command with children.
+    /// A required argument with `last`, in a command with subcommands.
     LastBesideChildren,
     /// A hidden command.
     HiddenCommand,
@@ -92,24 +97,25 @@ pub enum Kind {
     HiddenArgument,
 }
 
-/// A warning.
+/// A warning or note about a place in a tree.
 #[derive(Drop, Debug)]
 pub struct Warning {
-    /// Where it is.
+    /// The place of the warning.
     pub place: Place,
-    /// What it is about.
+    /// The subject of the warning.
     pub kind: Kind,
 }
 
 impl Warning {
-    /// Whether it is a note.
+    /// Returns whether the warning is a note.
     pub fn is_note(&self) -> bool
         ensures { result ≡ is_note self.now.kind }
     {
         matches!(&self.kind, Kind::HiddenCommand | Kind::HiddenArgument)
     }
 
-    /// How serious it is: a hidden command or argument is a note.
+    /// Returns the severity of the warning: `Note` for a hidden command or argument, or else
+    /// `Warning`.
     pub fn level(&self) -> Level
         ensures { result ≡ level_of self.now.kind }
     {
@@ -120,7 +126,7 @@ impl Warning {
     }
 }
 
-/// Whether there are no warnings but notes.
+/// Returns whether all of `warnings` are notes.
 pub fn are_notes(warnings: &[Warning]) -> bool
     ensures { result ≡ are_notes warnings.now }
 {

@@ -1,4 +1,4 @@
--- Requests, folders and names of tree files, for some values.
+-- Requests, directories and names of tree files, for some values.
 use Rattle.std.proofs.Common.{◌≡◌, true, false, [], ◌∷◌, Some, None, codes, filter, refl}
 use Rattle.std.specs.Path.{path_file_name, path_join, rsplit_once, split_last_component, trim_trailing}
 use Rattle.cc_base.specs.Sorting.{in_order, insert}
@@ -35,7 +35,7 @@ after_row = refl
 no_dashes_row : request_words (codes "complgen" ∷ []) ≡ None
 no_dashes_row = refl
 
--- ---- folders
+-- ---- directories
 
 named_row : tree_folders (Some (codes "/a::b:")) (Some (codes "/x")) (Some (codes "/h")) None
     ≡ codes "/a" ∷ codes "b" ∷ []
@@ -70,7 +70,7 @@ other_file_row = refl
 stems_row : stems (codes "a.json" ∷ codes "b" ∷ codes ".json" ∷ []) ≡ codes "a" ∷ [] ∷ []
 stems_row = refl
 
--- a word leads to no other folder
+-- a word leads to no other directory
 outside_row : tree_paths (codes "../../x") (codes "/f" ∷ codes "g" ∷ [])
     ≡ codes "/f/x.json" ∷ codes "g/x.json" ∷ []
 unfolding path_file_name rsplit_once split_last_component trim_trailing path_join

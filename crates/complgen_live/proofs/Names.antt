@@ -1,4 +1,4 @@
--- Names of tree files: in order, each once, and those of several folders.
+-- Names of tree files: sorted and without duplicates, and from several directories.
 use Rattle.std.proofs.Common.{◌≡◌, ◌∙◌, ap, refl, sym, subst, ℕ, ◌+◌, ◌<◌, Bool, inl, inr, List, [], ◌∷◌, ◌++◌, append_assoc, drop, filter, get_or, length, map, Option}
 use Rattle.std.specs.List.{dedup}
 use Rattle.std.proofs.lemmas.Bool.{cases_Bool}
@@ -8,7 +8,7 @@ use Rattle.cc_paths.specs.PathCandidates.{MayList}
 use Rattle.cc_base.specs.PlainName.{is_plain_name}
 use Rattle.complgen_live.specs.KnownNames.{AreListed, is_odd_name}
 
--- ---- each once
+-- ---- without duplicates
 
 module _ {X Y : Type 0} (f : X → Y) (same : Y → Y → Bool) where
   map-dedup_more : (kept : X) (xs : List X)
@@ -24,7 +24,7 @@ module _ {X Y : Type 0} (f : X → Y) (same : Y → Y → Bool) where
   map-dedup [] = refl
   map-dedup (x ∷ xs) = map-dedup_more x xs
 
--- ---- how many are passed over
+-- ---- the number of names that are skipped
 
 pub counted : {X Y : Type 0} (f : X → List ℕ) (g : Y → List ℕ) (all : List X) (plain : List Y)
     → map g plain ≡ filter is_plain_name (map f all)
@@ -34,9 +34,9 @@ counted f g all plain are =
     ∙ length-filter_both is_plain_name is_odd_name (λ name. refl) (map f all)
     ∙ length-map all f
 
--- ---- those of several folders
+-- ---- names from several directories
 
--- the names of one more folder, then those of the others
+-- the names in one more directory, and then those in the others
 pub one_more_folder : {X Y : Type 0} (text : X → List ℕ) (f : Y → List ℕ)
     (lists : List ℕ → Option (List (List ℕ)) → Type 0)
     (folders : List X) (folder : X) (path : List ℕ) (i : ℕ) (found here all : List Y)

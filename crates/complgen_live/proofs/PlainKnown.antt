@@ -9,7 +9,7 @@ use Rattle.cc_base.specs.Sorting.{in_order, insert}
 use Rattle.complgen_live.specs.KnownNames.{comes_before, each_once, is_other_name, own_name}
 use Rattle.complgen_live.specs.Registrations.{ArePlain}
 
--- ---- what is so of each element of a list is so of each of a part of it, in another order
+-- ---- what holds for each element of a list holds for a part of it, in any order
 
 module _ {X : Type 0} where
   filter_passes : (test : X → Bool) (xs : List X)
@@ -60,7 +60,7 @@ module _ {X : Type 0} where
 
 -- ---- the names
 
--- the known names, of these names of tree files
+-- the known names from these names of tree files are plain
 pub known_plain : (stems : List (List ℕ))
     → ArePlain (each_once (filter is_other_name (filter is_plain_name stems)))
 known_plain stems =
@@ -69,7 +69,7 @@ known_plain stems =
     (filter_keeps P is_other_name (filter is_plain_name stems)
     (filter_passes is_plain_name stems)))
 
--- these names and that of this program
+-- these names and the name of this program are plain
 pub with_own : (names : List (List ℕ)) → ArePlain names → ArePlain (names ++ own_name ∷ [])
 unfolding is_plain_name is_joined name_byte
 with_own names plain =

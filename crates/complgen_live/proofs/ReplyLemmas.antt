@@ -1,4 +1,4 @@
--- How making a reply and writing it end, outcome by outcome.
+-- Lemmas for the outcomes of making a reply and of writing it.
 use Rattle.std.proofs.Common.{◌≡◌, ◌∙◌, ◌++◌, ap, refl, sym, subst, find, map, ℕ, Bool, true, List, [], Option, Some, None, Result, Ok, Err}
 use Rattle.std.specs.Borrow.{Bor}
 use Rattle.std.specs.Option.{option_copied}
@@ -42,7 +42,7 @@ pub without_completers : {B C L G : Type 0}
 without_completers Boxes Closures completers added ListBoxes ListClosures lists added_lists Finds none no_lists =
     rw (none.0, none.1, no_lists.0, no_lists.1) refl
 
--- the text for a command, from sources that are paths alone
+-- the text for a command, from sources that have only paths
 pub text_made : (env : EnvValues) (current : Option (List ℕ)) (Finds : Paths)
     (words : List (List ℕ)) (shell : SafeShell) (tree : Tree) (sources : MayReturn)
     (result : Result (List ℕ) Error) → sources ≡ paths_alone Finds
@@ -53,7 +53,7 @@ text_made env current Finds words shell tree sources result is makes =
     subst (λ (l : MayReturn). MakesText (λ made. made ≡ Ok tree) (safe_spec shell)
     (names_of variable None None current) env (Completes l) words result) is makes
 
--- what is requested by a name
+-- the request that a name makes
 abbrev by_name : Option (List ℕ) → Wanted SafeShell
 by_name name = wanted_of (λ shell. (safe_spec shell).named) all_safe name
 
@@ -115,7 +115,7 @@ module _ (env : EnvValues) (current : Option (List ℕ)) (Finds : Paths)
 module _ {S : Type 0} (taken : S → List ℕ) (failures : S → Failures)
     (Makes : Result (Option (List ℕ)) ReplyError → Type 0) (old new : S) (text made : List ℕ)
     (same : text ≡ made) (makes : Makes (Ok (Some made))) where
-  -- a put fails
+  -- a write fails
   pub unwritten : (error : Error) → Writes taken failures (Err error) old new text → IsWrite error
       → EndsReply taken failures Makes old new (Err (Library error))
   unwritten (Write kind) writes is = outcome.write_failed made kind makes writes.failures

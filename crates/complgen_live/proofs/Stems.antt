@@ -1,4 +1,4 @@
--- The name of the program whose tree file has a name.
+-- The name of a program, from the name of its tree file.
 use Rattle.std.proofs.Common.{◌≡◌, ◌≢◌, ◌∙◌, ap, refl, sym, ℕ, ◌+◌, ◌-◌, inl, inr, List, ◌++◌, length, take, cond, true, Option, None, Some}
 use Rattle.std.specs.Prelude.{MatchOption, nat_eq}
 use Rattle.std.specs.Borrow.{Bor}

@@ -1,4 +1,4 @@
--- The names of the programs whose tree files lie in folders.
+-- The names of the programs that have tree files in some directories.
 use Rattle.std.specs.Prelude.{◌≡◌, ℕ, Bool, not, List, [], ◌∷◌, ◌++◌, length, filter, Option, codes}
 use Rattle.std.specs.Cmp.Lexicographic.{slice_cmp}
 use Rattle.std.specs.List.{dedup}
@@ -9,11 +9,11 @@ use Rattle.cc_paths.specs.PathCandidates.{MayList}
 use Rattle.cc_base.specs.PlainName.{is_plain_name}
 use Rattle.complgen_live.specs.TreeFiles.{stems}
 
--- one text belongs before another, by their bytes
+-- one text sorts before another, by their bytes
 abbrev pub comes_before : List ℕ → List ℕ → Bool
 comes_before one other = is_lt (slice_cmp nat_cmp one other)
 
--- the names in order, each once
+-- the names, sorted and without duplicates
 abbrev pub each_once : List (List ℕ) → List (List ℕ)
 each_once names = dedup bytes_eq (in_order comes_before names)
 
@@ -29,15 +29,17 @@ is_other_name name = not (bytes_eq name own_name)
 abbrev pub is_odd_name : List ℕ → Bool
 is_odd_name name = not (is_plain_name name)
 
--- these names may be listed in the folders, those of the first before those of the others
+-- these names may be listed in the directories: first the names in the first directory, and then
+-- the names in the others
 abbrev pub AreListed : (List ℕ → Option (List (List ℕ)) → Type 0) → List (List ℕ)
     → List (List ℕ) → Type 0
 AreListed lists [] names = names ≡ []
 AreListed lists (folder ∷ folders) names = (first : List (List ℕ)) × (others : List (List ℕ))
     × MayList (lists folder) first × AreListed lists folders others × (names ≡ first ++ others)
 
--- of the names that may be listed in the folders: the plain names of other programs whose tree
--- files have them, in order, each once; and how many tree files have a name that is not plain
+-- Two results for names that may be listed in the directories: the plain names of other programs
+-- with tree files, sorted and without duplicates; and the number of tree files of programs whose
+-- name is not plain.
 pub record AreKnown (lists : List ℕ → Option (List (List ℕ)) → Type 0)
     (folders known : List (List ℕ)) (passed_over : ℕ) : Type 0 where
   pub listed : List (List ℕ)

@@ -20,7 +20,7 @@ abbrev pub registration_of : SafeShell → List ℕ → List (List ℕ) → List
 registration_of safe completer names =
     safe_registration safe.shell variable own_name names completer
 
--- what it is read as: its variable, its completer, and the names, if they are plain
+-- what the registration reads back to: its variable, its completer, and the names if they are plain
 abbrev pub RegistrationReads : SafeShell → List ℕ → List (List ℕ) → Type 0
 RegistrationReads safe completer names = SafeReads safe.shell variable own_name names completer
 
@@ -32,8 +32,8 @@ pub record WritesAll {S : Type 0} (taken : S → List ℕ) (failed : S → Failu
   pub read_back : OnOk result (RegistrationReads safe completer names)
   pub plain : OnOk result (ArePlain names)
 
--- The outcomes of writing it, by what is requested. If no shell is requested, nothing is written. If
--- no shell has the name, that is reported.
+-- The outcomes of writing it, by the request. If no shell is requested, nothing is written. If no
+-- shell has the name, that is reported.
 abbrev pub RegistersAll : {S : Type 0} → (S → List ℕ) → (S → Failures) → List ℕ → List (List ℕ)
     → Wanted SafeShell → S → S → Result (Unit {0}) Error → Type 0
 RegistersAll taken failed completer names nothing old new result =

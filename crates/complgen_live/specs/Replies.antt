@@ -1,4 +1,4 @@
--- How replying to a request ends, over a tree file.
+-- The outcomes of replying to a request, by a tree file.
 use Rattle.std.specs.Prelude.{◌≡◌, ◌++◌, ℕ, Bool, true, false, List, [], map, Option, None, Some, Result, Ok, Err, codes}
 use Rattle.std.specs.declared.io.ErrorKind.{ErrorKind}
 use Rattle.cc_env.specs.SafeShells.{all_safe, safe_spec}
@@ -28,7 +28,7 @@ use Rattle.complgen_live.specs.declared.reply_errors.ReplyError.TheVariants as f
 abbrev pub variable : List ℕ
 variable = codes "COMPLETE"
 
--- what is requested: nothing, by a name that no shell has, or by a shell
+-- the request: for nothing, for a shell that is unknown, or for a known shell
 abbrev pub requested : EnvValues → Wanted SafeShell
 requested env = wanted_of (λ shell. (safe_spec shell).named) all_safe
     (wanted_name (value_of variable env))
@@ -41,7 +41,7 @@ shell_names = map (λ shell. (safe_spec shell).name) all_safe
 abbrev pub Paths : Type 1
 Paths = ValueHint → List ℕ → List CompletionCandidate → Type 0
 
--- there are no completers and no lists, so that no number has candidates; paths are found
+-- there are no completers and no lists, so no number has candidates, and only paths are found
 abbrev pub paths_alone : Paths → MayReturn
 paths_alone Finds = record {
   completes = λ which number text found. found ≡ [];
@@ -49,15 +49,15 @@ paths_alone Finds = record {
   finds = Finds;
 }
 
--- how making the text for a shell ends, of a program that makes this command
+-- the outcomes of making the text for a shell, if the program makes this command
 abbrev pub MakesFor : EnvValues → Option (List ℕ) → Paths → List (List ℕ) → SafeShell → Tree
     → Result (List ℕ) Error → Type 0
 MakesFor env current Finds words shell tree result =
     MakesText (λ made. made ≡ Ok tree) (safe_spec shell) (names_of variable None None current)
     env (Completes (paths_alone Finds)) words result
 
--- How making the text ends, by what is requested and what the tree file holds: the command is the
--- very one that the bytes describe.
+-- The outcomes of making the text, by the request and the tree file. The command is exactly the one
+-- that the bytes describe.
 pub data MakesReply (env : EnvValues) (current : Option (List ℕ)) (Finds : Paths)
     (words : List (List ℕ)) : Option (List ℕ) → Result (Option (List ℕ)) ReplyError → Type 0 where
   -- there is no tree file
@@ -92,7 +92,7 @@ made_text (Ok None) = Ok None
 made_text (Ok (Some text)) = Ok (Some (collected_bytes text))
 made_text (Err error) = Err error
 
--- How writing it ends: a text is begun only if it could be made whole.
+-- The outcomes of writing it. Nothing is written unless the whole text could be made.
 pub data EndsReply {S : Type 0} (taken : S → List ℕ) (failures : S → Failures)
     (Makes : Result (Option (List ℕ)) ReplyError → Type 0) (old new : S)
     : Result Bool ReplyError → Type 0 where
@@ -101,7 +101,7 @@ pub data EndsReply {S : Type 0} (taken : S → List ℕ) (failures : S → Failu
   -- there is no text, and nothing is written
   not_made : (error : ReplyError) → Makes (Err error) → new ≡ old
       → EndsReply taken failures Makes old new (Err error)
-  -- a write failed, which is counted with its kind
+  -- a write failed, and is counted with its kind
   write_failed : (text : List ℕ) (kind : ErrorKind) → Makes (Ok (Some text))
       → failures new ≡ add_failure kind (failures old)
       → EndsReply taken failures Makes old new (Err (failed.Library (Write kind)))

@@ -1,4 +1,4 @@
--- When a shell requests something of the program.
+-- Requests of shells to the program, by a variable and the words.
 use Rattle.std.specs.Prelude.{ℕ, Bool, true, false, not, ◌&&◌, List, [], ◌∷◌, Option, None, Some, codes, if◌then◌else◌}
 use Rattle.std.specs.Str.{bytes_eq}
 
@@ -17,7 +17,7 @@ begins_request (program ∷ (word ∷ words)) = bytes_eq word (codes "--")
 abbrev pub is_request : Option (List ℕ) → List (List ℕ) → Bool
 is_request value words = names_shell value && begins_request words
 
--- the words after the `--` that follows the program's name, if it does
+-- the words after the `--` that follows the program's name, if there is one
 abbrev pub request_words : List (List ℕ) → Option (List (List ℕ))
 request_words [] = None
 request_words (program ∷ []) = None

@@ -1,4 +1,4 @@
--- What is printed of a tree file that describes no command.
+-- The messages for a tree file that describes no command.
 use Rattle.std.specs.Prelude.{⊤, ◌++◌, ℕ, List, None, Some, Result, Ok, Err, codes}
 use Rattle.cc_base.specs.declared.error.Error.TheVariants.{Memory}
 use Rattle.cc_command.specs.Tree.{Tree}
@@ -9,7 +9,7 @@ use Rattle.complgen_live.specs.declared.reply_errors.ReplyError.{ReplyError}
 use Rattle.complgen_live.specs.declared.reply_errors.ReplyError.TheVariants as failed
 use Rattle.complgen_tree_file.specs.TreeFile.{Describes, SpellsNone}
 
--- before what is wrong, for a path as it is shown
+-- the beginning of a message, for a path as it is shown
 unfoldable pub about_tree : List ℕ → List ℕ
 about_tree shown = (codes "complgen: " ++ shown) ++ codes ": tree: "
 
@@ -28,12 +28,12 @@ abbrev pub bad_tree_text : BadTree → List ℕ → List ℕ
 bad_tree_text NotJson path = not_json_text path
 bad_tree_text BadForm path = bad_form_text path
 
--- this is wrong with the bytes of a file
+-- the bytes of a file have this fault
 abbrev pub IsBad : BadTree → List ℕ → Type 0
 IsBad NotJson bytes = SpellsNone bytes
 IsBad BadForm bytes = Describes bytes None
 
--- the command that the bytes describe; or out of memory, or what is wrong with them
+-- the command that the bytes describe, or out of memory, or the fault of the bytes
 abbrev pub DescribedBy : List ℕ → Result Tree ReplyError → Type 0
 DescribedBy bytes (Ok tree) = Describes bytes (Some tree)
 DescribedBy bytes (Err (failed.Library Memory)) = ⊤

@@ -7,20 +7,20 @@ use Rattle.std.specs.Path.{path_file_name, path_join}
 abbrev pub ending : List ℕ
 ending = codes ".json"
 
--- the path of the tree file of a program in a folder
+-- the path of the tree file of a program in a directory
 abbrev pub tree_path : List ℕ → List ℕ → List ℕ
 tree_path folder name = path_join folder name ++ ending
 
--- those of a program in some folders, where it has a name
+-- the paths of the tree files of a program in some directories, if it has a name
 abbrev pub paths_of : Option (List ℕ) → List (List ℕ) → List (List ℕ)
 paths_of None folders = []
 paths_of (Some name) folders = map (λ folder. tree_path folder name) folders
 
--- the paths of the tree files of the program that a word calls, in the order of the folders
+-- the paths of the tree files of the program that a word calls, in the order of the directories
 abbrev pub tree_paths : List ℕ → List (List ℕ) → List (List ℕ)
 tree_paths word folders = paths_of (path_file_name word) folders
 
--- the name of the program whose tree file has this name; none where that is no name of a tree file
+-- the name of the program whose tree file has this name, if it is the name of a tree file
 abbrev pub tree_stem : List ℕ → Option (List ℕ)
 tree_stem name = if ends_with nat_eq name ending
     then Some (take (length name - length ending) name) else None

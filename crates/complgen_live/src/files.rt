@@ -14,15 +14,20 @@ use std::path::Path;
 // The end of a tree file's name.
 const ENDING: &str = ".json";
 
-/// The name under which the tree file of a program is looked up: the last piece of the word that
-/// calls it, which holds no slash. `None` where the word has no such piece, as `..`.
+/// Returns the name under which the tree file of a program is looked up. It is the last component
+/// of `word`, which calls the program, and contains no slash. Returns `None` if `word` has no such
+/// component, as in `..`.
 pub fn command_name(word: &str) -> Option<&str>
     ensures { option_copied result ≡ path_file_name word.now }
 {
     Path::new(word).file_name()
 }
 
-/// The path of the tree file of a program in a folder. Fails where memory runs out.
+/// Returns the path of the tree file of the program `name` in the directory `folder`.
+///
+/// # Errors
+///
+/// `AllocError` if an allocation fails.
 pub fn tree_path(alloc: Global, folder: &str, name: &str) -> Result<String, AllocError>
     ensures { IfOk result (λ path. string_bytes path ≡ tree_path folder.now name.now) }
 {
@@ -31,8 +36,12 @@ pub fn tree_path(alloc: Global, folder: &str, name: &str) -> Result<String, Allo
     Ok(path)
 }
 
-/// The paths of the tree files of the program that a word calls, one for each folder, in their
-/// order; none where the word calls no program. Fails where memory runs out.
+/// Returns the paths of the tree files of the program that `word` calls: one in each directory of
+/// `folders`, in their order. The list is empty if `word` calls no program.
+///
+/// # Errors
+///
+/// `AllocError` if an allocation fails.
 pub fn tree_paths(alloc: Global, folders: &[String], word: &str) -> Result<Vec<String>, AllocError>
     ensures { IfOk result (λ paths. map string_bytes paths.items
         ≡ tree_paths word.now (map string_bytes folders.now)) }
@@ -54,15 +63,19 @@ fn paths_of(alloc: Global, folders: &[String], name: &str) -> Result<Vec<String>
     Ok(paths)
 }
 
-/// The name of the program whose tree file has this name; `None` where it is no name of a tree
-/// file.
+/// Returns the name of the program whose tree file is called `name`, or `None` if `name` is not the
+/// name of a tree file.
 pub fn tree_stem(name: &str) -> Option<&str>
     ensures { option_copied result ≡ tree_stem name.now }
 {
     name.strip_suffix(ENDING)
 }
 
-/// Those of the names that are plain, which alone are registered. Fails where memory runs out.
+/// Returns those of `names` that are plain. Only these are registered.
+///
+/// # Errors
+///
+/// `AllocError` if an allocation fails.
 pub(crate) fn plain_names(alloc: Global, names: Vec<String>) -> Result<Vec<String>, AllocError>
     ensures { IfOk result (λ kept.
         map string_bytes kept.items ≡ filter is_plain_name (map string_bytes names.items)) }

@@ -1,4 +1,4 @@
-//! The folders that hold tree files.
+//! The directories that hold tree files.
 
 ghost use Rattle.std.specs.Prelude.{◌≡◌, ◌++◌, IfOk, OnOk, codes, filter, map, string_bytes};
 ghost use Rattle.std.specs.Option.{option_copied};
@@ -11,20 +11,28 @@ use cc_paths::join;
 use cc_replies::EnvValues;
 use std::alloc::{AllocError, Global};
 
-// The folder of tree files in a folder of data.
+// The directory of tree files in a data directory.
 const DATA_FOLDER: &str = "complgen";
 
-// The same in the home folder.
+// The directory of tree files in the home directory.
 const HOME_FOLDER: &str = ".local/share/complgen";
 
-// The folders of data of the system, where no others are named.
+// The system's data directories, if the environment names no others.
 const DEFAULT_DATA: &str = "/usr/local/share:/usr/share";
 
-/// The folders that hold tree files, in the order in which they are searched: those that
-/// `COMPLGEN_PATH` names, with `:` between them, where that is set; else the folder `complgen` in
-/// `XDG_DATA_HOME`, or `.local/share/complgen` in `HOME`, and then the folder `complgen` in each
-/// absolute path of `XDG_DATA_DIRS`, or else of `/usr/local/share:/usr/share`. Empty pieces, and
-/// variables without a value, are passed over. Fails where memory runs out.
+/// Returns the directories that hold tree files, in the order in which they are searched. `env`
+/// holds the variables:
+///
+/// - If `COMPLGEN_PATH` is set, it lists the directories, with `:` between them. Empty parts are
+///   skipped, and the other variables do not count.
+/// - Otherwise, the first directory is `complgen` in `XDG_DATA_HOME`. If that is unset or empty, it
+///   is `.local/share/complgen` in `HOME`. If both are, there is no such directory.
+/// - Then comes `complgen` in each path that `XDG_DATA_DIRS` lists, or in `/usr/local/share` and
+///   `/usr/share` if that is unset or empty. Paths that are not absolute are skipped.
+///
+/// # Errors
+///
+/// `AllocError` if an allocation fails.
 pub fn tree_folders(alloc: Global, env: &EnvValues) -> Result<Vec<String>, AllocError>
     ensures { IfOk result (λ folders. map string_bytes folders.items
         ≡ tree_folders (value_of (codes "COMPLGEN_PATH") env.now)
@@ -42,7 +50,7 @@ pub fn tree_folders(alloc: Global, env: &EnvValues) -> Result<Vec<String>, Alloc
     Ok(folders)
 }
 
-// The value, where there is one that is not empty.
+// Returns the value, unless it is missing or empty.
 fn some_text(value: Option<&str>) -> Option<&str>
     ensures { option_copied result ≡ some_text (option_copied value.entry) }
 {
@@ -52,7 +60,7 @@ fn some_text(value: Option<&str>) -> Option<&str>
     }
 }
 
-// The folders that a list names.
+// Returns the directories that a list names.
 fn named_folders(alloc: Global, list: &str) -> Result<Vec<String>, AllocError>
     ensures { IfOk result (λ folders.
         map string_bytes folders.items ≡ filter is_some_text (pieces list.now)) }
@@ -61,7 +69,7 @@ fn named_folders(alloc: Global, list: &str) -> Result<Vec<String>, AllocError>
     some_texts(alloc, listed.as_slice())
 }
 
-// Copies of those of the texts that are not empty.
+// Returns copies of the texts that are not empty.
 fn some_texts(alloc: Global, texts: &[&str]) -> Result<Vec<String>, AllocError>
     ensures { IfOk result (λ copies. map string_bytes copies.items
         ≡ filter is_some_text (map (λ text. text.now) texts.now)) }
@@ -76,14 +84,14 @@ fn some_texts(alloc: Global, texts: &[&str]) -> Result<Vec<String>, AllocError>
     Ok(copies)
 }
 
-// The paths of a list with `:` between them.
+// Splits a list of paths at each `:`.
 fn pieces<'l>(alloc: Global, list: &'l str) -> Result<Vec<&'l str>, AllocError>
     ensures { IfOk result (λ found. map (λ piece. piece.now) found.items ≡ pieces list.now) }
 {
     list.split(':').collect(alloc)
 }
 
-// The folder of the user, where one is known.
+// Returns the user's directory of tree files, or an empty list if neither variable has a value.
 fn user_folders(
     alloc: Global,
     shared: Option<&str>,
@@ -101,7 +109,7 @@ fn user_folders(
     Ok(folders)
 }
 
-// Adds the folders of the system, in the folders of data of a list.
+// Adds the system's directories of tree files, in the data directories of a list.
 fn push_system_folders(
     folders: &mut Vec<String>,
     alloc: Global,
@@ -114,7 +122,7 @@ fn push_system_folders(
     push_data_folders(folders, alloc, listed.as_slice())
 }
 
-// Adds the folder in each of these folders of data that has an absolute path.
+// Adds the directory of tree files in each of these data directories that has an absolute path.
 fn push_data_folders(
     folders: &mut Vec<String>,
     alloc: Global,

@@ -1,4 +1,4 @@
-//! The programs whose tree files lie in folders.
+//! The programs that have tree files in some directories.
 
 ghost use Rattle.std.specs.Prelude.{◌≡◌, ◌++◌, IfOk, OnOk, filter, map, string_bytes};
 ghost use Rattle.cc_paths.specs.PathCandidates.{MayList};
@@ -13,17 +13,21 @@ use std::alloc::{AllocError, Global};
 // The name of this program.
 const OWN_NAME: &str = "complgen";
 
-/// The programs whose tree files lie in some folders.
+/// The names of the programs that have tree files in some directories.
 #[derive(Drop)]
 pub struct KnownNames {
-    /// Their plain names, in order, each once, without the name of this program.
+    /// The plain names, sorted and without duplicates, without the name of this program.
     pub names: PlainNames,
-    /// How many tree files have a name that is not plain.
+    /// The number of tree files of programs whose name is not plain.
     pub passed_over: usize,
 }
 
-/// The names of the programs whose tree files the folder lists at these paths. A path at which
-/// nothing can be listed has none. Fails where memory runs out.
+/// Returns the names of the programs whose tree files `folder` lists in the directories `folders`.
+/// A directory that can't be read has none.
+///
+/// # Errors
+///
+/// `AllocError` if an allocation fails, or if `folder` fails with `Memory`.
 pub fn known_names<D: Folder>(
     alloc: Global,
     folder: &D,
@@ -45,7 +49,7 @@ pub fn known_names<D: Folder>(
     })
 }
 
-// The names that are listed in the folders, one folder after another.
+// Lists the names in the directories, one directory after another.
 fn listed_names<D: Folder>(
     alloc: Global,
     folder: &D,
@@ -62,7 +66,7 @@ fn listed_names<D: Folder>(
     Ok(names)
 }
 
-// The names in the folder at a path; none where it can't be read.
+// Lists the names in the directory at `path`, or none if it can't be read.
 fn names_in<D: Folder>(alloc: Global, folder: &D, path: &str) -> Result<Vec<String>, AllocError>
     ensures { IfOk result (λ names. MayList ((D.facts folder.now).names path.now)
         (map string_bytes names.items)) }
@@ -74,7 +78,7 @@ fn names_in<D: Folder>(alloc: Global, folder: &D, path: &str) -> Result<Vec<Stri
     }
 }
 
-// The names of the programs whose tree files have these names.
+// Returns the names of the programs whose tree files have these names.
 fn stems_of(alloc: Global, names: &[String]) -> Result<Vec<String>, AllocError>
     ensures { IfOk result (λ found.
         map string_bytes found.items ≡ stems (map string_bytes names.now)) }
@@ -86,7 +90,7 @@ fn stems_of(alloc: Global, names: &[String]) -> Result<Vec<String>, AllocError>
     Ok(found)
 }
 
-// Adds the name of the program whose tree file has this name, where it is one of a tree file.
+// Adds the name of the program whose tree file is called `name`. Does nothing for other files.
 fn push_stem(found: &mut Vec<String>, alloc: Global, name: &str) -> Result<(), AllocError>
     ensures { OnOk result (map string_bytes found.new.items
         ≡ map string_bytes found.old.items ++ found_stem (tree_stem name.now)) }
@@ -98,7 +102,7 @@ fn push_stem(found: &mut Vec<String>, alloc: Global, name: &str) -> Result<(), A
     Ok(())
 }
 
-// Those of the names that are of other programs.
+// Returns the names without the name of this program.
 fn other_names(alloc: Global, names: Vec<String>) -> Result<Vec<String>, AllocError>
     ensures { IfOk result (λ kept.
         map string_bytes kept.items ≡ filter is_other_name (map string_bytes names.items)) }
@@ -113,7 +117,7 @@ fn other_names(alloc: Global, names: Vec<String>) -> Result<Vec<String>, AllocEr
     Ok(kept)
 }
 
-// Sorts, and leaves each name once.
+// Sorts the names, and removes duplicates.
 fn each_once(names: &mut Vec<String>) -> Result<(), AllocError>
     ensures { OnOk result
         (map string_bytes names.new.items ≡ each_once (map string_bytes names.old.items)) }

@@ -1,6 +1,5 @@
-//! Live completion of any program by its tree file: where tree files lie and which programs have
-//! one, when a shell requests completions by them, the registration that a shell loads, and the
-//! replies to its requests.
+//! Live completion of any program by its tree file. This crate finds the tree files and the
+//! programs that have one, recognizes the requests of shells, and writes registrations and replies.
 #![tactic(auto)]
 
 mod files;

@@ -1,7 +1,7 @@
 //! The tree of this program's own command line.
 
-/// The tree file of `complgen`, with the same text as `examples/complgen.json`. Its version says only
-/// that the flag `--version` exists.
+/// The tree file of `complgen`, with the same text as `examples/complgen.json`. Its version only
+/// shows that the flag `--version` exists.
 pub const OWN_TREE: &str = r#"{
   "name": "complgen",
   "version": "complgen --version prints it",

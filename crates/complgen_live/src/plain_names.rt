@@ -1,12 +1,12 @@
-//! Names of programs of which a shell evaluates nothing.
+//! Names of programs in which a shell evaluates nothing.
 
 ghost use Rattle.std.specs.Prelude.{◌≡◌, ℕ, List, map, string_bytes};
 ghost use Rattle.complgen_live.specs.Registrations.{ArePlain};
 
 use std::marker::Model;
 
-/// Names of programs, each of them plain: letters and digits of ASCII, with single `-` and `_`
-/// between them. A shell takes such a name as it is, wherever it stands.
+/// Plain names of programs: ASCII letters and digits, with single `-` or `_` between them. A shell
+/// reads such a name unchanged.
 #[derive(Drop)]
 pub struct PlainNames {
     names: Vec<String>,
@@ -21,7 +21,7 @@ impl Model for PlainNames {
 }
 
 impl PlainNames {
-    // These names, which are all plain.
+    // Wraps `names`, which must all be plain.
     pub(crate) fn new(names: Vec<String>) -> PlainNames
         requires { ArePlain (map string_bytes names.items) }
         ensures { result ≡ map string_bytes names.items }

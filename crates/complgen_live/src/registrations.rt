@@ -19,10 +19,10 @@ const VARIABLE: &str = "COMPLETE";
 // The name of this program.
 const OWN_NAME: &str = "complgen";
 
-/// Writes one registration for the programs `names` and for this program itself, for the shell that
-/// `env` requests. It makes the shell run this program, which was called by `program`, for their
-/// candidates. If that is a relative path, it starts at `current_dir`. Writes nothing if no shell is
-/// requested.
+/// Writes one registration for the programs `names` and for this program itself to `out`, for the
+/// shell that `env` requests. It makes the shell run this program, which was called by `program`,
+/// for their candidates. If `program` is a relative path, it starts at `current_dir`. Writes
+/// nothing if no shell is requested.
 ///
 /// # Errors
 ///

@@ -1,4 +1,4 @@
-//! The reply to a request, over a tree file.
+//! Replies to the requests of shells, by a tree file.
 
 ghost use Rattle.std.specs.Prelude.{map, string_bytes};
 ghost use Rattle.std.specs.Option.{option_copied};
@@ -21,13 +21,13 @@ use std::alloc::Global;
 // The variable that requests a registration or a reply, by the name of a shell.
 const VARIABLE: &str = "COMPLETE";
 
-/// Writes to `out` what `reply_text` makes, and returns whether there is such a text. The text is
-/// made whole before any of it is written.
+/// Writes the text that `reply_text` returns to `out`, and returns whether there is one. The whole
+/// text is made before any of it is written.
 ///
 /// # Errors
 ///
-/// Those of `reply_text`; nothing is written then. `Write` of the library if `out` fails, which may
-/// then hold part of the text.
+/// The errors of `reply_text`, with nothing written. `Library` with `Write` if `out` fails, which
+/// may then hold part of the text.
 pub fn reply<D: Folder, W: Sink>(
     alloc: Global,
     env: &EnvValues,
@@ -48,15 +48,15 @@ pub fn reply<D: Folder, W: Sink>(
     Ok(true)
 }
 
-/// Returns the reply to a request for candidates, over the bytes of a tree file, or `None` without
-/// a file or a request. `words` are all those of this program: its name, a `--` and the words that
-/// are completed. If no words follow the `--`, the text is the registration of the command in the
-/// file. `env`, `current_dir` and `folder` are those of `CompleteEnv::try_complete`.
+/// Returns the reply to a request for candidates, or `None` without a file or a request. `file`
+/// holds the bytes of a tree file. `words` are all words of this program: its name, a `--` and the
+/// words to complete. If no words follow the `--`, the text is the registration of the command in
+/// the file. `env`, `current_dir` and `folder` are those of `CompleteEnv::try_complete`.
 ///
 /// # Errors
 ///
-/// `Tree` if the file is not JSON or describes no command, and otherwise `Library` with the error
-/// of `CompleteEnv::try_complete`, but never `Write`.
+/// `Library` with an error of `CompleteEnv::try_complete`, but never `Write`. An unknown shell is
+/// reported before the file is read. `Tree` if the file is not JSON or describes no command.
 pub fn reply_text<D: Folder>(
     alloc: Global,
     env: &EnvValues,

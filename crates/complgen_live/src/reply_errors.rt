@@ -1,4 +1,4 @@
-//! Why there is no reply to a request.
+//! The reasons for which there is no reply to a request.
 
 ghost use Rattle.std.specs.Prelude.{◌≡◌, IfOk};
 ghost use Rattle.std.specs.String.{string_bytes};
@@ -9,7 +9,7 @@ ghost use Rattle.complgen_live.specs.declared.reply_errors.ReplyError.TheVariant
 use cc_base::{Error, Text, on_one_line};
 use std::alloc::{AllocError, Global};
 
-/// What is wrong with a tree file that describes no command.
+/// The fault of a tree file that describes no command.
 #[derive(Clone, Copy, PartialEq, Eq, Debug)]
 pub enum BadTree {
     /// The file is not JSON.
@@ -34,7 +34,7 @@ impl BadTree {
     }
 }
 
-/// Why there is no reply to a request.
+/// The reason why there is no reply to a request.
 #[derive(Debug, Drop)]
 pub enum ReplyError {
     /// The tree file describes no command.

@@ -1,4 +1,4 @@
-//! Tells requests of shells from command lines.
+//! Distinguishes requests of shells from command lines.
 
 ghost use Rattle.std.specs.Prelude.{◌≡◌, codes, map, option_map, string_bytes};
 ghost use Rattle.std.specs.Option.{option_copied};
@@ -8,10 +8,10 @@ ghost use Rattle.complgen_live.specs.Requests.{request_words};
 
 use cc_replies::EnvValues;
 
-/// Returns whether a shell requests registrations or candidates: the variable `COMPLETE` of `env` is
-/// set, is neither empty nor `0`, and the first of `words`, the program's name, stands alone or has
-/// `--` after it. `is_shell_request` of `complgen_command_line` states that the command line accepts
-/// no such words.
+/// Returns whether a shell requests registrations or candidates. In a request, the variable
+/// `COMPLETE` of `env` is set, and is neither empty nor `0`. The first of `words` is the program's
+/// name. In a request, no word follows it, or the next word is `--`. `is_shell_request` of
+/// `complgen_command_line` states that the command line accepts no such words.
 pub fn is_request(env: &EnvValues, words: &[String]) -> bool
     ensures { result
         ≡ is_request (value_of (codes "COMPLETE") env.now) (map string_bytes words.now) }

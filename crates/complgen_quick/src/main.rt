@@ -34,7 +34,7 @@ fn carry_out<R: Env + Files + Print + AllocGlobal>(rt: &R) -> Result<u8, Refusal
         return Err(Refusal::from_static(2, NOT_UTF8));
     };
     let words: Vec<String> = words.collect(rt.alloc())?;
-    // In the place of the directory `plan` expects the name of the program.
+    // The first word, the directory, is where `plan` expects the name of the program.
     let [_, words @ ..] = words.as_slice() else {
         return Err(Refusal::from_static(2, NEEDS_PROOF));
     };
@@ -73,8 +73,8 @@ fn carry_out_plan<R: Files + Print + AllocGlobal>(
     }
 }
 
-// Returns the bytes of the file at a path from the directory that the first word names, or `None` if
-// the file cannot be read.
+// Returns the bytes of the file at `path`, or `None` if it cannot be read. A relative path begins
+// in the directory that the first of `words` names.
 fn contents<R: Files + AllocGlobal>(
     rt: &R,
     words: &[String],

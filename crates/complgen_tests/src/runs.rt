@@ -1,9 +1,9 @@
 //! Carries out plans over a tree file and directories in memory.
 
 use crate::checks::same;
-use cc_base::{Collected, Sink};
+use cc_base::Collected;
 use cc_fixtures::words::to_strings;
-use cc_paths::{Folder, MemoryFolder};
+use cc_paths::MemoryFolder;
 use complgen_commands::{Plan, Refusal, run};
 use std::alloc::{AllocError, Global};
 use std::convert::AsStr;
@@ -29,22 +29,6 @@ pub(crate) fn candidates(alloc: Global, index: usize, words: &[&str]) -> Result<
     Ok(Plan::Candidates(index, String::from_str(alloc, "tree.json")?, words))
 }
 
-/// Carries out a plan of `script`, `register` or `candidates`, and refuses any other.
-pub(crate) fn carried_out<D: Folder, W: Sink>(
-    alloc: Global,
-    plan: &Plan,
-    file: Option<&[u8]>,
-    folder: &D,
-    out: &mut W,
-) -> Result<(), Refusal> {
-    match plan {
-        Plan::Script(..) | Plan::Register(..) | Plan::Candidates(..) => {
-            run(alloc, plan, file, folder, out)
-        }
-        Plan::Check { .. } | Plan::Scripts { .. } => Err(Refusal::from_static(1, "another plan")),
-    }
-}
-
 /// Returns the output of the plan over this tree file, with these directories.
 pub(crate) fn output_in(
     alloc: Global,
@@ -53,7 +37,7 @@ pub(crate) fn output_in(
     folder: &MemoryFolder,
 ) -> Result<String, Refusal> {
     let mut out = Collected::new(alloc);
-    carried_out(alloc, plan, Some(file), folder, &mut out)?;
+    run(alloc, plan, Some(file), folder, &mut out)?;
     Ok(String::from_utf8_lossy(alloc, out.as_slice())?)
 }
 
@@ -74,7 +58,7 @@ pub(crate) fn fails(
     let plan = plan.expect(rt, "no plan");
     let mut out = Collected::new(alloc);
     let folder = MemoryFolder::new(&[], &[]);
-    match carried_out(alloc, &plan, file, &folder, &mut out) {
+    match run(alloc, &plan, file, &folder, &mut out) {
         Ok(()) => panic!(rt; "it is carried out"),
         Err(refusal) => same(rt, (refusal.status, refusal.text.as_str()), (1, wanted)),
     }

@@ -1,10 +1,10 @@
 //! The output of the plan of a script, and its failures.
 
 use crate::checks::{has, same};
-use crate::runs::{carried_out, fails, output_of, script};
+use crate::runs::{fails, output_of, script};
 use cc_base::Collected;
 use cc_paths::MemoryFolder;
-use complgen_commands::Refusal;
+use complgen_commands::{Refusal, run};
 use std::alloc::{AllocError, Global};
 use std::convert::AsStr;
 
@@ -24,7 +24,7 @@ fn writes_nothing_without_memory(rt: HostRuntime) {
     let plan = script(rt.alloc(), "elvish").expect(&rt, "no plan");
     let mut out = Collected::new(rt.alloc());
     let folder = MemoryFolder::new(&[], &[]);
-    match carried_out(
+    match run(
         rt.alloc(),
         &plan,
         Some(PARENT.as_bytes()),

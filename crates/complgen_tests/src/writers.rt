@@ -2,11 +2,11 @@
 //! bytes.
 
 use crate::checks::same;
-use crate::runs::{candidates, carried_out, output_of, registration, script};
+use crate::runs::{candidates, output_of, registration, script};
 use cc_base::Counted;
 use cc_fixtures::writers::Narrow;
 use cc_paths::MemoryFolder;
-use complgen_commands::{Plan, Refusal};
+use complgen_commands::{Plan, Refusal, run};
 use std::alloc::{AllocError, Global};
 use std::convert::AsStr;
 use std::io::ErrorKind;
@@ -23,7 +23,7 @@ fn end_of(
     kind: Option<ErrorKind>,
 ) -> Result<(String, String), AllocError> {
     let mut out = Counted::new(Narrow::new(alloc, room, kind));
-    let ended = carried_out(
+    let ended = run(
         alloc,
         plan,
         Some(TREE),

@@ -34,7 +34,7 @@ fn carry_out(rt: &HostRuntime, found: &ArgMatches<'_>) -> io::Result<()> {
     }
 }
 
-// The whole tree, where this completer completes the names of installed packages.
+// Returns the whole tree. The completer completes the names of installed packages.
 fn larder(alloc: Global, installed: ArgValueCompleter) -> Result<Command, Error> {
     let colors = [
         ("auto", "Where the output is a terminal"),

@@ -1,4 +1,4 @@
-//! The packages that are installed: the lines of a file in the current folder.
+//! The packages that are installed: the lines of a file in the current directory.
 
 ghost use Rattle.std.specs.Prelude.{⊤};
 
@@ -9,18 +9,18 @@ use std::fs;
 use std::io::{self, IsTerminal};
 use std::rt::Files;
 
-/// The file in the current folder that names the installed packages, each on a line.
+/// The file in the current directory that names the installed packages, each on a line.
 const LIST: &str = "larder.list";
 
-/// A completer of the names of installed packages. What the file holds is not known beforehand, so
-/// it promises nothing of its candidates.
+/// A completer of the names of installed packages. The contents of the file are not known in
+/// advance, so it promises nothing about its candidates.
 #[derive(Drop)]
 pub(crate) struct Installed<R> {
     files: R,
 }
 
 impl<R> Installed<R> {
-    /// The packages that the system's file names.
+    /// Creates a completer that reads the list from `files`.
     pub(crate) fn new(files: R) -> Installed<R> {
         Installed { files }
     }
@@ -38,7 +38,7 @@ impl<R: Files + Drop> ValueCompleter for Installed<R> {
         let list = contents(&self.files, alloc)?;
         let mut found = Vec::new(alloc);
         for name in list.lines() {
-            // A line without a name is passed over.
+            // A line without a name is skipped.
             if !name.trim().is_empty() && name.as_bytes().starts_with(text.as_bytes()) {
                 found.push(CompletionCandidate::new(String::from_str(alloc, name)?))?;
             }
@@ -47,7 +47,7 @@ impl<R: Files + Drop> ValueCompleter for Installed<R> {
     }
 }
 
-// The text of the file, which is empty where it can't be read.
+// Returns the text of the file, or an empty text if it can't be read.
 fn contents<R: Files>(files: &R, alloc: Global) -> Result<String, AllocError> {
     match fs::read_to_string(&(files, alloc), LIST) {
         Ok(text) => Ok(text),
@@ -56,7 +56,8 @@ fn contents<R: Files>(files: &R, alloc: Global) -> Result<String, AllocError> {
     }
 }
 
-/// Adds to the list those of the packages that it lacks; with `--dry-run` only says so.
+/// Adds the packages that the list lacks to it, and prints their names. With `--dry-run` only
+/// prints them.
 pub(crate) fn install(rt: &HostRuntime, values: &ArgMatches<'_>) -> io::Result<()> {
     let alloc = rt.alloc();
     let dry = values.get_flag("dry-run");
@@ -80,7 +81,7 @@ pub(crate) fn install(rt: &HostRuntime, values: &ArgMatches<'_>) -> io::Result<(
     fs::write(rt, LIST, list.as_str())
 }
 
-/// Takes the packages off the list.
+/// Removes the packages from the list, and prints their names.
 pub(crate) fn remove(rt: &HostRuntime, values: &ArgMatches<'_>) -> io::Result<()> {
     let names = values.get_raw("package").unwrap_or(&[]);
     let mut kept = String::new(rt.alloc());
@@ -99,7 +100,7 @@ fn has_line(list: &str, name: &str) -> bool {
     list.lines().any(|line| line == name)
 }
 
-// Prints what was done with a package, its name in green where `--color` says so.
+// Prints what was done with a package, and its name in green as `--color` requests.
 fn say(rt: &HostRuntime, what: &str, name: &str, values: &ArgMatches<'_>) -> io::Result<()> {
     let colored = match values.get_str("color") {
         Some("always") => true,

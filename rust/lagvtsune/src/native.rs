@@ -337,7 +337,7 @@ pub(crate) mod refusing {
         block
     }
 
-    // SAFETY: memory comes from `System`, or there is none.
+    // SAFETY: every block comes from `System`. A refused call returns a null pointer.
     unsafe impl GlobalAlloc for Refusing {
         unsafe fn alloc(&self, layout: Layout) -> *mut u8 {
             if is_refused() {

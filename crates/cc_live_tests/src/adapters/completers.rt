@@ -1,5 +1,5 @@
-//! Completers that hold any character, or any of a plain path, as the shells read them in their
-//! registrations.
+//! Completers with any character, or any character of a plain path, as the shells read them in
+//! their registrations.
 
 use crate::checks::same;
 use cc_base::{Collected, Error};
@@ -37,8 +37,8 @@ fn powershell_reads_any_character_of_a_plain_path(rt: HostRuntime) {
     reads_each_of_paths(&rt, Builtin::Powershell);
 }
 
-// The characters of plain paths. A completer with any other is quoted as for a POSIX shell, in the
-// registrations of these two shells too, which may read it otherwise.
+// The characters of plain paths. A completer with any other character is quoted as for a POSIX
+// shell, even in the registrations of these two shells, which may read it in another way.
 const OF_PATHS: &str = "ABCDEFGHIJKLMNOPQRSTUVWXYZabcdefghijklmnopqrstuvwxyz0123456789/._-";
 
 // Fails unless the shell reads each character of a plain path, and all of them.
@@ -60,8 +60,7 @@ fn some_completers_are_plain_paths(rt: HostRuntime) {
     assert!(rt; !is_plain_path("a+b"));
 }
 
-// Fails unless the shell reads each ASCII character but NUL, a line feed among them, and a
-// backslash before a line feed.
+// Fails unless the shell reads each ASCII character except NUL, and a backslash before a line feed.
 fn reads_each<R: Abort + AllocGlobal>(rt: &R, shell: Builtin) {
     for byte in 1..128_u8 {
         let mut text = String::new(rt.alloc());
@@ -85,7 +84,7 @@ fn registration(alloc: Global, shell: Builtin, completer: &str) -> Result<String
     Ok(String::from_utf8_lossy(alloc, sink.as_slice())?)
 }
 
-// The word after the variable.
+// Returns the word after the variable, as the shell reads it.
 fn read_completer(alloc: Global, shell: Builtin, text: &str) -> Result<Option<String>, Error> {
     match shell {
         Builtin::Bash => Ok(word(bash_double_word(alloc, after(text, "V=\"bash\" \\\n        "))?)),
@@ -96,7 +95,7 @@ fn read_completer(alloc: Global, shell: Builtin, text: &str) -> Result<Option<St
     }
 }
 
-// fish reads what is between two `"`, and then a word of that.
+// fish reads the text between two `"`, and then a word of that text.
 fn read_twice(alloc: Global, text: &str) -> Result<Option<String>, Error> {
     let Some(arguments) = word(fish_double(alloc, text)?) else {
         return Ok(None);

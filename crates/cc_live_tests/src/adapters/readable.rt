@@ -1,4 +1,4 @@
-//! Tests of the candidates whose replies are sure to read back.
+//! Tests which replies are sure to read back, by their candidates.
 
 use cc_candidates::CompletionCandidate;
 use cc_replies::{are_readable_lines, are_readable_values, are_readable_zsh_items};
@@ -12,8 +12,8 @@ fn candidate(alloc: Global, value: &str, help: &str) -> Result<CompletionCandida
     Ok(CompletionCandidate::new(String::from_str(alloc, value)?).help(Some(help)))
 }
 
-// Fails unless a reply of one candidate with a help is so to bash and Elvish, to zsh, and to fish
-// and PowerShell.
+// Fails unless `wanted` tells whether a reply of one candidate with a help text reads back: in bash
+// and Elvish, in zsh, and in fish and PowerShell.
 fn readable<R: Abort + AllocGlobal>(
     rt: &R,
     value: &str,

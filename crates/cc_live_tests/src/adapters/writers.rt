@@ -27,7 +27,7 @@ fn safe_registrations_that_are_not_taken(rt: HostRuntime) {
     }
 }
 
-// Fails unless a writer with too little room takes the beginning of the text, and the call then
+// Fails unless a writer with too little room holds the beginning of the text, and the call then
 // fails with the writer's kind.
 fn fails_at_each<R: Abort + AllocGlobal, E: EnvCompleter>(rt: &R, shell: &E, asks: bool) {
     let mut whole = Collected::new(rt.alloc());

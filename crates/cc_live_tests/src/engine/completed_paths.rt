@@ -13,7 +13,7 @@ use cc_paths::{Folder, MemoryFolder, PathCompleter, PathTest, RealFolder};
 use std::alloc::Global;
 use std::process::Abort;
 
-/// The paths of names that begin with `foo` pass.
+/// Accepts the paths whose names begin with `foo`.
 #[derive(Drop)]
 struct BeginsWithFoo;
 
@@ -45,7 +45,8 @@ fn system_completer(rt: &HostRuntime) -> Result<Completers, Error> {
     Ok(completers)
 }
 
-// Returns what an argument of this completer offers for a word, if the paths of hints have no folder.
+// Returns what an argument with this completer offers for a word, if the paths of hints have no
+// directory.
 fn find(
     alloc: Global,
     completers: Result<Completers, Error>,
@@ -69,7 +70,7 @@ fn find(
     found
 }
 
-// Fails unless an argument of this completer offers these values, each with a space after it.
+// Fails unless an argument with this completer offers these values, each with a space after it.
 fn offers<R: Abort + AllocGlobal>(rt: &R, completer: usize, word: &str, wanted: &str) {
     let completers = path_completers(rt.alloc());
     let shown = text_of(rt, find(rt.alloc(), completers, completer, word));

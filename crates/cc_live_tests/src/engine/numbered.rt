@@ -9,13 +9,13 @@ use std::alloc::Global;
 
 const APP: &str = r#"{"name": "app"}"#;
 
-// `app` with a child `test` that is shown as `t` too, and names of other programs.
+// `app` with a child `test`, whose visible alias is `t`, and names of other programs.
 const EXTERNAL: &str = r#"{"name": "app", "disable_help_flag": true,
     "disable_help_subcommand": true, "allow_external_subcommands": true, "subcommands": [
         {"name": "test", "visible_aliases": ["t"]}]}"#;
 
-/// `app` with an option `--col`, which has at most one value, of the completer 0, and an option
-/// `--port` under a heading of its own.
+/// Returns `app` with an option `--col`, which has at most one value, of the completer 0, and an
+/// option `--port` under a heading of its own.
 pub(crate) fn with_two_options(alloc: Global) -> Result<Command, Error> {
     let col = option(alloc, "col").map(|col| {
         col.num_args(ValueRange::new(0, 1))
@@ -29,7 +29,7 @@ fn port(alloc: Global) -> Result<Arg, Error> {
     option(alloc, "port").map(|port| port.help_heading(heading))
 }
 
-/// `app` with a positional of this completer and so many values, and no flag.
+/// Returns `app` with a positional with this completer and number of values, and no flag.
 pub(crate) fn with_positional(
     alloc: Global,
     completer: usize,
@@ -43,7 +43,7 @@ pub(crate) fn with_positional(
     with(read(alloc, BARE), positional)
 }
 
-/// `app` with an option `--pair` of two values, of the completer 1, and no flag.
+/// Returns `app` with an option `--pair` of two values, of the completer 1, and no flag.
 pub(crate) fn with_pair(alloc: Global) -> Result<Command, Error> {
     let pair = option(alloc, "pair").map(|pair| {
         pair.num_args(ValueRange::new(2, 2))
@@ -52,7 +52,7 @@ pub(crate) fn with_pair(alloc: Global) -> Result<Command, Error> {
     with(read(alloc, BARE), pair)
 }
 
-/// `app` with a positional of several values in one word, of the completer 1, and no flag.
+/// Returns `app` with a positional of several values in one word, of the completer 1, and no flag.
 pub(crate) fn with_delimiter(alloc: Global) -> Result<Command, Error> {
     let positional = positional(alloc).map(|positional| positional
         .value_delimiter(',')
@@ -60,7 +60,7 @@ pub(crate) fn with_delimiter(alloc: Global) -> Result<Command, Error> {
     with(read(alloc, BARE), positional)
 }
 
-/// `app` with a positional whose values are those of this list, and no flag.
+/// Returns `app` with a positional whose values are those of this list, and no flag.
 pub(crate) fn with_list(alloc: Global, list: usize) -> Result<Command, Error> {
     let positional = positional(alloc).map(|positional| positional.add_candidates(
         ArgValueCandidates::new(list),
@@ -68,7 +68,7 @@ pub(crate) fn with_list(alloc: Global, list: usize) -> Result<Command, Error> {
     with(read(alloc, BARE), positional)
 }
 
-/// `app` with a positional that has the completer 1 and the list 0, and no flag.
+/// Returns `app` with a positional that has the completer 1 and the list 0, and no flag.
 pub(crate) fn with_completer_and_list(alloc: Global) -> Result<Command, Error> {
     let positional = positional(alloc).map(|positional| {
         positional
@@ -78,7 +78,8 @@ pub(crate) fn with_completer_and_list(alloc: Global) -> Result<Command, Error> {
     with(read(alloc, BARE), positional)
 }
 
-/// `app` with a child `test`, shown as `t` too, and the names of this list as other programs.
+/// Returns `app` with a child `test`, whose visible alias is `t`, and the names of this list as
+/// other programs.
 pub(crate) fn with_programs(alloc: Global, list: usize) -> Result<Command, Error> {
     read(alloc, EXTERNAL).map(|command| command.add(SubcommandCandidates::new(list)))
 }

@@ -48,7 +48,7 @@ fn offers_for<R: Abort + AllocGlobal>(
     same(rt, text_of(rt, found).as_str(), wanted);
 }
 
-// The program, this word so many times, and an empty word.
+// Returns the words of a command line: `app`, `word` as often as `times` states, and an empty word.
 fn repeat(alloc: Global, word: &str, times: usize) -> Result<Vec<String>, AllocError> {
     let mut words = Vec::new(alloc);
     words.push(String::from_str(alloc, "app")?)?;
@@ -67,7 +67,7 @@ fn a_thousand_words(rt: HostRuntime) {
     offers_for(&rt, read(alloc, COLORED), repeat(alloc, "--", 1000), "");
 }
 
-// A megabyte of `v`.
+// Returns a million times `v`.
 fn long<R: Abort + AllocGlobal>(rt: &R) -> String {
     "v".repeat(rt.alloc(), 1_000_000).expect(rt, "no word")
 }
@@ -90,7 +90,7 @@ fn a_word_of_a_megabyte(rt: HostRuntime) {
     );
 }
 
-// `app`, `n1` to `n199`, and an empty word.
+// Returns the words `app`, `n1` to `n199`, and an empty word.
 fn names(alloc: Global) -> Result<Vec<String>, AllocError> {
     let mut words = Vec::new(alloc);
     words.push(String::from_str(alloc, "app")?)?;

@@ -11,7 +11,7 @@ use std::alloc::{AllocError, Global};
 use std::process::Abort;
 
 /// Returns the values that the command of a tree file offers for the last of the words, without
-/// folders, each with a space after it.
+/// directories, each with a space after it.
 pub(crate) fn candidates_for<R: Abort + AllocGlobal>(rt: &R, tree: &str, words: &[&str]) -> String {
     let alloc = rt.alloc();
     let folder = MemoryFolder::new(&[], &[]);

@@ -14,9 +14,9 @@ fn some(alloc: Global, text: &str) -> Result<Option<String>, AllocError> {
     Ok(Some(String::from_str(alloc, text)?))
 }
 
-// Candidates in order, all after the plain one, from which each differs in one field: the value
-// counts first, then the help, the id, the tag, the display order, and whether the candidate is
-// hidden.
+// Returns candidates in order, all after the plain one. Each differs from the plain one in one
+// field. The value counts first, then the help text, the id, the tag, the display order, and
+// whether the candidate is hidden.
 fn with_rising_orders(alloc: Global) -> Result<Vec<CompletionCandidate>, AllocError> {
     let mut rising = Vec::new(alloc);
     rising.push(plain(alloc)?.hide(true))?;

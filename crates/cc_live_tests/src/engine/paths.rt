@@ -7,7 +7,8 @@ use cc_fixtures::trees::{FILE, read};
 use cc_paths::MemoryFolder;
 use std::process::Abort;
 
-/// `/w` with a file and two folders, one of them hidden, and a home folder with a folder.
+/// Returns `/w` with a file and two directories, one of them hidden, and a home directory with a
+/// directory.
 pub(crate) fn work() -> MemoryFolder {
     MemoryFolder::new(
         &[
@@ -22,7 +23,7 @@ pub(crate) fn work() -> MemoryFolder {
     .with_home("/home/u")
 }
 
-/// `/o` with two files and a folder.
+/// Returns `/o` with two files and a directory.
 pub(crate) fn other() -> MemoryFolder {
     MemoryFolder::new(
         &[("/o", &["foobar", "foo", "bar"]), ("/o/foo", &[])],

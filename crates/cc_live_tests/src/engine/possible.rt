@@ -8,7 +8,7 @@ use cc_gather::{complete_possible_values, possible_value_candidates};
 use std::alloc::{AllocError, Global};
 use std::process::Abort;
 
-// `auto`, which has a help, `always`, and `never`, which is hidden.
+// Returns `auto`, which has a help text, `always`, and `never`, which is hidden.
 fn kinds(alloc: Global) -> Result<Vec<PossibleValue>, AllocError> {
     let mut kinds = Vec::new(alloc);
     let auto = PossibleValue::new(String::from_str(alloc, "auto")?);
@@ -18,7 +18,8 @@ fn kinds(alloc: Global) -> Result<Vec<PossibleValue>, AllocError> {
     Ok(kinds)
 }
 
-// A `?` before a hidden candidate, its value, its help in brackets, and a space.
+// Returns for each candidate a `?` if it is hidden, its value, its help text in brackets, and a
+// space.
 fn values_text(alloc: Global, found: Vec<CompletionCandidate>) -> Result<String, AllocError> {
     let mut text = String::new(alloc);
     for candidate in found {

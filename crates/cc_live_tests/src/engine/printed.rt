@@ -9,7 +9,7 @@ use cc_fixtures::trees::read;
 use std::alloc::{AllocError, Global};
 use std::process::Abort;
 
-// The printed forms of the arguments, each with a line feed after it.
+// Returns the printed forms of the arguments, each with a line feed after it.
 fn forms(alloc: Global, arguments: &[Arg]) -> Result<String, AllocError> {
     let mut text = String::new(alloc);
     for argument in arguments {

@@ -33,7 +33,7 @@ impl ValueCompleter for Auto {
     }
 }
 
-/// Completes with the number of the value and the text, as `1:text`.
+/// Completes with the number of the value and the text, such as `1:text`.
 #[derive(Drop)]
 struct Echo;
 
@@ -65,7 +65,7 @@ impl ValueCandidates for Programs {
     }
 }
 
-/// Is always out of memory.
+/// Always fails because memory ran out.
 #[derive(Drop)]
 struct OutOfMemory;
 
@@ -90,7 +90,7 @@ impl ValueCandidates for OutOfMemory {
     }
 }
 
-/// The completers `Auto` and `Echo`, and the list `Programs`.
+/// Returns the completers `Auto` and `Echo`, and the list `Programs`.
 pub(crate) fn two_completers(alloc: Global) -> Result<Completers, AllocError> {
     let mut completers: Vec<Box<dyn ValueCompleter>> = Vec::new(alloc);
     completers.push(Box::new(alloc, Auto)?)?;
@@ -100,9 +100,9 @@ pub(crate) fn two_completers(alloc: Global) -> Result<Completers, AllocError> {
     Ok(Completers::new(alloc, completers, lists))
 }
 
-/// What the command offers for the last of the words, with the completers `Auto` and `Echo` and a
-/// closure that completes with the text twice, and with the list `Programs` and a closure that
-/// lists `left` and `right`.
+/// Returns the candidates for the last of the words. The completers are `Auto`, `Echo` and a
+/// closure that completes with the text twice. The lists are `Programs` and a closure that lists
+/// `left` and `right`.
 pub(crate) fn find_with_completers(
     alloc: Global,
     command: &mut Command,
@@ -120,7 +120,7 @@ pub(crate) fn find_with_completers(
     find_last(alloc, command, words, None, &folder, &completers)
 }
 
-/// The same with a completer and a list that are out of memory.
+/// Does the same with a completer and a list that fail because memory ran out.
 pub(crate) fn find_without_memory(
     alloc: Global,
     command: &mut Command,

@@ -31,7 +31,7 @@ fn a_factory_that_fails(rt: HostRuntime) {
     );
 }
 
-// Fails unless this comes of a factory that fails and no arguments.
+// Fails unless this is the result of a factory that fails, without arguments.
 fn without_command<R: Abort + AllocGlobal>(rt: &R, shell: &str, wanted: &str) {
     let program = CompleteEnv::with_factory(|alloc: Global| no_command(alloc));
     is(

@@ -18,7 +18,7 @@ fn a_registration_with_names_of_its_own(rt: HostRuntime) {
     has(&rt, text, " --command 'dyn\\\\amic' --arguments ");
 }
 
-// The registration for fish of the variable `V` and these names.
+// Returns the registration for fish with the variable `V` and these names.
 fn with_names(alloc: Global, bin: &str, completer: &str) -> Result<String, AllocError> {
     let bin = String::from_str(alloc, bin)?;
     let completer = String::from_str(alloc, completer)?;
@@ -45,7 +45,7 @@ fn calls<R: Abort + AllocGlobal>(rt: &R, shell: &str, completer: &str, part: &st
     has(rt, with_completer(rt.alloc(), shell, completer), part);
 }
 
-// The registration of `VAR-x` with this completer.
+// Returns the registration of `VAR-x` with this completer.
 fn with_completer(alloc: Global, shell: &str, completer: &str) -> Result<String, AllocError> {
     let program = CompleteEnv::with_factory(|alloc: Global| named_command(alloc));
     let program = program.completer(String::from_str(alloc, completer)?);

@@ -15,18 +15,18 @@ use std::process::Abort;
 // A command whose name is not its bin name.
 const NAMED: &str = r#"{"name": "VAR-x", "bin_name": "my-bin"}"#;
 
-/// The command `app`, which has a child.
+/// Returns the command `app`, which has a child.
 pub(crate) fn test_command(alloc: Global) -> Result<Command, Error> {
     read(alloc, TESTED)
 }
 
-/// The command `VAR-x`, whose bin name is `my-bin`.
+/// Returns the command `VAR-x`, whose bin name is `my-bin`.
 pub(crate) fn named_command(alloc: Global) -> Result<Command, Error> {
     read(alloc, NAMED)
 }
 
-/// Fails unless the program of `app` writes or fails as this text says, for these variables,
-/// arguments and current folder.
+/// Fails unless the program of `app` writes or fails as the text `wanted` states, for these
+/// variables, arguments and current directory.
 pub(crate) fn ends<R: Abort + AllocGlobal>(
     rt: &R,
     variables: &[(&str, &str)],

@@ -25,8 +25,8 @@ fn a_registration_that_is_not_taken(rt: HostRuntime) {
     fails_at_each(&rt, &["app"], REGISTERED);
 }
 
-// Fails unless a writer with too little room for this text takes its beginning, and the call then
-// fails with the writer's kind; and a later call writes the whole text.
+// Fails unless a writer with too little room for this text holds its beginning, and the call then
+// fails with the writer's kind. A later call has to write the whole text.
 fn fails_at_each<R: Abort + AllocGlobal>(rt: &R, arguments: &[&str], whole: &str) {
     for room in 0..whole.len() {
         fails(rt, arguments, whole, room, Some(ErrorKind::BrokenPipe));

@@ -2,8 +2,8 @@ use Rattle.std.proofs.Common.{◌≡◌, drop, map, string_bytes}
 use Rattle.cc_walk.specs.Visible.{has_no_hidden_alias}
 use Rattle.cc_agreement.proofs.hidden.has_no_hidden_alias.Given as goal
 
--- the words that were passed over are no hidden aliases: the test of all words is that of the rest at
--- the command that is reached
+-- The words so far are not hidden aliases: the result for all words is the result for the remaining
+-- words at the reached command.
 abbrev pub invariant-loop-word : goal.invariant-loop-word
 invariant-loop-word l =
     has_no_hidden_alias l.reached (map string_bytes (drop l.word-index l.words))

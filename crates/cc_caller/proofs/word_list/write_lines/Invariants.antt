@@ -2,7 +2,7 @@ use Rattle.std.proofs.Common.{◌≡◌, ◌++◌, drop, flat_map, map, string_b
 use Rattle.cc_caller.specs.WordList.{line}
 use Rattle.cc_caller.proofs.word_list.write_lines.Given as goal
 
--- what was taken and the lines that are left make the whole; no put failed
+-- the written text and the remaining lines are the whole text, and no write failed
 abbrev pub invariant-loop-long : goal.invariant-loop-long
 invariant-loop-long g l = record {
   whole : g.W.Sink.taken l.sink ++ flat_map line (map string_bytes (drop l.long-index l.longs))

@@ -1,4 +1,4 @@
-//! Folders and their errors.
+//! Directories and their errors.
 
 use crate::checks::{is, same};
 use crate::engine::path_candidates::shown::{returns, text};
@@ -8,7 +8,7 @@ use std::process::Abort;
 use std::rt::{Env, Files};
 use std::{env, fs};
 
-/// Every path is that of a folder whose names can't be listed.
+/// Every path leads to a directory whose names can't be listed.
 #[derive(Drop)]
 pub(crate) struct Unlisted;
 
@@ -67,7 +67,7 @@ fn the_root_of_the_system_is_a_folder(rt: HostRuntime) {
     assert!(rt; matches!(missing, Err(FolderError::Unreadable)));
 }
 
-// The path of a name in a folder.
+// Returns the path of a name in a directory.
 fn path_in<R: Abort + AllocGlobal>(rt: &R, folder: &str, name: &str) -> String {
     format!(in rt.alloc(); "{folder}/{name}").expect(rt, "no path")
 }
@@ -77,12 +77,13 @@ fn make_folder<R: Abort + AllocGlobal + Files>(rt: &R, folder: &str, name: &str)
     fs::create_dir(rt, path.as_str()).expect(rt, "no folder");
 }
 
-// Removes a folder with all that it holds.
+// Removes a directory with all its contents.
 fn remove<R: Abort + AllocGlobal + Files>(rt: &R, folder: &str) {
     fs::remove_dir_all(rt, folder).expect(rt, "not removed");
 }
 
-// A folder of this name that was just made, with the file `a.txt` and the folders `.git` and `src`.
+// Makes a directory of this name, with the file `a.txt` and the directories `.git` and `src`, and
+// returns its path.
 fn make_folder_named<R: Abort + AllocGlobal + Env + Files>(rt: &R, name: &str) -> String {
     let above = env::temp_dir(rt)
         .expect(rt, "no folder above")
@@ -110,8 +111,8 @@ fn the_names_in_a_folder_of_the_system_are_offered(rt: HostRuntime) {
     remove(&rt, path.as_str());
 }
 
-// Fails unless the system says this of a path: whether it is a folder's, and whether it is a
-// file's, which then can be run.
+// Fails unless `wanted` tells whether a path leads to a directory, and whether it leads to a file.
+// The file then counts as executable.
 fn leads(rt: &(impl Abort + AllocGlobal + Files), path: &str, wanted: (bool, bool)) {
     let folder = RealFolder::new(rt, None);
     let shown = (folder.is_dir(path), folder.is_file(path));

@@ -1,4 +1,4 @@
-//! What a test compares.
+//! The texts that tests compare.
 
 use crate::checks::is;
 use cc_candidates::{CompletionCandidate, ValueCompleter};
@@ -6,7 +6,7 @@ use cc_paths::MemoryFolder;
 use std::alloc::{AllocError, Global};
 use std::process::Abort;
 
-// A `?` before the value of a hidden candidate, its help in brackets, and a line feed.
+// Adds a `?` if the candidate is hidden, its value, its help text in brackets, and a line feed.
 fn push_shown(text: &mut String, candidate: &CompletionCandidate) -> Result<(), AllocError> {
     if candidate.is_hide_set() {
         text.push('?')?;
@@ -49,12 +49,12 @@ pub(crate) fn returns<C: ValueCompleter>(
     are(rt, completer.complete(rt.alloc(), word), wanted);
 }
 
-/// A copy of a text.
+/// Returns a copy of a text.
 pub(crate) fn text(rt: &(impl Abort + AllocGlobal), text: &str) -> String {
     String::from_str(rt.alloc(), text).expect(rt, "no text")
 }
 
-/// `/o` with two files and a folder.
+/// Returns `/o` with two files and a directory.
 pub(crate) fn other() -> MemoryFolder {
     MemoryFolder::new(
         &[("/o", &["foobar", "foo", "bar"]), ("/o/foo", &["x"])],

@@ -3,7 +3,7 @@ use Rattle.complgen_tree_errors.specs.Findings.{shown}
 use Rattle.complgen_check.specs.Checking.{shown_warning}
 use Rattle.complgen_check.proofs.checking.push_warnings.Given as goal
 
--- with the warnings that are left it is the whole
+-- the findings so far and the remaining warnings make the whole
 abbrev pub invariant-loop-warning : goal.invariant-loop-warning
 invariant-loop-warning l = map shown l.findings.items
     ++ map shown_warning (drop l.warning-index l.warnings)

@@ -3,8 +3,8 @@ use Rattle.std.specs.List.{AllByRecursion}
 use Rattle.complgen_commands.specs.AllScripts.{HasNoLabels, ReadsBack, path_lines}
 use Rattle.complgen_commands.proofs.all_scripts.write_each.Given as goal
 
--- what was printed and the lines that are left make the whole; no write failed; the command is as it
--- was; the shells that are left have no labels, and where their scripts read back, all do
+-- the lines so far and the remaining ones make the whole; no write failed; the command is
+-- unchanged; the remaining shells have no labels; and if their scripts read back, all scripts do
 abbrev pub invariant-loop-shell : goal.invariant-loop-shell
 invariant-loop-shell g l = record {
   whole : g.W.Sink.taken l.out ++ path_lines l.bin l.folder (drop l.shell-index l.shells)

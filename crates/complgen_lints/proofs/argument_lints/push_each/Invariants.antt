@@ -3,7 +3,7 @@ use Rattle.complgen_lints.specs.ArgumentLints.{argument_list}
 use Rattle.complgen_lints.specs.Walk.{each_from}
 use Rattle.complgen_lints.proofs.argument_lints.push_each.Given as goal
 
--- what is there and what is left make the whole
+-- the items so far and the remaining ones make the whole
 abbrev pub invariant-loop-index : goal.invariant-loop-index
 invariant-loop-index l =
     l.found ++ each_from (argument_list l.command) l.index (drop l.index l.arguments)

@@ -2,7 +2,7 @@ use Rattle.std.proofs.Common.{◌≡◌, ◌++◌, ℕ, List, drop, take}
 use Rattle.complgen_lints.specs.PlacedNames.{owner_in, owner_with, taken_from}
 use Rattle.complgen_lints.proofs.names.push_taken.Given as goal
 
--- the names that were passed over are kept, and what was found and what is left make the whole
+-- the map has the names so far; the findings so far and the remaining ones make the whole
 abbrev pub invariant-loop-name : goal.invariant-loop-name
 invariant-loop-name l = record {
   kept : (word : List ℕ) → owner_in l.seen word ≡ owner_with (l.fn.others ++ take l.name-index l.names) word;

@@ -3,7 +3,7 @@ use Rattle.complgen_lints.specs.Parts.{value_name}
 use Rattle.complgen_lints.specs.Walk.{each_from}
 use Rattle.complgen_lints.proofs.parts.push_value_names.Given as goal
 
--- what is there and what is left make the whole
+-- the items so far and the remaining ones make the whole
 abbrev pub invariant-loop-item : goal.invariant-loop-item
 invariant-loop-item l =
     l.parts.items ++ each_from value_name l.item (drop l.item l.values)

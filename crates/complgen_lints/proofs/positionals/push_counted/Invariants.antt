@@ -2,7 +2,7 @@ use Rattle.std.proofs.Common.{◌≡◌, ◌+◌, ◌≤◌, ◌++◌, drop}
 use Rattle.complgen_lints.specs.PositionalLints.{counted_index, each_numbered}
 use Rattle.complgen_lints.proofs.positionals.push_counted.Given as goal
 
--- the names that were added and those that are left make the whole
+-- the names so far and the remaining ones make the whole
 abbrev pub invariant-loop-index : goal.invariant-loop-index
 invariant-loop-index l =
     (l.names.items ++ each_numbered counted_index l.number l.index (drop l.index l.arguments)

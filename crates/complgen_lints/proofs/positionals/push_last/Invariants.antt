@@ -2,7 +2,7 @@ use Rattle.std.proofs.Common.{◌≡◌, ◌++◌, drop, false}
 use Rattle.complgen_lints.specs.PositionalLints.{last_list}
 use Rattle.complgen_lints.proofs.positionals.push_last.Given as goal
 
--- what was found and what is left make the whole
+-- the findings so far and the remaining ones make the whole
 abbrev pub invariant-loop-index : goal.invariant-loop-index
 invariant-loop-index l =
     l.found ++ last_list l.before l.index (drop l.index l.arguments)

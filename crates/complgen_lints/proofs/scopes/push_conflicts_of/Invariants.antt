@@ -4,7 +4,7 @@ use Rattle.complgen_lints.specs.Scopes.{conflict_kind, conflict_list, is_known_i
 use Rattle.complgen_lints.specs.Walk.{each_from}
 use Rattle.complgen_lints.proofs.scopes.push_conflicts_of.Given as goal
 
--- what was found and what is left make the whole
+-- the findings so far and the remaining ones make the whole
 abbrev pub invariant-loop-index : goal.invariant-loop-index
 invariant-loop-index l =
     l.found ++ each_from (λ item id. conflict_list l.argument_index item (conflict_kind (is_known_in l.seen id) (bytes_eq id l.argument.id) id)) l.index (drop l.index l.ids)

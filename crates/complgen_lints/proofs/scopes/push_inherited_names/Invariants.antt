@@ -3,7 +3,7 @@ use Rattle.complgen_lints.specs.ArgumentNames.{names_of}
 use Rattle.complgen_lints.specs.Walk.{each_from}
 use Rattle.complgen_lints.proofs.scopes.push_inherited_names.Given as goal
 
--- the names that are there and those that are left make the whole
+-- the names so far and the remaining ones make the whole
 abbrev pub invariant-loop-index : goal.invariant-loop-index
 invariant-loop-index l =
     l.names.items ++ each_from (names_of l.named) l.index (map (λ other. other.now) (drop l.index l.inherited))

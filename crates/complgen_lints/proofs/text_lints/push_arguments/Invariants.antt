@@ -3,7 +3,7 @@ use Rattle.complgen_lints.specs.TextLints.{argument_list}
 use Rattle.complgen_lints.specs.Walk.{each_from}
 use Rattle.complgen_lints.proofs.text_lints.push_arguments.Given as goal
 
--- what is there and what is left make the whole
+-- the items so far and the remaining ones make the whole
 abbrev pub invariant-loop-index : goal.invariant-loop-index
 invariant-loop-index l =
     l.found ++ each_from (argument_list l.lint) l.index (drop l.index l.arguments)

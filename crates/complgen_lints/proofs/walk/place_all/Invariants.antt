@@ -3,7 +3,7 @@ use Rattle.std.specs.Vec.Iter.{into_iter_items}
 use Rattle.complgen_lints.specs.Findings.{placed}
 use Rattle.complgen_lints.proofs.walk.place_all.Given as goal
 
--- the warnings that are there and the findings that are left make the whole
+-- the warnings so far and the remaining findings make the whole
 abbrev pub invariant-loop-finding : goal.invariant-loop-finding
 invariant-loop-finding l =
     l.warnings.items ++ map (placed l.at.path.now) (into_iter_items l.finding-iterator)
