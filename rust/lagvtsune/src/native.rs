@@ -13,9 +13,9 @@ extern "C" {
     // Each slice is passed as its start and its length.
 
     /// Makes the script for the shell with the name `shell`, of the command in the tree file
-    /// `tree`, under the bin name `bin`. Returns the length of its text, which is put at the start
-    /// of `room` if it fits there. Otherwise `room` is left as it was, and you can call again with
-    /// more room. You may pass any bytes.
+    /// `tree`, under the bin name `bin`. Returns the length of the text, and copies the text to the
+    /// start of `room` if it fits there. Otherwise `room` stays unchanged, and you can call again
+    /// with more room. You may pass any bytes.
     ///
     /// The `status` is:
     ///
@@ -40,22 +40,24 @@ extern "C" {
         status: *mut u8,
     ) -> usize;
 
-    /// Makes what a shell requests of a program with the command in a tree file: the registration,
-    /// or the reply with the candidates. Returns the length of its text, which is put at the start
-    /// of `room` if it fits there. Otherwise `room` is left as it was, and you can call again with
-    /// more room. You may pass any bytes.
+    /// Answers the request of a shell to the program that the tree file `tree` describes, with the
+    /// registration or with the candidates. Returns the length of the text, and copies the text to
+    /// the start of `room` if it fits there. Otherwise `room` stays unchanged, and you can call
+    /// again with more room. You may pass any bytes.
     ///
-    /// `words` are the program's arguments, its name first. `variables` are names and values in
-    /// turn:
+    /// `words` are the program's arguments, starting with its name. `variables` are names and
+    /// values, alternating:
     ///
-    /// - `COMPLETE` requests, by the name of the shell, with `_COMPLGEN_VALUES`, `_COMPLGEN_KEPT`
-    ///   and `_COMPLGEN_QUOTE` as the registration sets them, or with `_CLAP_COMPLETE_INDEX` and
-    ///   `_CLAP_IFS` as registrations of the original's form do.
+    /// - `COMPLETE` makes the request, and its value names the shell.
+    /// - `_COMPLGEN_VALUES`, `_COMPLGEN_KEPT` and `_COMPLGEN_QUOTE` have the values that the
+    ///   registration sets. A registration of the original's form sets `_CLAP_COMPLETE_INDEX` and
+    ///   `_CLAP_IFS` instead.
     /// - `HOME` is the user's home directory, and `PWD` the directory where relative paths begin.
     ///
-    /// `names` are those in the folder at the path `listed`, none if it can't be read. `folders`
-    /// and `files` are paths of folders and of files: of that folder itself and of its names, each
-    /// joined to `listed` by one slash. Any other path is neither.
+    /// `names` are the names in the directory at the path `listed`, or none if it can't be read.
+    /// `folders` and `files` are the paths of directories and of files, among these: that directory
+    /// itself, and its names, each joined to `listed` by one slash. Any other path counts as
+    /// neither.
     ///
     /// The `status` is:
     ///
@@ -63,7 +65,7 @@ extern "C" {
     /// - 1: the text is a message, which ends in a line feed.
     /// - 2: a word, a variable or a name is not UTF-8, and there is no text.
     /// - 3: nothing is requested, and there is no text.
-    /// - 4: the text is the path of another folder, whose names are wanted. Call again with these.
+    /// - 4: the text is the path of another directory. Call again with the names in that one.
     ///
     /// Proved (`crates/complgen_c/src/live.rt`):
     ///
