@@ -3,13 +3,13 @@
 
     tools/documents.py [--sentences]
 
-The documents are the pages at the top, those of docs/, and the README.md of bench/, tests/ and tools/.
+The documents are the pages at the top, those of docs/, and the README.md of bench/, release/, tests/ and tools/.
 
 - Each code block in Rattle or Rust is in a file of crates/ or examples/, line by line, at any indentation.
   What it imports is imported there. The blocks of docs/CALLS.md, which tools/calls.py makes, are left out.
 - Each file, function and definition in the walks of docs/ARCHITECTURE.md exists.
 - Each link leads to a file. Each named source file exists, such as `quote/src/escape.rt` or `escape.rt`,
-  and so does each named script of bench/, tests/ and tools/.
+  and so does each named script of bench/, release/, tests/ and tools/.
 - A page has at most 4,000 words, except docs/TEXTS.md and docs/CALLS.md.
 
 The script prints how many sentences of each page have more than 30 words, and with --sentences these
@@ -62,7 +62,7 @@ def print_long(long):
 
 
 def pages():
-    found = [path for folder in (".", "docs", "bench", "tests", "tools") for path in paths(f"{folder}/*.md")]
+    found = [path for folder in (".", "docs", "bench", "release", "tests", "tools") for path in paths(f"{folder}/*.md")]
     return [os.path.relpath(path, TOP) for path in found]
 
 
@@ -101,7 +101,7 @@ def broken_links(page, lines):
 def unknown_files(lines):
     """Yields source files and scripts that do not exist. A name in capitals is a placeholder."""
     for at, line in enumerate(lines, 1):
-        for name in re.findall(r"`((?:bench|tests|tools)/[\w./-]+)", line):
+        for name in re.findall(r"`((?:bench|release|tests|tools)/[\w./-]+)", line):
             if not os.path.exists(os.path.join(TOP, name)) and not re.search("[A-Z]", name):
                 yield at, name
         for name in re.findall(r"`([\w/.-]+\.(?:rt|antt|rs))`", line):
