@@ -101,7 +101,7 @@ def broken_links(page, lines):
 def unknown_files(lines):
     """Yields source files and scripts that do not exist. A name in capitals is a placeholder."""
     for at, line in enumerate(lines, 1):
-        for name in re.findall(r"`((?:bench|release|tests|tools)/[\w./-]+)", line):
+        for name in re.findall(r"`((?:bench|release(?!/out)|tests|tools)/[\w./-]+)", line):
             if not os.path.exists(os.path.join(TOP, name)) and not re.search("[A-Z]", name):
                 yield at, name
         for name in re.findall(r"`([\w/.-]+\.(?:rt|antt|rs))`", line):
