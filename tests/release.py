@@ -11,7 +11,7 @@ parts, all by default:
 - debian: dpkg installs and removes the package below a root of its own. lintian checks it;
 - program: `script`, `check` and `--version` of the installed program;
 - manuals: `man --warnings` and `mandoc -Tlint` find nothing in the man pages;
-- live: live completion in bash, zsh, fish and Elvish, by the lines of docs/LIVE_TREES.md and docs/INSTALL.md;
+- live: live completion in bash, zsh, fish and Elvish, by the lines of docs/LIVE.md and docs/INSTALL.md;
 - own: the completions of complgen itself in the same shells, by the lines of docs/INSTALL.md;
 - library: symbols, pkg-config, the C examples under valgrind, memory of a program's own, the Python example;
 - tab: a Tab in bash and fish, for the examples in C and Python;
@@ -261,10 +261,10 @@ def manuals(files):
 
 def live_lines():
     """Returns the lines that set up live completion, by shell."""
-    with open(os.path.join(common.TOP, "docs/LIVE_TREES.md"), encoding="utf-8") as file:
+    with open(os.path.join(common.TOP, "docs/LIVE.md"), encoding="utf-8") as file:
         rows = re.findall(r"^\| (\w+) \| `(~/\S+)`[^|]*\| `(.*)` \|$", file.read(), re.MULTILINE)
     lines = {shell.lower(): line.replace("\\|", "|") for shell, file, line in rows}
-    check(set(SHELLS) <= lines.keys(), f"docs/LIVE_TREES.md has lines for: {sorted(lines)}")
+    check(set(SHELLS) <= lines.keys(), f"docs/LIVE.md has lines for: {sorted(lines)}")
     return lines
 
 

@@ -31,7 +31,7 @@ fn refuse(archive: &Path, target: &str) -> ! {
         "lagvtsune: there is no {} for {target}.\n\
          On x86-64 Linux with glibc, `rt lib` in crates/complgen_c of the repository makes it:\n\
          copy out/{ARCHIVE} there, or let LAGVTSUNE_DIR name the folder that it is in.\n\
-         For other targets there is none: docs/FROM_CLAP.md says how they take clap_complete.",
+         For other targets there is none: docs/RUST.md says how they take clap_complete.",
         archive.display()
     );
     process::exit(1)

@@ -1,5 +1,5 @@
 //! The library as a program uses it. `elvish_script` is in the README too, and `write_scripts`
-//! in docs/CALLING.md.
+//! in docs/LIBRARY.md.
 
 use crate::checks::has;
 use crate::fixtures::tree;

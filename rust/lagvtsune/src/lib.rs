@@ -2,7 +2,7 @@
 //!
 //! The names are those of `clap_complete`. The library is an archive, which `crates/complgen_c` of
 //! the repository builds. This package passes it a `clap::Command` as a tree file, and the library
-//! writes the script. `docs/FROM_CLAP.md` explains what is proved, what is not, and what a tree
+//! writes the script. `docs/RUST.md` explains what is proved, what is not, and what a tree
 //! file omits.
 //!
 //! To write a script:
