@@ -14,12 +14,12 @@ pub returns-in-Ok-None : goal.returns-in-Ok-None
 returns-in-Ok-None c = record {
   outcome = _;
   may_end = not_utf8 (rw c.in-Ok-None.field-0-is at c.in-Ok-None.ensures);
-  returns = c.put.ensures;
+  returns = c.put-in-Ok-None.ensures;
 }
 
 pub returns-in-Err : goal.returns-in-Err
 returns-in-Err c = record {
   outcome = _;
   may_end = out_of_memory _ c.from.ensures;
-  returns = c.put.ensures;
+  returns = c.put-in-Err.ensures;
 }
