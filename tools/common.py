@@ -2,7 +2,7 @@
 
 The scripts run the proved programs. The variables COMPLGEN and LARDER name others:
 
-    COMPLGEN=/tmp/complgen tests/hostile.py
+    COMPLGEN=../other/complgen tests/hostile.py
 """
 
 import collections
