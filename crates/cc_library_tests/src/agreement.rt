@@ -57,11 +57,23 @@ fn call<W: Sink>(
     words: Vec<String>,
     index: usize,
 ) -> Result<Vec<CompletionCandidate>, Error> {
+    call_in(alloc, None, command, sink, words, index)
+}
+
+// Makes the call in a directory without files.
+fn call_in<W: Sink>(
+    alloc: Global,
+    current_dir: Option<&str>,
+    command: &mut Command,
+    sink: &mut W,
+    words: Vec<String>,
+    index: usize,
+) -> Result<Vec<CompletionCandidate>, Error> {
     let bin_name = String::from_str(alloc, "app")?;
     let folder = MemoryFolder::new(&[], &[]);
     let completers = Completers::none(alloc);
     let sources = Sources {
-        current_dir: None,
+        current_dir,
         folder: &folder,
         completers: &completers,
     };

@@ -153,11 +153,12 @@ fn what_is_described_is_parsed(rt: HostRuntime) {
 fn both(alloc: Global, word: &str, line: &[&str]) -> Result<String, Error> {
     let words = to_strings(alloc, &["app", word])?;
     let mut app = app(alloc)?;
-    both_of(alloc, &mut app, words, line)
+    both_of(alloc, None, &mut app, words, line)
 }
 
 fn both_of(
     alloc: Global,
+    current_dir: Option<&str>,
     app: &mut Command,
     words: Vec<String>,
     line: &[&str],
@@ -166,7 +167,7 @@ fn both_of(
     let folder = MemoryFolder::new(&[], &[]);
     let completers = Completers::none(alloc);
     let sources = Sources {
-        current_dir: None,
+        current_dir,
         folder: &folder,
         completers: &completers,
     };
