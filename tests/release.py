@@ -45,6 +45,9 @@ START_FILES = {
 # The programs of the system, but nothing of /usr/local/bin, where `rt` may be.
 SYSTEM = "/usr/bin:/bin"
 BASH_COMPLETION = "/usr/share/bash-completion/bash_completion"
+# The functions that the library uses: three for memory by its own names, those below them, and the compiler's.
+USED = set("rattle_alloc rattle_realloc rattle_dealloc malloc realloc free memcpy memmove memset".split())
+USED.add("_GLOBAL_OFFSET_TABLE_")
 # A program that writes its arguments to a file.
 RECORDER = '#!/bin/sh\nprintf "%s\\n" "$@" >"$RECORD.new"\nmv "$RECORD.new" "$RECORD"\n'
 SECONDS_TO_START = 30
@@ -392,6 +395,9 @@ def library(files):
     exported = run(["nm", "-D", "--defined-only", "--format=just-symbols", f"{root}/lib/liblagvtsune.so"]).split()
     exported = [name for name in exported if not name.startswith("LAGVTSUNE")]
     check([name.split("@")[0] for name in exported] == ["lagvtsune_live", "lagvtsune_script"], f"exported: {exported}")
+    used = run(["nm", "-u", "--format=just-symbols", f"{root}/lib/liblagvtsune.a"]).split()
+    used = {name for name in used if not name.endswith(":")} - USED
+    check(not used, f"liblagvtsune.a uses {sorted(used)}")
     check(pkg_config(root, "--modversion").strip() == files.version, "lagvtsune.pc has another version")
     greet = build_greet(files, root)
     quiet = ["valgrind", "--quiet", "--error-exitcode=9", "--leak-check=full", "--show-leak-kinds=all"]
