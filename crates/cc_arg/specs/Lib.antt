@@ -4,3 +4,4 @@ pub mod Arguments
 pub mod PossibleValues
 pub mod Printed
 pub mod ShownNames
+pub mod ValueSources

@@ -317,6 +317,56 @@ impl Arg {
         self.parts.value_hint
     }
 
+    /// Sets the words of a command that prints the values: a program and its arguments. This
+    /// library never starts a program: a caller has to run the words. Scripts do not change.
+    pub fn values_from(mut self, words: Vec<Text>) -> Arg
+        ensures { result ≡ record self { values_from = Some words.items } }
+    {
+        self.parts.values_from = Some(Items::from(words));
+        self
+    }
+
+    /// Returns the words of the command that prints the values.
+    pub fn get_values_from(&self) -> Option<&[Text]>
+        ensures { option_copied result ≡ self.now.values_from }
+    {
+        self.parts
+            .values_from
+            .as_ref()
+            .map(|words| words.as_slice())
+    }
+
+    /// Sets the path of the file that lists the values. Scripts do not change.
+    pub fn values_file(mut self, path: String) -> Arg
+        ensures { result ≡ record self { values_file = Some (string_bytes path) } }
+    {
+        self.parts.values_file = Some(Text::from(path));
+        self
+    }
+
+    /// Returns the path of the file that lists the values.
+    pub fn get_values_file(&self) -> Option<&str>
+        ensures { option_copied result ≡ self.now.values_file }
+    {
+        text_of(&self.parts.values_file)
+    }
+
+    /// Sets the text at which the value of a line ends and its description begins, instead of a
+    /// tab. It applies to the lines of `values_from` and `values_file`.
+    pub fn values_split(mut self, separator: String) -> Arg
+        ensures { result ≡ record self { values_split = Some (string_bytes separator) } }
+    {
+        self.parts.values_split = Some(Text::from(separator));
+        self
+    }
+
+    /// Returns the text at which the value of a line ends, if it is not a tab.
+    pub fn get_values_split(&self) -> Option<&str>
+        ensures { option_copied result ≡ self.now.values_split }
+    {
+        text_of(&self.parts.values_split)
+    }
+
     /// Sets the value that a parser uses if the argument is not given. Scripts and candidates do
     /// not change.
     pub fn default_value(mut self, value: String) -> Arg
@@ -632,4 +682,11 @@ pub fn fill_display_order(argument: &mut Arg, order: usize)
         record argument.old { display_order = Some (unwrap_or argument.old.display_order order) } }
 {
     argument.parts.display_order = Some(argument.parts.display_order.unwrap_or(order));
+}
+
+/// Sets the list of candidates for the values, as `Arg::add_candidates` does.
+pub(crate) fn set_candidates(argument: &mut Arg, candidates: ArgValueCandidates)
+    ensures { argument.new ≡ record argument.old { candidates = Some candidates } }
+{
+    argument.parts.candidates = Some(candidates);
 }

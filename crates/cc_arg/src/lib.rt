@@ -24,6 +24,7 @@ mod possible_value;
 mod printed;
 mod range;
 mod value_hint;
+mod value_source;
 
 pub use crate::action::ArgAction;
 pub use crate::aliases::{LongAndVisibleAliases, ShortAndVisibleAliases};
@@ -36,3 +37,4 @@ pub use crate::parts::ArgParts;
 pub use crate::possible_value::PossibleValue;
 pub use crate::range::ValueRange;
 pub use crate::value_hint::ValueHint;
+pub use crate::value_source::{has_source, is_runnable, list_if_same_source, same_source};

@@ -40,6 +40,12 @@ pub struct ArgParts {
     pub possible_values: Option<Items<PossibleValue>>,
     /// The value hint.
     pub value_hint: ValueHint,
+    /// The program that prints the values, and its arguments.
+    pub values_from: Option<Items<Text>>,
+    /// The path of the file that lists the values.
+    pub values_file: Option<Text>,
+    /// The text at which the value of a line ends and its description begins.
+    pub values_split: Option<Text>,
     /// The word that ends the values.
     pub value_terminator: Option<Text>,
     /// The value that a parser uses if the argument is not given.
@@ -70,8 +76,8 @@ pub struct ArgParts {
     pub allow_hyphen_values: bool,
 }
 
-// One line for each field except the id: its kind. In a new argument, a field has the value `first!`
-// of its kind, and `copied!` copies it.
+// One line for each field except the id: its kind. In a new argument, a field has the value
+// `first!` of its kind, and `copied!` copies it.
 macro_rules! each_field {
     ($all:ident! $($with:ident),*) => {
         $all! {
@@ -88,6 +94,9 @@ macro_rules! each_field {
             value_names texts,
             possible_values values,
             value_hint hint,
+            values_from words,
+            values_file text,
+            values_split text,
             value_terminator text,
             default_value text,
             help_heading text,
@@ -141,6 +150,9 @@ macro_rules! copied {
     (values $alloc:ident $of:ident $field:ident) => {
         copy_of_given($alloc, &$of.$field)?
     };
+    (words $alloc:ident $of:ident $field:ident) => {
+        copy_of_words($alloc, &$of.$field)?
+    };
     ($kind:ident $alloc:ident $of:ident $field:ident) => { $of.$field };
 }
 
@@ -169,6 +181,19 @@ fn copy_fields(alloc: Global, copy: &mut ArgParts, of: &ArgParts) -> Result<(), 
 {
     each_field!(copy_each! alloc, copy, of);
     Ok(())
+}
+
+// Copies the words of a command, if there are any.
+fn copy_of_words(
+    alloc: Global,
+    words: &Option<Items<Text>>,
+) -> Result<Option<Items<Text>>, AllocError>
+    ensures { IfOk result (λ copy. copy ≡ words.now) }
+{
+    match words {
+        Some(words) => Ok(Some(Items::copy_of_texts(alloc, words.as_slice())?)),
+        None => Ok(None),
+    }
 }
 
 // Returns the text of a field, if it is set.
