@@ -4,8 +4,11 @@ pub mod BuiltExamples
 pub mod DifferentNames
 pub mod EscapedBuilt
 pub mod Forests
+pub mod ListedBuilt
 pub mod PlainBuilt
 pub mod PlainParts
 pub mod PutIn
 pub mod QuietBuilt
 pub mod SiblingNames
+pub mod ValueListExamples
+pub mod ValueLists

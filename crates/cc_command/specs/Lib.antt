@@ -12,3 +12,4 @@ pub mod Quiet
 pub mod Texts
 pub mod Tree
 pub mod TreeCode
+pub mod ValueLists

@@ -14,6 +14,7 @@ mod iterators;
 mod plain;
 mod quiet;
 mod settings;
+mod values;
 
 pub use crate::command::build::{build_as, has_id, lacks_index};
 pub use crate::command::builders::{add_argument, add_child};
@@ -23,6 +24,7 @@ pub use crate::command::getters::{contains_name, full_name, has_name};
 pub use crate::command::iterators::{Arguments, NameAndVisibleAliases};
 pub use crate::command::plain::has_no_quote;
 pub use crate::command::quiet::is_quiet_value;
+pub use crate::command::values::list_values;
 use crate::node::Node;
 use cc_base::Text;
 use std::alloc::Global;
