@@ -149,7 +149,8 @@ all_opened sources P word ok _ returned allowed h = tt
 
 -- THE OPTIONS
 
--- what is listed is so, and what is wanted follows the text before it
+-- each listed candidate has the property, or the text before the value and the text of the value
+-- together are the word
 abbrev Fits : (CompletionCandidate → Type 0) → List ℕ → OptionMatch → Type 0
 Fits P word (Listed found) = AllByRecursion P found
 Fits P word (ValuesOf wanted) = wanted.before ++ wanted.text ≡ word

@@ -46,7 +46,7 @@ definitions = tt
 abbrev node_state_after : Tree → List (List ℕ) → NodeState
 node_state_after root words = walk (record { tree = root; state = start false }) words
 
--- what is wanted for the word after these words
+-- the questions for the word after these words
 abbrev questions_after : Tree → List (List ℕ) → List ℕ → Questions
 questions_after root words word =
     questions (node_state_after root words).tree (node_state_after root words).state word
@@ -83,7 +83,8 @@ app = built_tree (with_child (new_tree (codes "app")) test)
 -- THE INDEX
 
 the_index :
-    -- the program's name is not completed, unless there is none, and no word past the last
+    -- the program's name is not completed, unless the words begin without it. No word past the
+    -- last is completed
     (is_in_range app.node 2 0 ≡ false)
     × (is_in_range app.node 1 1 ≡ false)
     × (is_in_range app.node 2 1 ≡ true)
@@ -282,7 +283,7 @@ below_names :
     -- a hidden alias leads down
     (offered_after deep (codes "tst" ∷ []) [] no_lists
     ≡ codes "--deep" ∷ codes "--help" ∷ [])
-    -- so does a name after `--`, where no option is left
+    -- so does a name after `--`, because no option can follow
     × (offered_after deep (codes "--" ∷ codes "test" ∷ []) [] no_lists ≡ [])
     -- `-` is the option's value, so the first positional is next, which has no values to offer
     × (offered_after hyphens (codes "--opt" ∷ codes "-" ∷ []) [] no_lists

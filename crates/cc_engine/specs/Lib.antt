@@ -1,3 +1,4 @@
+pub mod Asked
 pub mod Completion
 pub mod OpenLists
 pub mod Paths

@@ -98,7 +98,8 @@ fn names_before(command: &Command) -> usize
     }
 }
 
-fn in_range(command: &Command, count: usize, index: usize) -> bool
+/// Returns whether a word other than the program's name is at `index`.
+pub(crate) fn in_range(command: &Command, count: usize, index: usize) -> bool
     ensures { result ≡ is_in_range command.now.node count index }
 {
     names_before(command) <= index && index < count
@@ -123,8 +124,8 @@ fn complete_in_range<L: Lookup>(
     offer_candidates(alloc, node, &walked.state, word, lookup)
 }
 
-// Returns the words before the index, without the program's name.
-fn words_before<'w>(command: &Command, words: &'w [String], index: usize) -> &'w [String]
+/// Returns the words before the index, without the program's name.
+pub(crate) fn words_before<'w>(command: &Command, words: &'w [String], index: usize) -> &'w [String]
     requires { is_in_range command.now.node (length words.now) index ≡ true }
     ensures { map string_bytes result.now
         ≡ words_before command.now.node (map string_bytes words.now) index }
@@ -133,7 +134,8 @@ fn words_before<'w>(command: &Command, words: &'w [String], index: usize) -> &'w
     &before[names_before(command)..]
 }
 
-fn word_at(words: &[String], index: usize) -> &str
+/// Returns the word at the index.
+pub(crate) fn word_at(words: &[String], index: usize) -> &str
     requires { index < length words.now }
     ensures { result.now ≡ get_or (map string_bytes words.now) index [] }
 {

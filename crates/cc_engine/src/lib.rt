@@ -1,7 +1,7 @@
 //! The candidates for a word of a command line.
 //!
-//! A [`Lookup`] finds the candidates that a command does not hold. [`Sources`] looks in a folder and
-//! in completers:
+//! A [`Lookup`] finds the candidates that a command does not hold. [`Sources`] looks in a folder
+//! and in completers:
 //!
 //! ```rattle
 //! fn candidates(
@@ -21,6 +21,7 @@
 //! ```
 #![tactic(auto)]
 
+mod asked;
 mod candidates;
 mod completion;
 mod lookup;
@@ -28,6 +29,7 @@ mod offered_lists;
 mod open_lists;
 mod sources;
 
+pub use crate::asked::asked_argument;
 pub use crate::completion::{complete, complete_from};
 pub use crate::lookup::Lookup;
 pub use crate::sources::Sources;

@@ -16,9 +16,9 @@ use std::alloc::{AllocError, Global};
 
 /// A folder and completers, in which live completion looks for candidates.
 ///
-/// The values of an argument come from its completer. Without one they come from its list, then from
-/// its possible values, then from its value hint, by the paths in a folder. Arguments and commands
-/// name their completers and lists by numbers.
+/// The values of an argument come from its completer. Without one they come from its list, then
+/// from its possible values, then from its value hint, by the paths in a folder. Arguments and
+/// commands name their completers and lists by numbers.
 #[derive(Drop)]
 pub struct Sources<'a, D, C> {
     /// The directory where relative paths begin. Without one, relative paths have no candidates.
