@@ -1,7 +1,11 @@
 pub mod BashReadings
 pub mod Beginnings
+pub mod Cutting
 mod Examples
 pub mod FirstLines
+pub mod FirstOfValues
+pub mod GivenEntries
+mod GivenExamples
 mod Named
 pub mod PowershellReadings
 pub mod ReplyReadings

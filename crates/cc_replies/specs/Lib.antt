@@ -1,5 +1,6 @@
 pub mod BashWords
 pub mod Environment
+pub mod GivenLines
 pub mod PowershellWords
 pub mod Reply
 pub mod SafeReplies

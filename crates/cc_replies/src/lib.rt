@@ -16,6 +16,7 @@
 
 mod bash_words;
 mod environment;
+mod lines;
 mod powershell_words;
 mod readable;
 mod reply;
@@ -25,6 +26,7 @@ mod system;
 
 pub use crate::bash_words::{OpenQuote, write_bash_words};
 pub use crate::environment::EnvValues;
+pub use crate::lines::GivenLines;
 pub use crate::powershell_words::write_powershell_words;
 pub use crate::readable::{are_readable_lines, are_readable_values, are_readable_zsh_items};
 pub use crate::reply::{write_lines, write_values, write_zsh_items};
