@@ -1,0 +1,4 @@
+pub mod Hosts
+pub mod Marks
+pub mod SshConfig
+pub mod Users

@@ -1,0 +1,71 @@
+//! The hosts in the configuration of ssh.
+
+ghost use Rattle.std.specs.Prelude.{◌≡◌, ◌++◌, IfOk, OnOk};
+ghost use Rattle.std.specs.List.{list_any};
+ghost use Rattle.complgen_hints.specs.SshConfig.{config_hosts, config_line, config_lines, config_names};
+ghost use Rattle.complgen_hints.specs.SshConfig.{is_pattern, is_pattern_byte};
+
+use crate::hosts::push_name;
+use crate::mark::{Mark, after, before, from};
+use std::alloc::{AllocError, Global};
+
+/// Returns the names of the hosts in `config`, the contents of `~/.ssh/config`: the words of each
+/// `Host` line. A pattern is left out.
+///
+/// # Errors
+///
+/// `AllocError` if an allocation fails.
+pub fn hosts_of_config(alloc: Global, config: &[u8]) -> Result<Vec<u8>, AllocError>
+    ensures { IfOk result (λ lines. lines.items ≡ config_lines config.now) }
+{
+    let mut lines = Vec::new(alloc);
+    let mut left = config;
+    while !left.is_empty() {
+        push_hosts(&mut lines, before(Mark::Feed, left))?;
+        left = after(Mark::Feed, left);
+    }
+    Ok(lines)
+}
+
+// Adds the names in a line that begins with `Host`, in any case. An `=` may follow the keyword.
+fn push_hosts(lines: &mut Vec<u8>, line: &[u8]) -> Result<(), AllocError>
+    ensures { OnOk result (lines.new.items ≡ lines.old.items ++ config_hosts line.now) }
+{
+    let entry = from(Mark::Visible, line);
+    if !before(Mark::Setting, entry).eq_ignore_ascii_case(b"host") {
+        return Ok(());
+    }
+    push_names(lines, after(Mark::Setting, entry))
+}
+
+fn push_names(lines: &mut Vec<u8>, words: &[u8]) -> Result<(), AllocError>
+    ensures { OnOk result (lines.new.items ≡ lines.old.items ++ config_names words.now) }
+{
+    let mut left = words;
+    while !left.is_empty() {
+        push_unless_pattern(lines, before(Mark::Setting, left))?;
+        left = after(Mark::Setting, left);
+    }
+    Ok(())
+}
+
+fn push_unless_pattern(lines: &mut Vec<u8>, name: &[u8]) -> Result<(), AllocError>
+    ensures { OnOk result (lines.new.items ≡ lines.old.items ++ config_line name.now) }
+{
+    if is_pattern(name) {
+        return Ok(());
+    }
+    push_name(lines, name)
+}
+
+fn is_pattern(name: &[u8]) -> bool
+    ensures { result ≡ is_pattern name.now }
+{
+    name.iter().any(|byte| is_pattern_byte(*byte))
+}
+
+fn is_pattern_byte(byte: u8) -> bool
+    ensures { result ≡ is_pattern_byte byte }
+{
+    matches!(byte, b'*' | b'?' | b'!')
+}
