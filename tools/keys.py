@@ -15,7 +15,7 @@ From the schema come:
 
 - a table or a definition is not the one that `--write` writes;
 - a key of the schema has no description;
-- rust/lagvtsune/src/tree_file.rs does not write a key of the schema, or writes another one.
+- rust/lagvtsune/src/tree_file.rs does not write a key of the schema that clap has, or writes another one.
 
 `--write` prints the markers that it does not find, and then exits with status 1.
 """
@@ -39,6 +39,10 @@ DEFINITIONS = {
 # The fields whose names are not their keys, and the keys that the definitions write by hand or have elsewhere.
 FIELDS = {"conflicts_with": "conflicts", "args": "arguments"}
 BY_HAND = {"id", "name", "subcommands"}
+
+# The keys that clap has nothing for: an argument of clap cannot name a command or a file that lists its values, so
+# the writer has nothing to write there.
+WITHOUT_CLAP = {"argument": {"values_from", "values_file", "values_split"}}
 
 # The functions of the writer that write the keys of an object. The methods of `object`, such as `text` and `flag`,
 # take the key as their first argument, and `order` writes `display_order`.
@@ -130,15 +134,16 @@ def undescribed(schema):
 
 
 def unwritten(schema, source):
-    """Returns the keys that the writer lacks, and those that the schema lacks."""
+    """Returns the keys that the writer lacks, and those that the schema or clap lacks."""
     for kind, functions in FUNCTIONS.items():
         bodies = "".join(body(source, function) for function in functions)
         keys = set(re.findall(r'\bobject\s*\.(?!new\b)\w+\("(\w+)"', bodies))
         if ".order(" in bodies:
             keys.add("display_order")
-        shown = set(schema[kind]["properties"])
+        shown = set(schema[kind]["properties"]) - WITHOUT_CLAP.get(kind, set())
         yield from (f"{WRITER.name} does not write the key {key} of {kind}" for key in sorted(shown - keys))
-        yield from (f"{WRITER.name} writes a key {key} of {kind}, which the schema lacks" for key in sorted(keys - shown))
+        yield from (f"{WRITER.name} writes a key {key} of {kind}, which the schema or clap lacks"
+                    for key in sorted(keys - shown))
 
 
 def body(source, function):

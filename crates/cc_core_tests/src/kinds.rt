@@ -38,7 +38,7 @@ fn arguments_are_listed_by_kind(rt: HostRuntime) {
     drop(app);
 }
 
-// Returns the child to which a word leads, or the command itself if there is none.
+// Returns the child to which a word leads, or the command itself if the word names no child.
 fn child<'a>(command: &'a Command, word: &str) -> &'a Command {
     command.find_subcommand(word).unwrap_or(command)
 }

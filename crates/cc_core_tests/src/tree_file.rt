@@ -295,6 +295,57 @@ fn fails_on_other_forms(rt: HostRuntime) {
     }
 }
 
+// The keys for the source of an argument's values.
+const SOURCES: &str = r#"{"name": "app", "args": [
+    {"id": "b", "values_from": ["git", "branch"], "values_split": " "},
+    {"id": "h", "values_file": "~/.hosts"}, {"id": "p", "values_from": ["/bin/ls", "./a=b", ""]}]}"#;
+
+#[test]
+fn the_keys_of_sources_set_their_fields(rt: HostRuntime) {
+    let command = tree(&rt, rt.alloc(), SOURCES);
+    let [branch, host, path] = command.get_arguments() else {
+        panic!(rt; "not three arguments");
+    };
+    has_words(&rt, branch, &["git", "branch"]);
+    same(&rt, branch.get_values_split(), Some(" "));
+    same(&rt, branch.get_values_file(), None);
+    assert!(rt; host.get_values_from().is_none());
+    same(&rt, host.get_values_file(), Some("~/.hosts"));
+    same(&rt, host.get_values_split(), None);
+    has_words(&rt, path, &["/bin/ls", "./a=b", ""]);
+    drop(command);
+}
+
+fn has_words(rt: &impl Abort, arg: &Arg, words: &[&str]) {
+    let found = arg.get_values_from().expect(rt, "no command");
+    same(rt, found.len(), words.len());
+    for (word, wanted) in found.iter().zip(words) {
+        same(rt, word.as_str(), *wanted);
+    }
+}
+
+#[test]
+fn fails_on_sources_that_cannot_be_used(rt: HostRuntime) {
+    let texts = [
+        r#"{"name": "a", "args": [{"id": "o", "values_from": []}]}"#,
+        r#"{"name": "a", "args": [{"id": "o", "values_from": [""]}]}"#,
+        r#"{"name": "a", "args": [{"id": "o", "values_from": ["./ls"]}]}"#,
+        r#"{"name": "a", "args": [{"id": "o", "values_from": ["A=b", "ls"]}]}"#,
+        r#"{"name": "a", "args": [{"id": "o", "values_from": ["ls", "a\u0000"]}]}"#,
+        r#"{"name": "a", "args": [{"id": "o", "values_from": ["ls", "a\u000b"]}]}"#,
+        r#"{"name": "a", "args": [{"id": "o", "values_from": "ls"}]}"#,
+        r#"{"name": "a", "args": [{"id": "o", "values_file": ""}]}"#,
+        r#"{"name": "a", "args": [{"id": "o", "values_file": "a\u0000"}]}"#,
+        r#"{"name": "a", "args": [{"id": "o", "values_split": ""}]}"#,
+        r#"{"name": "a", "args": [{"id": "o", "values_from": ["a"], "values_file": "b"}]}"#,
+        r#"{"name": "a", "args": [{"id": "o", "values_from": ["a"], "possible_values": []}]}"#,
+        r#"{"name": "a", "args": [{"id": "o", "values_file": "b", "possible_values": []}]}"#,
+    ];
+    for text in texts {
+        has_a_bad_form(&rt, rt.alloc(), text);
+    }
+}
+
 fn debug_text(alloc: Global, error: &TreeError) -> Result<String, AllocError> {
     format!(in alloc; "{error} {error:?}")
 }

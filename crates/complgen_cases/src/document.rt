@@ -17,7 +17,7 @@ pub(crate) struct Document {
     alloc: Global,
     title: String,
     place: Place,
-    /// The lines that cannot be read where they are.
+    /// The lines that are not read at their places.
     pub strays: Vec<String>,
     /// The tree files, in order.
     pub trees: Vec<TreeFile>,

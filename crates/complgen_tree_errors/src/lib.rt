@@ -9,6 +9,7 @@ mod nearest;
 mod not_json;
 mod places;
 mod shown;
+mod source_texts;
 mod spots;
 mod texts;
 mod walk;

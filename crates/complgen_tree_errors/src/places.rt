@@ -68,8 +68,8 @@ fn last_member<'v, 't>(
     None
 }
 
-/// Returns `path` as it is shown, such as `subcommands[0].args[1].num_args`. A path without steps is
-/// shown as `the file`.
+/// Returns `path` as it is shown, such as `subcommands[0].args[1].num_args`. A path without steps
+/// is shown as `the file`.
 ///
 /// # Errors
 ///

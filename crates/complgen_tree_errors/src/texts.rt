@@ -8,6 +8,7 @@ ghost use Rattle.complgen_tree_errors.specs.Places.{shown_step};
 use crate::nearest::{nearest, same_letters};
 use crate::places::inside;
 use crate::shown::push_shown;
+use crate::source_texts::source_text;
 use complgen_json::Value;
 use complgen_tree_file::{Fault, FaultKind, ObjectKind, Step, ValueKind};
 use std::alloc::{AllocError, Global};
@@ -31,6 +32,10 @@ pub(crate) fn fault_text(
         FaultKind::MissingKey(kind, key) => {
             let name = kind.name();
             format!(in alloc; "missing key `{key}`, which {name} needs")
+        }
+        FaultKind::BadSource(reason) => {
+            let found = found_text(alloc, value)?;
+            source_text(alloc, reason, key, found.as_str())
         }
     }
 }
@@ -264,7 +269,8 @@ fn push_suggestion(
     Ok(())
 }
 
-// Returns the key to write instead of another tool's key, and a hint. The object must have that key.
+// Returns the key to write instead of another tool's key, and a hint. The object must have that
+// key.
 fn key_here(keys: &[&str], key: &str) -> Option<(&'static str, &'static str)> {
     for (other, here, hint) in OTHERS {
         if *other == key && keys.iter().any(|known| *known == *here) {

@@ -17,7 +17,8 @@ use Rattle.complgen_json.specs.Seen.{items_view, view}
 use Rattle.complgen_tree_file.specs.ArgumentForm as argument
 use Rattle.complgen_tree_file.specs.CommandForm as command
 use Rattle.complgen_tree_file.specs.PossibleValueForm as value
-use Rattle.complgen_tree_file.specs.Faults.{argument_fits, command_fits}
+use Rattle.complgen_tree_file.specs.Faults.{argument_fits, command_fits, sources_fit}
+use Rattle.complgen_tree_file.specs.SourceForm.{is_well_sourced}
 use Rattle.complgen_tree_file.specs.TreeForm.{◌>>=◌, Setting, all_fit, all_of, field_from, fits_at, fits_if_there, given, set_all, setting, value_or, with_key, with_value}
 
 pub made_of : {X Y : Type 0} (make : X → Y) (o : Option X) → is_some (option_map make o) ≡ is_some o
@@ -111,7 +112,10 @@ argument_texts : AllStep argument.texts
 argument_texts = (setting_steps _ _ _ _, (setting_steps _ _ _ _, tt))
 
 argument_values : AllStep argument.values
-argument_values = (setting_steps _ _ _ _, (setting_steps _ _ _ _, (setting_steps _ _ _ _, (setting_steps _ _ _ _, (setting_steps _ _ _ _, (setting_steps _ _ _ _, (setting_steps _ _ _ _, tt)))))))
+argument_values = (setting_steps _ _ _ _, (setting_steps _ _ _ _, (setting_steps _ _ _ _, (setting_steps _ _ _ _, (setting_steps _ _ _ _, (setting_steps _ _ _ _, tt))))))
+
+argument_sources : AllStep argument.sources
+argument_sources = (setting_steps _ _ _ _, (setting_steps _ _ _ _, (setting_steps _ _ _ _, (setting_steps _ _ _ _, tt))))
 
 argument_surroundings : AllStep argument.surroundings
 argument_surroundings = (setting_steps _ _ _ _, (setting_steps _ _ _ _, (setting_steps _ _ _ _, (setting_steps _ _ _ _, tt))))
@@ -193,15 +197,123 @@ then_rest (Some text) rest fits steps false before keys needed known is =
     steps text needed ∙ ap (λ n. n && is_some (rest text))
     (is ∙ sym (and_true keys) ∙ known ∙ and_false before) ∙ sym (and_false before)
 
+-- ---- the sources of values, which do not depend on the id
+
+abbrev without_id : Arg → Arg
+without_id arg = record arg { id = [] }
+
+-- a step that does the same, whatever the id is
+abbrev SkipsId : (Arg → Option Arg) → Type 0
+SkipsId step = (arg : Arg) → step (without_id arg) ≡ option_map without_id (step arg)
+
+abbrev AllSkipId : List (Setting Arg) → Type 0
+AllSkipId [] = ⊤
+AllSkipId (one ∷ settings) = ((d : Data) → SkipsId (one.change d)) × AllSkipId settings
+
+made_alike : {X : Type 0} (f g : X → Arg) → ((x : X) → f x ≡ without_id (g x)) → (o : Option X)
+    → option_map f o ≡ option_map without_id (option_map g o)
+made_alike f g same None = refl
+made_alike f g same (Some x) = ap Some (same x)
+
+skip_setting : {X : Type 0} (key : List ℕ) (read : Data → Option X) (field : Arg → X)
+    (with_field : Arg → X → Arg) → ((arg : Arg) → field (without_id arg) ≡ field arg)
+    → ((arg : Arg) (x : X) → with_field (without_id arg) x ≡ without_id (with_field arg x))
+    → (d : Data) → SkipsId ((setting key read field with_field).change d)
+unfolding field_from
+skip_setting key read field with_field same alike d arg =
+    ap (λ held. option_map (with_field (without_id arg)) (value_or read held (get key d))) (same arg)
+    ∙ made_alike (with_field (without_id arg)) (with_field arg) (alike arg)
+    (value_or read (field arg) (get key d))
+
+sources_skip_id : AllSkipId argument.sources
+sources_skip_id = (
+  skip_setting _ _ _ _ (λ arg. refl) (λ arg x. refl),
+  (
+    skip_setting _ _ _ _ (λ arg. refl) (λ arg x. refl),
+    (
+      skip_setting _ _ _ _ (λ arg. refl) (λ arg x. refl),
+      (
+        skip_setting _ _ _ _ (λ arg. refl) (λ arg x. refl),
+        tt,
+      ),
+    ),
+  ),
+)
+
+then_alike : (f : Arg → Option Arg) → SkipsId f → (o : Option Arg)
+    → (option_map without_id o >>= f) ≡ option_map without_id (o >>= f)
+then_alike f same None = refl
+then_alike f same (Some arg) = same arg
+
+all_skip_id : (settings : List (Setting Arg)) → AllSkipId settings → (d : Data) (arg : Arg)
+    → set_all settings d (without_id arg) ≡ option_map without_id (set_all settings d arg)
+all_skip_id [] skip d arg = refl
+all_skip_id (one ∷ settings) skip d arg =
+    ap (λ o. o >>= set_all settings d) (skip.0 d arg)
+    ∙ then_alike (set_all settings d) (all_skip_id settings skip.1 d) (one.change d arg)
+
+sourced_alike : (fits : Bool) (arg : Arg)
+    → is_some (if fits then Some (without_id arg) else None)
+    ≡ is_some (if fits then Some arg else None)
+sourced_alike true arg = refl
+sourced_alike false arg = refl
+
+then_sourced_alike : (o : Option Arg) → is_some (option_map without_id o >>= argument.well_sourced)
+    ≡ is_some (o >>= argument.well_sourced)
+then_sourced_alike None = refl
+then_sourced_alike (Some arg) = sourced_alike (is_well_sourced arg) arg
+
+-- whether the sources can be read does not depend on the id
+any_id : (d : Data) (id : List ℕ) → is_some (argument.with_sources d (new_arg id)) ≡ sources_fit d
+any_id d id =
+    sym (then_sourced_alike (set_all argument.sources d (new_arg id)))
+    ∙ ap (λ o. is_some (o >>= argument.well_sourced))
+    (sym (all_skip_id argument.sources sources_skip_id d (new_arg id)))
+
+if_some : (fits : Bool) (arg : Arg) → is_some (if fits then Some arg else None) ≡ fits
+if_some true arg = refl
+if_some false arg = refl
+
+-- sources that can be read
+pub sources_read : (d : Data) (old arg : Arg) → set_all argument.sources d old ≡ Some arg
+    → is_well_sourced arg ≡ is_some (argument.with_sources d old)
+sources_read d old arg is =
+    sym (ap (λ o. is_some (o >>= argument.well_sourced)) is ∙ if_some (is_well_sourced arg) arg)
+
+-- sources that cannot be read
+pub sources_unread : (d : Data) (old : Arg) (before : Bool) → set_all argument.sources d old ≡ None
+    → all_fit argument.sources d before ≡ (before && is_some (argument.with_sources d old))
+sources_unread d old before is =
+    and_settings argument.sources argument_sources d (Some old) before before (and_true before)
+    ∙ ap (λ o. before && is_some o) is
+    ∙ ap (λ o. before && is_some (o >>= argument.well_sourced)) (sym is)
+
+-- four tests, one after another
+pub and_four : (before a b c d : Bool)
+    → ((((before && a) && b) && c) && d) ≡ (before && (((a && b) && c) && d))
+and_four true a b c d = refl
+and_four false a b c d = refl
+
+then_fits : (d : Data) (b fit : Bool) (o : Option Arg) → is_some o ≡ fit
+    → (argument_fits d b && fit) ≡ (b && is_some (o >>= argument.with_rest d))
+then_fits d b fit None is =
+    ap (λ known. argument_fits d b && known) (sym is)
+    ∙ and_false (argument_fits d b) ∙ sym (and_false b)
+then_fits d b fit (Some arg) is =
+    ap (λ known. argument_fits d b && known) (sym is)
+    ∙ sym (and_true (argument_fits d b)) ∙ argument_steps d arg b
+
 -- something is found wrong with a value exactly where it describes no argument
 pub argument_found : (d : Data) (before keys needed : Bool)
     → keys ≡ (before && has_only argument.argument_keys d)
     → needed ≡ (keys && is_some (get (codes "id") d >>= as_str))
-    → argument_fits d needed ≡ (before && is_some (argument.argument_of d))
+    → (argument_fits d needed && sources_fit d) ≡ (before && is_some (argument.argument_of d))
 unfolding argument.argument_of
 argument_found d before keys needed known is =
-    then_rest (get (codes "id") d >>= as_str) (λ id. argument.with_rest d (new_arg id))
-    (argument_fits d) (λ id b. argument_steps d (new_arg id) b)
+    then_rest (get (codes "id") d >>= as_str)
+    (λ id. argument.with_sources d (new_arg id) >>= argument.with_rest d)
+    (λ b. argument_fits d b && sources_fit d)
+    (λ id b. then_fits d b (sources_fit d) (argument.with_sources d (new_arg id)) (any_id d id))
     (has_only argument.argument_keys d) before keys needed known is
 
 pub no_argument : (d : Data) → is_some (as_object d) ≡ false

@@ -1,11 +1,12 @@
 -- The form of an argument in a tree file: what each of its keys sets.
-use Rattle.std.specs.Prelude.{ℕ, List, [], ◌∷◌, ◌++◌, Option, None, codes, if◌then◌else◌}
+use Rattle.std.specs.Prelude.{ℕ, List, [], ◌∷◌, ◌++◌, Option, Some, None, codes, if◌then◌else◌}
 use Rattle.serde_json.specs.Data.{Data}
 use Rattle.serde_json.specs.Find.{as_bool, as_str, get}
 use Rattle.cc_arg.specs.Arguments.{new_arg}
 use Rattle.cc_arg.specs.declared.parts.ArgParts.{ArgParts as Arg}
 use Rattle.complgen_json.specs.Keys.{has_only}
 use Rattle.complgen_tree_file.specs.PossibleValueForm.{possible_value_of}
+use Rattle.complgen_tree_file.specs.SourceForm.{is_well_sourced}
 use Rattle.complgen_tree_file.specs.TreeForm.{◌>>=◌, Setting, action_of, character_of, given, hint_of}
 use Rattle.complgen_tree_file.specs.TreeForm.{keys_of, list_of, number_of, range_of, set_all, setting}
 
@@ -35,12 +36,23 @@ values =
     (λ arg. arg.value_names) (λ arg it. record arg { value_names = it })
     ∷ setting (codes "value_delimiter") (given character_of)
     (λ arg. arg.value_delimiter) (λ arg it. record arg { value_delimiter = it })
-    ∷ setting (codes "possible_values") (given (list_of possible_value_of))
-    (λ arg. arg.possible_values) (λ arg it. record arg { possible_values = it })
     ∷ setting (codes "value_hint") (λ d. as_str d >>= hint_of)
     (λ arg. arg.value_hint) (λ arg it. record arg { value_hint = it })
     ∷ setting (codes "default_value") (given as_str)
     (λ arg. arg.default_value) (λ arg it. record arg { default_value = it }) ∷ []
+
+-- where the values come from: a list of possible values, a command that prints them, or a file; and
+-- what separates a value from its description
+abbrev pub sources : List (Setting Arg)
+sources =
+    setting (codes "possible_values") (given (list_of possible_value_of))
+    (λ arg. arg.possible_values) (λ arg it. record arg { possible_values = it })
+    ∷ setting (codes "values_from") (given (list_of as_str))
+    (λ arg. arg.values_from) (λ arg it. record arg { values_from = it })
+    ∷ setting (codes "values_file") (given as_str)
+    (λ arg. arg.values_file) (λ arg it. record arg { values_file = it })
+    ∷ setting (codes "values_split") (given as_str)
+    (λ arg. arg.values_split) (λ arg it. record arg { values_split = it }) ∷ []
 
 -- the index, the display order, the word that ends the values, and the arguments that exclude it
 abbrev pub surroundings : List (Setting Arg)
@@ -84,14 +96,23 @@ shown_aliases =
 
 -- the keys that an argument may have
 unfoldable pub argument_keys : List (List ℕ)
-argument_keys = codes "id" ∷ (((((keys_of names ++ keys_of texts) ++ keys_of values)
-    ++ keys_of surroundings) ++ keys_of flags) ++ keys_of hidden_aliases) ++ keys_of shown_aliases
+argument_keys = codes "id" ∷ ((((((keys_of names ++ keys_of texts) ++ keys_of values)
+    ++ keys_of sources) ++ keys_of surroundings) ++ keys_of flags) ++ keys_of hidden_aliases)
+    ++ keys_of shown_aliases
 
 -- the id, of an object with no other keys than an argument's
 abbrev pub id_of : Data → Option (List ℕ)
 id_of d = if has_only argument_keys d then get (codes "id") d >>= as_str else None
 
--- the fields of the keys other than the id
+-- an argument, if the source of its values is of good form
+abbrev pub well_sourced : Arg → Option Arg
+well_sourced argument = if is_well_sourced argument then Some argument else None
+
+-- the fields of the keys for the source of the values
+abbrev pub with_sources : Data → Arg → Option Arg
+with_sources d argument = set_all sources d argument >>= well_sourced
+
+-- the fields of the keys other than the id and those of the sources
 abbrev pub with_rest : Data → Arg → Option Arg
 with_rest d argument = set_all names d argument >>= set_all texts d >>= set_all values d
     >>= set_all surroundings d >>= set_all flags d >>= set_all hidden_aliases d
@@ -99,4 +120,4 @@ with_rest d argument = set_all names d argument >>= set_all texts d >>= set_all 
 
 -- the argument that an object describes
 unfoldable pub argument_of : Data → Option Arg
-argument_of d = id_of d >>= (λ id. with_rest d (new_arg id))
+argument_of d = id_of d >>= (λ id. with_sources d (new_arg id) >>= with_rest d)

@@ -14,7 +14,7 @@ use Rattle.complgen_tree_file.specs.ArgumentForm.{argument_of}
 use Rattle.complgen_tree_file.specs.TreeForm.{◌>>=◌, Setting, given, keys_of, list_of, number_of, set_all}
 use Rattle.complgen_tree_file.specs.TreeForm.{setting, with_key}
 
--- the texts that helps show of it
+-- the texts of the command that help texts show
 abbrev pub texts : List (Setting Node)
 texts =
     setting (codes "about") (given as_str)

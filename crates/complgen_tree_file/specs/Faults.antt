@@ -1,6 +1,7 @@
 -- The faults in a value of a tree file: there are some exactly if the value is not read.
-use Rattle.std.specs.Prelude.{◌≡◌, ◌&&◌, List, [], ◌∷◌, Bool, true, false}
+use Rattle.std.specs.Prelude.{◌≡◌, ◌&&◌, List, [], ◌∷◌, Bool, true, false, is_some}
 use Rattle.serde_json.specs.Data.{Data}
+use Rattle.cc_arg.specs.Arguments.{new_arg}
 use Rattle.complgen_tree_file.specs.ArgumentForm as argument
 use Rattle.complgen_tree_file.specs.CommandForm as command
 use Rattle.complgen_tree_file.specs.TreeForm.{all_fit, fits_at}
@@ -20,7 +21,12 @@ has_none faults = is_nil faults.list.items
 abbrev pub FindsUnless : Bool → Faults → Faults → Type 0
 FindsUnless fits old new = has_none new ≡ (has_none old && fits)
 
--- whether the values at the keys of an argument other than the id fit, and `before` holds
+-- whether the keys for the source of the values have fitting values; the id does not matter
+abbrev pub sources_fit : Data → Bool
+sources_fit d = is_some (argument.with_sources d (new_arg []))
+
+-- whether the values at the keys of an argument other than the id and those of the sources fit, and
+-- `before` holds
 abbrev pub argument_fits : Data → Bool → Bool
 argument_fits d before = all_fit argument.shown_aliases d (all_fit argument.hidden_aliases d
     (all_fit argument.flags d (all_fit argument.surroundings d (all_fit argument.values d

@@ -2,5 +2,6 @@ pub mod ArgumentForm
 pub mod CommandForm
 pub mod Faults
 pub mod PossibleValueForm
+pub mod SourceForm
 pub mod TreeFile
 pub mod TreeForm

@@ -8,6 +8,7 @@ ghost use Rattle.complgen_tree_file.specs.TreeForm.{Gives, GivesSame, Sets, set_
 
 use crate::error::TreeError;
 use crate::keys::{all_keys, only_in, set_group};
+use crate::sources::set_sources;
 use crate::values::{FromValue, set};
 use cc_arg::{Arg, ArgParts};
 use cc_base::Text;
@@ -28,9 +29,12 @@ macro_rules! each_key {
             "num_args" values num_args,
             "value_names" values value_names,
             "value_delimiter" values value_delimiter,
-            "possible_values" values possible_values,
             "value_hint" values value_hint,
             "default_value" values default_value,
+            "possible_values" sources possible_values,
+            "values_from" sources values_from,
+            "values_file" sources values_file,
+            "values_split" sources values_split,
             "index" surroundings index,
             "display_order" surroundings display_order,
             "value_terminator" surroundings value_terminator,
@@ -62,6 +66,7 @@ pub fn arg(alloc: Global, tree: &Value<'_>) -> Result<Arg, TreeError>
     ensures { GivesSame result (form.argument_of (view tree.now)) }
 {
     let mut parts = ArgParts::new(alloc, id(alloc, tree)?);
+    set_sources(&mut parts, alloc, tree)?;
     set_rest(&mut parts, alloc, tree)?;
     Ok(Arg::from(parts))
 }
@@ -83,7 +88,7 @@ fn has_argument_keys(tree: &Value<'_>) -> bool
     has_only_keys(tree, KEYS)
 }
 
-// Sets the fields of the keys other than the id.
+// Sets the fields of the keys other than the id and those of the sources.
 fn set_rest(parts: &mut ArgParts, alloc: Global, tree: &Value<'_>) -> Result<(), TreeError>
     ensures { Sets result (form.with_rest (view tree.now)) parts.old parts.new }
 {

@@ -13,6 +13,7 @@ use crate::error::TreeError;
 use crate::faults::Faults;
 use crate::keys::{check_group, only_in};
 use crate::kinds::{ObjectKind, ValueKind};
+use crate::sources::check_sources;
 use crate::values::FromValue;
 use cc_arg::{Arg, ArgParts};
 use cc_base::Text;
@@ -52,7 +53,8 @@ pub fn argument_faults<'t>(faults: &mut Faults<'t>, tree: &Value<'t>) -> Result<
         return Ok(());
     }
     check_needed::<Text>(faults, tree, "id", ObjectKind::Argument)?;
-    check_rest(faults, tree)
+    check_rest(faults, tree)?;
+    check_sources(faults, tree)
 }
 
 #[tactic(auto, unfolding(crate::specs::ArgumentForm::argument_keys))]
@@ -63,7 +65,8 @@ fn check_argument_keys<'t>(faults: &mut Faults<'t>, tree: &Value<'t>) -> Result<
     check_keys(faults, tree, KEYS, ObjectKind::Argument)
 }
 
-// Checks the keys other than the id, each by the reader of a field of an argument.
+// Checks the keys other than the id and those of the sources, each by the reader of a field of an
+// argument.
 fn check_rest<'t>(faults: &mut Faults<'t>, tree: &Value<'t>) -> Result<(), AllocError>
     ensures { IfOk result (λ _. has_none faults.new
         ≡ argument_fits (view tree.now) (has_none faults.old)) }

@@ -99,8 +99,8 @@ pub fn is_object(value: &Value<'_>) -> bool
     matches!(value, Value::Object(_))
 }
 
-/// Notes each key of `tree` that is not one of `keys`, or that `tree` is not an object. It should be
-/// an object of `kind`.
+/// Notes each key of `tree` that is not one of `keys`, or that `tree` is not an object. It should
+/// be an object of `kind`.
 ///
 /// # Errors
 ///

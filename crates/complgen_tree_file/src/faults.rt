@@ -28,6 +28,25 @@ pub enum FaultKind {
     UnknownKey(ObjectKind),
     /// The object is of this kind and lacks this key, which it needs.
     MissingKey(ObjectKind, &'static str),
+    /// The value is no source of values that can be used.
+    BadSource(SourceFault),
+}
+
+/// The reason why an argument cannot have its values from where it says.
+#[derive(Clone, Copy, Debug, Drop)]
+pub enum SourceFault {
+    /// A command has no words, so that it names no program.
+    NoProgram,
+    /// The word is neither the name of a program nor its absolute path.
+    NotProgram,
+    /// The word of a command contains a NUL or a vertical tab.
+    CutWord,
+    /// The path of a file is empty or contains a NUL.
+    NotPath,
+    /// The text between a value and its description is empty.
+    NoSeparator,
+    /// The argument also has another source, at this key.
+    SecondSource(&'static str),
 }
 
 /// Something wrong with a value, and the path to the value from the whole file.

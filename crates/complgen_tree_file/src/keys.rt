@@ -31,6 +31,7 @@ macro_rules! only_in {
     (names names $done:expr) => { $done };
     (rules rules $done:expr) => { $done };
     (shown_aliases shown_aliases $done:expr) => { $done };
+    (sources sources $done:expr) => { $done };
     (surroundings surroundings $done:expr) => { $done };
     (texts texts $done:expr) => { $done };
     (values values $done:expr) => { $done };

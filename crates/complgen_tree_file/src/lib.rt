@@ -11,6 +11,7 @@ mod faults;
 mod keys;
 mod kinds;
 mod possible_values;
+mod sources;
 mod values;
 
 ghost use Rattle.complgen_json.specs.Seen.{view};
@@ -21,7 +22,7 @@ ghost use Rattle.complgen_tree_file.specs.TreeForm.{GivesSame};
 pub use crate::argument_check::argument_faults;
 pub use crate::command_check::command_faults;
 pub use crate::error::TreeError;
-pub use crate::faults::{Fault, FaultKind, Faults, Step};
+pub use crate::faults::{Fault, FaultKind, Faults, SourceFault, Step};
 pub use crate::kinds::{ObjectKind, ValueKind};
 pub use crate::possible_values::possible_value_faults;
 use cc_command::Command;

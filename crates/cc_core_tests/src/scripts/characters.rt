@@ -107,7 +107,7 @@ fn between_brackets(
     }
 }
 
-// Returns the first line with the given beginning, or an empty text if there is none.
+// Returns the first line with the given beginning, or an empty text if no line has it.
 fn line_that_begins<'t>(text: &'t str, begins: &str) -> &'t str {
     for line in text.lines() {
         if line.starts_with(begins) {

@@ -16,7 +16,7 @@ fn table(script: &str) -> &str {
 }
 
 // Returns the label that the first case of a table for a label and a word sets, or the label itself
-// if there is none.
+// if no case is for them.
 fn label_after<'a>(
     alloc: Global,
     table: &'a str,
