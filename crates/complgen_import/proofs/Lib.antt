@@ -1,6 +1,8 @@
 pub mod Among
 pub mod ArgumentsRead
 pub mod ClassFacts
+pub mod CleanRows
+pub mod CleanSteps
 pub mod Complete
 pub mod FrontsRead
 pub mod KeptNames
@@ -12,4 +14,7 @@ pub mod Rows
 pub mod SeparatorsRead
 pub mod Sound
 pub mod TakesRead
+pub mod TreeRows
+pub mod UnfoldRows
+pub mod UnfoldSteps
 pub mod WordsRead

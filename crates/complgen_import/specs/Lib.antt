@@ -1,8 +1,11 @@
 pub mod Arguments
 pub mod Classes
+pub mod Clean
 pub mod Form
 pub mod Lines
 pub mod Names
 pub mod Reading
 pub mod Takes
+pub mod TreeArguments
+pub mod Unfolded
 pub mod Words

@@ -14,6 +14,7 @@
 mod arguments;
 mod bytes;
 mod class;
+mod clean;
 mod form;
 mod fronts;
 mod line;
@@ -23,14 +24,19 @@ mod option_name;
 mod option_names;
 mod pieces;
 mod takes;
+mod tree_argument;
+mod unfold;
 mod values;
 mod words;
 
 pub use crate::arguments::{Argument, read_arguments};
 pub use crate::bytes::Bytes;
+pub use crate::clean::clean_text;
 pub use crate::form::{Mark, Name, OptionLine, Piece, Separator, Value};
 pub use crate::line::option_line;
 pub use crate::lines::{Lines, option_lines};
 pub use crate::option_name::OptionName;
 pub use crate::option_names::first_names;
 pub use crate::takes::{ValueCount, value_count};
+pub use crate::tree_argument::{TreeArgument, TreeNames, tree_arguments};
+pub use crate::unfold::unfold_text;

@@ -28,6 +28,17 @@ impl<'a> Lines<'a> {
             rest: Some(Bytes::new(text)),
         }
     }
+
+    // Returns an iterator over the lines that are still to come.
+    #[tactic(auto, unfolding(crate::specs::Lines::lines_of_some))]
+    pub(crate) fn ahead(&self) -> Lines<'a>
+        ensures { lines_left result ≡ lines_left self.now }
+    {
+        match &self.rest {
+            Some(text) => Lines::new(text.as_slice()),
+            None => Lines { rest: None },
+        }
+    }
 }
 
 impl<'a> Iterator for Lines<'a> {

@@ -50,9 +50,9 @@ fn any_may_repeat(values: &[Piece]) -> bool
     values.iter().any(|piece| piece.may_repeat())
 }
 
-// Returns the values after the first name that is followed by any.
+/// Returns the values after the first name that is followed by any.
 #[tactic(auto, unfolding(crate::specs::Takes::values_of))]
-fn values_of<'p, 'a>(pieces: &'p [Piece<'a>]) -> &'p [Piece<'a>]
+pub(crate) fn values_of<'p, 'a>(pieces: &'p [Piece<'a>]) -> &'p [Piece<'a>]
     ensures { result.now ≡ values_of pieces.now }
 {
     let from_first = &pieces[name_len(pieces)..];

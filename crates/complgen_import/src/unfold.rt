@@ -1,0 +1,102 @@
+//! Joins the help texts of option lines from the lines after them.
+
+ghost use Rattle.std.specs.Prelude.{◌≡◌, ◌++◌, IfOk, OnOk, codes};
+ghost use Rattle.complgen_import.specs.declared.class.Class.TheVariants.{Blank as BlankByte};
+ghost use Rattle.complgen_import.specs.Classes.{past};
+ghost use Rattle.complgen_import.specs.Lines.{lines_left, lines_of};
+ghost use Rattle.complgen_import.specs.Unfolded.{continues, help_below, help_of, is_dashed, is_plain, unfolded, unfolded_line};
+
+use crate::class::Class;
+use crate::fronts::split_run;
+use crate::lines::Lines;
+use std::alloc::{AllocError, Global};
+
+/// Returns the text with each help text on the line of its option: after a line that begins with a
+/// hyphen, the lines that are deeper are added to it, up to an empty line or one that begins with a
+/// hyphen. All lines stay.
+///
+/// # Errors
+///
+/// `AllocError` if an allocation fails.
+pub fn unfold_text(alloc: Global, text: &[u8]) -> Result<Vec<u8>, AllocError>
+    ensures { IfOk result (λ out. out.items ≡ unfolded (lines_of text.now)) }
+{
+    let mut out = Vec::with_capacity(alloc, text.len())?;
+    let mut lines = Lines::new(text);
+    while let Some(line) = lines.next() {
+        push_unfolded(&mut out, line.as_slice(), &lines)?;
+    }
+    Ok(out)
+}
+
+// Adds a line with the help text in the lines after it.
+fn push_unfolded(out: &mut Vec<u8>, line: &[u8], lines: &Lines) -> Result<(), AllocError>
+    ensures { OnOk result
+        (out.new.items ≡ out.old.items ++ unfolded_line line.now (lines_left lines.now)) }
+{
+    out.extend_from_slice(line)?;
+    push_help_below(out, line, lines)?;
+    Ok(out.push(b'\n')?)
+}
+
+#[tactic(auto, unfolding(crate::specs::Unfolded::help_below))]
+fn push_help_below(out: &mut Vec<u8>, line: &[u8], lines: &Lines) -> Result<(), AllocError>
+    ensures { OnOk result
+        (out.new.items ≡ out.old.items ++ help_below line.now (lines_left lines.now)) }
+{
+    let (blanks, head) = split_run(Class::Blank, line);
+    if !is_dashed(head.as_slice()) {
+        return Ok(());
+    }
+    push_help(out, blanks.as_slice().len(), lines.ahead())
+}
+
+// Adds the help text in the lines after an option line.
+fn push_help(out: &mut Vec<u8>, indent: usize, lines: Lines) -> Result<(), AllocError>
+    ensures { OnOk result
+        (out.new.items ≡ out.old.items ++ help_of indent (lines_left lines.entry)) }
+{
+    for line in lines {
+        if !continues(indent, line.as_slice()) {
+            return Ok(());
+        }
+        push_added(out, line.as_slice())?;
+    }
+    Ok(())
+}
+
+fn push_added(out: &mut Vec<u8>, line: &[u8]) -> Result<(), AllocError>
+    ensures { OnOk result
+        (out.new.items ≡ out.old.items ++ (codes "  " ++ past BlankByte line.now)) }
+{
+    let (_, text) = split_run(Class::Blank, line);
+    out.extend_from_slice(b"  ")?;
+    out.extend_from_slice(text.as_slice())
+}
+
+fn continues(indent: usize, line: &[u8]) -> bool
+    ensures { result ≡ continues indent line.now }
+{
+    let (blanks, text) = split_run(Class::Blank, line);
+    indent < blanks.as_slice().len() && is_plain(text.as_slice())
+}
+
+#[tactic(auto, unfolding(crate::specs::Unfolded::is_dashed))]
+fn is_dashed(text: &[u8]) -> bool
+    ensures { result ≡ is_dashed text.now }
+{
+    match text {
+        [byte, ..] => *byte == b'-',
+        [] => false,
+    }
+}
+
+#[tactic(auto, unfolding(crate::specs::Unfolded::is_plain))]
+fn is_plain(text: &[u8]) -> bool
+    ensures { result ≡ is_plain text.now }
+{
+    match text {
+        [byte, ..] => *byte != b'-',
+        [] => false,
+    }
+}

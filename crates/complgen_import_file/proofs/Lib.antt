@@ -1,0 +1,4 @@
+pub mod FileRows
+pub mod Numbers
+pub mod Shown
+pub mod Steps
