@@ -2,6 +2,13 @@
 //! its parser, which accepts the candidates.
 //!
 //! ```rattle
+//! use cc_agreement::bash_script_and_candidates;
+//! use cc_base::{Error, Sink};
+//! use cc_candidates::CompletionCandidate;
+//! use cc_command::Command;
+//! use cc_engine::Lookup;
+//! use std::alloc::Global;
+//!
 //! fn write<L: Lookup, W: Sink>(
 //!     alloc: Global,
 //!     command: &mut Command,

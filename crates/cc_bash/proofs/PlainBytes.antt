@@ -1,4 +1,4 @@
--- What the reader requires of the bytes of plain names, of labels and of quiet values.
+-- The bytes of plain names, of labels and of quiet values meet what the reader requires.
 use Rattle.std.proofs.Common.{◌≡◌, ◌≢◌, ℕ, Bool, true, false, cond, ◌==◌, ◌||◌, IsTrue, List, [], ◌∷◌, ◌++◌, codes, refl, arith}
 use Rattle.std.specs.Char.{is_ascii_alphanumeric}
 use Rattle.std.specs.List.{AllByRecursion, list_all}

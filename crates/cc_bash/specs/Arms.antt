@@ -1,4 +1,4 @@
--- What a bash script offers at each command: words, and values after an option.
+-- The words that a bash script offers at each command, and the values after an option.
 use Rattle.std.specs.Prelude.{ℕ, List, [], ◌∷◌, ◌++◌, Bool, not, map, filter, flat_map, decimal, Option, Some, None, unwrap_or}
 use Rattle.std.specs.Ordering.{is_lt, nat_cmp}
 use Rattle.std.specs.Cmp.Lexicographic.{slice_cmp}

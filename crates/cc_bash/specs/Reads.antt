@@ -1,4 +1,4 @@
--- What the bash script of a tree reads back to.
+-- The cases and the arms that the bash script of a tree reads back to.
 use Rattle.std.specs.Prelude.{◌≡◌, ℕ, List, [], ◌∷◌, ◌++◌, map, IsTrue, Option, Some, None}
 use Rattle.std.specs.Prelude.{bytes_eq, codes, if◌then◌else◌}
 use Rattle.std.specs.List.Sorted.{IsPermutation}

@@ -5,7 +5,7 @@ use Rattle.std.specs.Prelude.{⊤, ℕ, List, ◌++◌, codes}
 unfoldable pub function_begins : List ℕ
 function_begins = codes "_"
 
--- the text between that label and the place where the label is set
+-- the text between that label and the line that sets the label
 unfoldable pub function_head : List ℕ
 function_head =
     codes "() {\n"

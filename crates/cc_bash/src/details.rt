@@ -64,7 +64,6 @@ fn write_short_details<W: Sink>(sink: &mut W, argument: &Arg) -> Result<(), Erro
     Ok(())
 }
 
-// Writes the detail of a name with its dashes.
 fn write_detail<'a, W: Sink>(
     sink: &mut W,
     argument: &Arg,
@@ -159,7 +158,6 @@ fn write_files<W: Sink>(sink: &mut W) -> Result<(), ErrorKind>
     put_piece(sink, OFFER_FILES)
 }
 
-// Writes the mode that `word` names.
 #[tactic(auto, unfolding(crate::specs::Texts::fixed_texts))]
 fn write_mode<W: Sink>(sink: &mut W, word: &str) -> Result<(), ErrorKind>
     ensures { Writes W.taken W.failed (as_write result) sink.old sink.new

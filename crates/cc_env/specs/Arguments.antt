@@ -17,8 +17,8 @@ after_dashes (word ∷ words) = elim (bytes_eq word (codes "--")) [
 abbrev pub has_folder : List ℕ → Bool
 has_folder path = list_any is_slash (trim_trailing path)
 
--- the path by which a shell runs the program: one that leads through a folder is joined to the
--- current folder, where there is one; a name alone is looked up by the shell
+-- the path by which a shell runs the program. A path with a folder is joined to the current folder,
+-- if that is known. The shell looks up a name without a folder
 abbrev pub program_path : Option (List ℕ) → List ℕ → List ℕ
 program_path None program = program
 program_path (Some current) program =

@@ -62,8 +62,8 @@ RepliesAs shell env words Offers tree (Err NoCompletion) =
     WantsOutOfRange tree (shell.Wants env words)
 RepliesAs shell env words Offers tree (Err _) = ⊥
 
--- the tree is built, as a fact, if a text is made or the index is out of range; after memory ran out
--- nothing is known
+-- the tree is built, as a fact, if a text is made or the index is out of range; after memory ran
+-- out nothing is known
 abbrev pub BuiltUnlessMemory : Result (List ℕ) Error → Type 0 → Type 0
 BuiltUnlessMemory (Ok text) Built = Built
 BuiltUnlessMemory (Err Memory) Built = ⊤
@@ -126,7 +126,7 @@ pub data Ends {S : Type 0} (taken : S → List ℕ) (failed : S → Failures)
   text_written : (text : List ℕ) → Makes (Ok text) → taken new ≡ taken old ++ text
       → failed new ≡ failed old → Ends taken failed Makes old new (Ok true)
 
--- How the whole call ends, by what is requested: nothing, an unknown shell, or a known one.
+-- The end of the whole call, if nothing, an unknown shell or a known shell is requested.
 abbrev pub EndsAs : {S C : Type 0} → (S → List ℕ) → (S → Failures) → List (List ℕ)
     → (C → Result (List ℕ) Error → Type 0) → Wanted C → S → S → Result Bool Error → Type 0
 EndsAs taken failed names Makes nothing old new result = (result ≡ Ok false) × (new ≡ old)

@@ -132,9 +132,9 @@ impl<'s, F: Fn(Global) -> Result<Command, Error> + Drop, E: EnvCompleter> Comple
     ///    these words. Otherwise it writes the registration. The text is made whole before any of
     ///    it is written.
     ///
-    /// `args` are the arguments of the program, its name first. `env` has the value of the variable,
-    /// and those of `_CLAP_COMPLETE_INDEX` and `_CLAP_IFS`, which registrations set. `lookup` finds
-    /// the candidates that the command does not hold. Write nothing else to `out`.
+    /// `args` are the arguments of the program, its name first. `env` has the value of the
+    /// variable, and those of `_CLAP_COMPLETE_INDEX` and `_CLAP_IFS`, which registrations set.
+    /// `lookup` finds the candidates that the command does not hold. Write nothing else to `out`.
     ///
     /// A registration names the variable, the command, the binary and the completer, as `bin` and
     /// `completer` set them. A completer that was not set and leads through a directory, as `./app`
@@ -171,8 +171,8 @@ impl<'s, F: Fn(Global) -> Result<Command, Error> + Drop, E: EnvCompleter> Comple
         Ok(true)
     }
 
-    /// Writes a registration or a reply, as `try_complete_from` does, from `Sources` of a directory,
-    /// a folder and completers.
+    /// Writes a registration or a reply, as `try_complete_from` does, from `Sources` of a
+    /// directory, a folder and completers.
     ///
     /// # Errors
     ///

@@ -31,14 +31,14 @@ pub trait EnvCompleter {
     fn is(&self, name: &str) -> bool
         ensures { result ≡ (spec self.now).named name.now };
 
-    /// Writes the registration: the text by which the shell runs `completer`, with `variable` set to
-    /// the shell's name, for the words of `bin`. In bash and zsh, the functions in the text are named
-    /// after `name`, with `_` for `-`.
+    /// Writes the registration: the text by which the shell runs `completer`, with `variable` set
+    /// to the shell's name, for the words of `bin`. In bash and zsh, the functions in the text are
+    /// named after `name`, with `_` for `-`.
     ///
     /// # Errors
     ///
-    /// `Write` if the sink fails, and `Memory` if an allocation fails. The sink may then hold part of
-    /// the text.
+    /// `Write` if the sink fails, and `Memory` if an allocation fails. The sink may then hold part
+    /// of the text.
     fn write_registration<W: Sink>(
         &self,
         alloc: Global,
@@ -59,9 +59,9 @@ pub trait EnvCompleter {
     /// # Errors
     ///
     /// `NoCompletion` if no word, or the program's name, is at the index that the shell asks for;
-    /// the command is built all the same. `Memory` if an allocation fails; the command is then as it
-    /// was, or built. In either case nothing is written. `Write` if the sink fails, which may then
-    /// hold part of the reply.
+    /// the command is built all the same. `Memory` if an allocation fails; the command is then as
+    /// it was, or built. Neither error writes anything. `Write` if the sink fails, which may
+    /// then hold part of the reply.
     fn write_complete_from<L: Lookup, W: Sink>(
         &self,
         alloc: Global,
@@ -77,8 +77,8 @@ pub trait EnvCompleter {
         ensures read_back { (candidates : List CompletionCandidate)
             → (spec self.now).ReplyReads env.now candidates };
 
-    /// Writes the reply for `words`, as `write_complete_from` does, from `Sources` of a directory, a
-    /// folder and completers.
+    /// Writes the reply for `words`, as `write_complete_from` does, from `Sources` of a directory,
+    /// a folder and completers.
     ///
     /// # Errors
     ///

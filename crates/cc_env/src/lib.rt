@@ -2,6 +2,13 @@
 //! for each shell its names, its registration and its reply.
 //!
 //! ```rattle
+//! use cc_base::{Error, Sink};
+//! use cc_command::Command;
+//! use cc_engine::Lookup;
+//! use cc_env::CompleteEnv;
+//! use cc_replies::EnvValues;
+//! use std::alloc::Global;
+//!
 //! fn answers<F: Fn(Global) -> Result<Command, Error> + Drop, L: Lookup, W: Sink>(
 //!     alloc: Global,
 //!     factory: F,

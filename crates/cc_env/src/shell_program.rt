@@ -23,10 +23,10 @@ pub struct ShellProgram<'a, E> {
     pub shell: &'a E,
     /// The variable whose value requests a registration or a reply.
     pub variable: &'a str,
-    /// The binary that is registered; if there is none, the bin name of the command, or its name if
-    /// it has no bin name.
+    /// The binary that is registered. `None` stands for the bin name of the command, or for its
+    /// name if it has no bin name.
     pub bin: Option<&'a str>,
-    /// The path of the program that the shell runs; if there is none, the first argument.
+    /// The path of the program that the shell runs. `None` stands for the first argument.
     pub completer: Option<&'a str>,
 }
 

@@ -26,8 +26,9 @@ impl Shells<'static, Builtin> {
 }
 
 impl Shells<'static, SafeShell> {
-    /// Returns the shells of this library by their safe adapters, in the order of the built-in ones.
-    /// Their registrations evaluate nothing, and shells insert their replies as they are meant.
+    /// Returns the shells of this library by their safe adapters, in the order of the built-in
+    /// ones. Their registrations evaluate nothing, and shells insert their replies as they are
+    /// meant.
     pub fn safe() -> Shells<'static, SafeShell>
         ensures { result.0.now ≡ all_safe }
     {

@@ -19,7 +19,7 @@ without_semicolon (byte ∷ bytes) = elim bytes [
 abbrev pub seen_function : List ℕ
 seen_function = codes "__fish_seen_subcommand_from"
 
--- the meaning of a piece where no name is expected: `and`, `not`, the function, or none of them
+-- the meaning of a piece that is not expected to be a name: `and`, `not`, the function, or another
 pub data PieceSign : Type 0 where
   is_and : PieceSign
   is_not : PieceSign

@@ -1,4 +1,4 @@
--- What the fish script of a tree reads back to.
+-- The records that the fish script of a tree reads back to.
 use Rattle.std.specs.Prelude.{◌≡◌, ℕ, List, [], ◌++◌, None, Some, codes}
 use Rattle.std.specs.List.{AllByRecursion}
 use Rattle.cc_command.specs.Names.{full_name}

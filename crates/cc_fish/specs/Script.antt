@@ -195,7 +195,7 @@ needs_command_begin = codes "\nend\n\nfunction __fish_"
 unfoldable pub needs_command_parse : List ℕ
 needs_command_parse = codes "_needs_command\n    # Figure out if the current invocation already has a command.\n    set -l cmd (commandline -opc)\n    set -e cmd[1]\n    argparse -s (__fish_"
 
--- the text after that, before the program in the name of the function that says which command was
+-- the text after that, up to the program in the name of the function that tests which command was
 -- given
 unfoldable pub needs_command_end : List ℕ
 needs_command_end = codes "_global_optspecs) -- $cmd 2>/dev/null\n    or return\n    if set -q argv[1]\n        # Also print the command, so this can be used to figure out what it is.\n        echo $argv[1]\n        return 1\n    end\n    return 0\nend\n\nfunction __fish_"

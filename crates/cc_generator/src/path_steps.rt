@@ -33,8 +33,8 @@ pub(crate) struct StepItem {
 /// The remaining steps through a tree, in path order:
 ///
 /// - The root is entered under its key.
-/// - Then come its children, one after another. For each of its keys a child is entered, followed
-///   by everything below it, and left.
+/// - Its children follow, one after another. A child is entered and left once for each of its keys,
+///   with everything below it in between.
 /// - At the end the root is left.
 ///
 /// Clauses see the list of steps.

@@ -112,7 +112,8 @@ abbrev pub with_visible_alias : List ℕ → Tree → Tree
 with_visible_alias alias tree =
     with_root (λ node. record node { visible_aliases = node.visible_aliases ++ alias ∷ [] }) tree
 
--- what is made of a value by a step that fails out of memory alone; an earlier failure stays
+-- the result of a step on a value. The step fails only if memory runs out, and an earlier failure
+-- stays
 abbrev pub MadeWith : {A : Type 0} → (A → A) → Result A Error → Result A Error → Type 0
 MadeWith step (Ok value) result =
     MatchResult result (λ made. made ≡ step value) (λ error. error ≡ Memory)

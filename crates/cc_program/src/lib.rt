@@ -3,6 +3,11 @@
 //! help text, and steps that pass a failure on.
 //!
 //! ```rattle
+//! use cc_base::Error;
+//! use cc_command::Command;
+//! use cc_program::{command, flag, positional};
+//! use std::alloc::Global;
+//!
 //! fn tree(alloc: Global) -> Result<Command, Error> {
 //!     let args = [
 //!         positional("package", "PACKAGE", "Names of packages").many(),

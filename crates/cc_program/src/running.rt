@@ -30,8 +30,8 @@ use std::rt::Files;
 ///
 /// # Errors
 ///
-/// `Words` if the words can't be read. `Library` with an error of `completes` or of `factory`, or if
-/// an allocation fails. `Print` if printing fails. `Own` with the error of `carry_out`.
+/// `Words` if the words can't be read. `Library` with an error of `completes` or of `factory`, or
+/// if an allocation fails. `Print` if printing fails. `Own` with the error of `carry_out`.
 pub fn run<R, F, C, E>(
     rt: &R,
     factory: F,

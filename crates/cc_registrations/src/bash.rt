@@ -80,7 +80,6 @@ pub fn write_bash<W: Sink>(
     write_text(sink, variable, name, bin, completer)
 }
 
-// Writes the text of the registration.
 #[tactic(auto, unfolding(crate::specs::BashRegistration::bash_registration))]
 fn write_text<W: Sink>(
     sink: &mut W,

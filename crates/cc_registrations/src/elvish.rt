@@ -44,7 +44,6 @@ pub fn write_elvish<W: Sink>(
     write_text(alloc, sink, variable, bin, completer)
 }
 
-// Writes the text of the registration.
 fn write_text<W: Sink>(
     alloc: Global,
     sink: &mut W,

@@ -39,7 +39,6 @@ pub fn write_fish<W: Sink>(
     write_text(alloc, sink, variable, bin, completer)
 }
 
-// Writes the text of the registration.
 fn write_text<W: Sink>(
     alloc: Global,
     sink: &mut W,

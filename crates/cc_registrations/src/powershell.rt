@@ -83,7 +83,6 @@ pub fn write_powershell<W: Sink>(
     write_text(alloc, sink, variable, bin, completer)
 }
 
-// Writes the text of the registration.
 #[tactic(auto, unfolding(crate::specs::PowershellRegistration::powershell_registration))]
 fn write_text<W: Sink>(
     alloc: Global,

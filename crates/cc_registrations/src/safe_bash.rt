@@ -108,7 +108,6 @@ pub fn write_safe_bash<W: Sink>(
     write_text(alloc, sink, variable, name, bins, completer)
 }
 
-// Writes the text of the registration.
 fn write_text<W: Sink>(
     alloc: Global,
     sink: &mut W,

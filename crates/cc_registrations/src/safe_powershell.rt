@@ -94,7 +94,6 @@ pub fn write_safe_powershell<W: Sink>(
     write_text(alloc, sink, variable, name, bins, completer)
 }
 
-// Writes the text of the registration.
 #[tactic(auto, unfolding(crate::specs::SafePowershell::safe_powershell))]
 fn write_text<W: Sink>(
     alloc: Global,

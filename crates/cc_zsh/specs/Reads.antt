@@ -1,4 +1,4 @@
--- What the zsh script of a tree reads back to.
+-- The options, names and functions that the zsh script of a tree reads back to.
 use Rattle.std.specs.Prelude.{◌≡◌, [], ◌++◌, map, option_map, None, Some, codes}
 use Rattle.cc_command.specs.Tree.{Tree}
 use Rattle.cc_generator.specs.Generators.{ShellSpec}

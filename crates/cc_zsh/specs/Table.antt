@@ -1,4 +1,4 @@
--- What a zsh script offers at each visible path of a tree.
+-- The options, values and subcommands that a zsh script offers at each visible path of a tree.
 use Rattle.std.specs.Prelude.{ℕ, List, [], ◌∷◌, ◌++◌, if◌then◌else◌, map, unwrap_or}
 use Rattle.std.specs.List.{flat_map}
 use Rattle.cc_arg.specs.declared.parts.ArgParts.{ArgParts as Arg}

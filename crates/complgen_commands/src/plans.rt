@@ -70,8 +70,8 @@ impl Plan {
 ///
 /// # Errors
 ///
-/// A refusal with status 1 and the text of the error. Refuses the plans of `check` and `scripts`, and
-/// writes nothing: they have functions of their own.
+/// A refusal with status 1 and the text of the error. Refuses the plans of `check` and `scripts`,
+/// and writes nothing: they have functions of their own.
 pub fn run<D: Folder, W: Sink>(
     alloc: Global,
     plan: &Plan,

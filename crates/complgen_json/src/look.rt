@@ -53,8 +53,8 @@ pub fn items<'v, 't>(value: &'v Value<'t>) -> Option<&'v Vec<Value<'t>>>
     }
 }
 
-/// Returns the value at `key` of an object, the last one if there are several. Returns `None` if the
-/// object has no such key, or `value` is not an object.
+/// Returns the value at `key` of an object, the last one if there are several. Returns `None` if
+/// the object has no such key, or `value` is not an object.
 pub fn member<'v, 't>(value: &'v Value<'t>, key: &str) -> Option<&'v Value<'t>>
     ensures { option_map (λ found. view found.now) result ≡ get key.now (view value.now) }
 {
