@@ -13,7 +13,6 @@ and builds nothing.
 With --check the status is 0 if the page is up to date.
 """
 
-import difflib
 import glob
 import os
 import re
@@ -54,20 +53,7 @@ class Item:
 
 
 def main():
-    page = make_page()
-    if "--write" in sys.argv:
-        with open(PAGE, "w", encoding="utf-8") as file:
-            file.write(page)
-        return 0
-    if "--check" not in sys.argv:
-        sys.stdout.write(page)
-        return 0
-    with open(PAGE, encoding="utf-8") as file:
-        there = file.read()
-    lines = difflib.unified_diff(there.split("\n"), page.split("\n"), "docs/CALLS.md", "sources", lineterm="", n=0)
-    changes = list(lines)
-    print("\n".join(changes) if changes else "docs/CALLS.md is up to date")
-    return 1 if changes else 0
+    return common.generated_page(PAGE, make_page())
 
 
 def make_page():

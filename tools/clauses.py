@@ -12,7 +12,6 @@ and builds nothing.
 With --check the status is 0 if the page is up to date.
 """
 
-import difflib
 import glob
 import os
 import re
@@ -48,20 +47,7 @@ and [DEFINITIONS.md](DEFINITIONS.md) what the main definitions mean.
 
 
 def main():
-    page = make_page()
-    if "--write" in sys.argv:
-        with open(PAGE, "w", encoding="utf-8") as file:
-            file.write(page)
-        return 0
-    if "--check" not in sys.argv:
-        sys.stdout.write(page)
-        return 0
-    with open(PAGE, encoding="utf-8") as file:
-        there = file.read()
-    lines = difflib.unified_diff(there.split("\n"), page.split("\n"), "docs/CLAUSES.md", "sources", lineterm="", n=0)
-    changes = list(lines)
-    print("\n".join(changes) if changes else "docs/CLAUSES.md is up to date")
-    return 1 if changes else 0
+    return common.generated_page(PAGE, make_page())
 
 
 def make_page():
@@ -89,7 +75,7 @@ def rows_of(function, clauses, defined):
 
 
 def cited_in(text, defined):
-    """Returns the definitions that a clause cites, in order, each once. Fields and bound names are none."""
+    """Returns the definitions that a clause cites, in order, each once, without fields and bound names."""
     binders = re.findall(r"λ ([\w ]+)\.|\(([\w ]+) :", text)
     bound = {name for names in binders for name in " ".join(names).split()}
     words = re.findall(r"(?<![\w.])(?:\w+\.)*?([A-Za-z_]\w*)\b(?!\s*=[^=])", without_members(text))

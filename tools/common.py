@@ -6,6 +6,7 @@ The scripts run the proved programs. The variables COMPLGEN and LARDER name othe
 """
 
 import collections
+import difflib
 import glob
 import os
 import shutil
@@ -56,6 +57,26 @@ def crate_lines():
     with open(os.path.join(TOP, "crates.txt"), encoding="utf-8") as file:
         lines = [line.partition("#")[0].strip() for line in file]
     return {line.split(":")[0].split()[0]: line for line in lines if line}
+
+
+def generated_page(path, text):
+    """Prints the text of a generated page. With --write it writes the page, with --check it compares them.
+
+    Returns the exit status: with --check 1 if the page is out of date.
+    """
+    if "--write" in sys.argv:
+        with open(path, "w", encoding="utf-8") as file:
+            file.write(text)
+        return 0
+    if "--check" not in sys.argv:
+        sys.stdout.write(text)
+        return 0
+    name = os.path.relpath(path, TOP)
+    with open(path, encoding="utf-8") as file:
+        there = file.read()
+    changes = list(difflib.unified_diff(there.split("\n"), text.split("\n"), name, "sources", lineterm="", n=0))
+    print("\n".join(changes) if changes else f"{name} is up to date")
+    return 1 if changes else 0
 
 
 def callgrind(call, *functions, **how):

@@ -28,10 +28,10 @@ fn variable(name: &str) -> String {
 /// Explains what to do if there is no archive, and fails.
 fn refuse(archive: &Path, target: &str) -> ! {
     eprintln!(
-        "lagvtsune: there is no {} for {target}.\n\
-         On x86-64 Linux with glibc, `rt lib` in crates/complgen_c of the repository makes it:\n\
-         copy out/{ARCHIVE} there, or let LAGVTSUNE_DIR name the folder that it is in.\n\
-         For other targets there is none: docs/RUST.md says how they take clap_complete.",
+        "lagvtsune: {} does not exist (target: {target}).\n\
+         On x86-64 Linux with glibc, run `rt lib` in crates/complgen_c of the repository, and copy\n\
+         out/{ARCHIVE} there. If it is in another directory, set LAGVTSUNE_DIR to that directory.\n\
+         On other targets, use clap_complete instead: see \"Platforms\" in docs/RUST.md.",
         archive.display()
     );
     process::exit(1)
