@@ -7,11 +7,16 @@ ghost use Rattle.std.specs.String.{string_bytes};
 use crate::folder::{Folder, FolderError};
 use cc_base::Text;
 use std::alloc::Global;
+use std::os::unix::fs::PermissionsExt;
 use std::path::Path;
 use std::rt::Files;
 use std::{fs, io};
 
-/// The files and directories of the operating system. Every file counts as executable.
+// The bits of a file's mode that let the owner, the group or others execute it.
+const EXECUTE_BITS: u32 = 0o111;
+
+/// The files and directories of the operating system. A file is executable if its mode lets somebody
+/// execute it.
 ///
 /// Names omit entries that cannot be read. A path about which the system returns an error is
 /// neither a directory nor a file. The contracts of `Folder` promise nothing about these answers,
@@ -68,7 +73,10 @@ impl<R: Files + Drop> Folder for RealFolder<R> {
     }
 
     fn is_executable(&self, path: &str) -> bool {
-        Path::new(path).is_file(&self.files)
+        match fs::metadata(&self.files, path) {
+            Ok(data) => data.is_file() && data.permissions().mode() & EXECUTE_BITS != 0,
+            Err(_) => false,
+        }
     }
 
     fn home(&self) -> Option<&str> {
