@@ -22,7 +22,7 @@ use Rattle.cc_walk.specs.Blocks.{start}
 use Rattle.cc_walk.specs.Lookup.{allows_hyphens_at, capacity_at, positional_at}
 use Rattle.cc_walk.specs.Machine.{NodeState, walk}
 use Rattle.cc_walk.specs.WordClasses.{class_of}
-use Rattle.cc_engine.specs.Asked.{asked_argument, offered_arguments}
+use Rattle.cc_engine.specs.Asked.{arguments_of_word, asked_argument}
 use Rattle.cc_engine.specs.Completion.{Questions, questions}
 
 -- what opens each definition
@@ -35,10 +35,10 @@ definitions = tt
 abbrev node_state_after : Tree → List (List ℕ) → NodeState
 node_state_after root words = walk (record { tree = root; state = start false }) words
 
--- the ids of the arguments whose values are offered for the word after these words
-abbrev offered_after : Tree → List (List ℕ) → List ℕ → List (List ℕ)
-offered_after root words word =
-    map (λ argument. argument.id) (offered_arguments (node_state_after root words).tree (node_state_after root words).state word)
+-- the ids of the arguments that the word can ask for after these words
+abbrev possible_after : Tree → List (List ℕ) → List ℕ → List (List ℕ)
+possible_after root words word =
+    map (λ argument. argument.id) (arguments_of_word (node_state_after root words).tree (node_state_after root words).state word)
 
 -- the id of the argument that the word asks for there
 abbrev asked_after : Tree → List (List ℕ) → List ℕ → Option (List ℕ)
@@ -75,29 +75,59 @@ app = built_tree described
 open_option :
     -- the word asks for an option that needs a value, and for nothing else
     (asked_after app (codes "--onto" ∷ []) [] ≡ Some (codes "onto"))
-    × (offered_after app (codes "--onto" ∷ []) [] ≡ codes "onto" ∷ [])
+    × (possible_after app (codes "--onto" ∷ []) [] ≡ codes "onto" ∷ [])
     -- one that has enough values goes before the positional
     × (asked_after app (codes "--user" ∷ []) [] ≡ Some (codes "user"))
-    × (offered_after app (codes "--user" ∷ []) [] ≡ codes "user" ∷ codes "from" ∷ [])
+    × (possible_after app (codes "--user" ∷ []) [] ≡ codes "user" ∷ codes "from" ∷ [])
     -- if the open option has no source and needs a value, the word asks for nothing
     × (asked_after app (codes "--date" ∷ []) [] ≡ None)
 unfolding definitions
 open_option = (refl, refl, refl, refl, refl)
 
 within_a_word :
-    -- after the `=` of a long, before the positional
+    -- after the `=` of a long, instead of the positional
     (asked_after app [] (codes "--onto=m") ≡ Some (codes "onto"))
-    × (offered_after app [] (codes "--onto=m") ≡ codes "onto" ∷ codes "from" ∷ [])
+    × (possible_after app [] (codes "--onto=m") ≡ codes "onto" ∷ [])
     -- after a short, also one that follows a flag
     × (asked_after app [] (codes "-om") ≡ Some (codes "onto"))
     × (asked_after app [] (codes "-vo=m") ≡ Some (codes "onto"))
-    -- if the option within the word has no source, the word asks for the positional
-    × (offered_after app [] (codes "--date=m") ≡ codes "date" ∷ codes "from" ∷ [])
-    × (asked_after app [] (codes "--date=m") ≡ Some (codes "from"))
-    -- after `--` the word is no option
-    × (offered_after app (codes "--" ∷ []) (codes "--onto=m") ≡ codes "from" ∷ [])
+    -- also after an option that has enough values
+    × (possible_after app (codes "--user" ∷ []) (codes "--onto=m") ≡ codes "onto" ∷ [])
+    -- if the option within the word has no source, the word asks for nothing
+    × (possible_after app [] (codes "--date=m") ≡ codes "date" ∷ [])
+    × (asked_after app [] (codes "--date=m") ≡ None)
+    -- after `--` the word is no option, and it begins with `-`
+    × (possible_after app (codes "--" ∷ []) (codes "--onto=m") ≡ [])
 unfolding definitions
-within_a_word = (refl, refl, refl, refl, refl, refl, refl)
+within_a_word = (refl, refl, refl, refl, refl, refl, refl, refl)
+
+-- `app` with an option and a positional of a branch that accept words with a hyphen
+abbrev with_hyphens : Tree
+with_hyphens = built_tree (with (with (new_tree (codes "app"))
+    (of_branches (record (option (codes "onto")) { allow_hyphen_values = true })))
+    (of_branches (record (new_arg (codes "from")) { allow_hyphen_values = true; value_delimiter = Some 44 })))
+
+a_word_with_a_hyphen :
+    -- it asks for no positional
+    (asked_after app [] (codes "-") ≡ None)
+    × (asked_after app [] (codes "--") ≡ None)
+    × (asked_after app [] (codes "--on") ≡ None)
+    × (asked_after app [] (codes "-v") ≡ None)
+    × (asked_after app (codes "--" ∷ []) (codes "-m") ≡ None)
+    × (possible_after app [] (codes "--on") ≡ [])
+    -- and for no open option
+    × (asked_after app (codes "--onto" ∷ []) (codes "-m") ≡ None)
+    × (possible_after app (codes "--user" ∷ []) (codes "--on") ≡ [])
+    -- even if they accept such words
+    × (asked_after with_hyphens [] (codes "-m") ≡ None)
+    × (asked_after with_hyphens (codes "--onto" ∷ []) (codes "-m") ≡ None)
+    -- also after a delimiter
+    × (asked_after with_hyphens [] (codes "-x,m") ≡ None)
+    -- a hyphen further on is a character like another
+    × (asked_after app [] (codes "m-") ≡ Some (codes "from"))
+    × (asked_after with_hyphens [] (codes "x,-m") ≡ Some (codes "from"))
+unfolding definitions
+a_word_with_a_hyphen = (refl, refl, refl, refl, refl, refl, refl, refl, refl, refl, refl, refl, refl)
 
 positional :
     (asked_after app [] (codes "m") ≡ Some (codes "from"))
@@ -107,7 +137,7 @@ positional :
     × (asked_after app (codes "m" ∷ codes "n" ∷ []) [] ≡ Some (codes "to"))
     -- there is no third one
     × (asked_after app (codes "m" ∷ codes "n" ∷ codes "o" ∷ []) [] ≡ None)
-    × (offered_after app (codes "m" ∷ codes "n" ∷ codes "o" ∷ []) [] ≡ [])
+    × (possible_after app (codes "m" ∷ codes "n" ∷ codes "o" ∷ []) [] ≡ [])
 unfolding definitions
 positional = (refl, refl, refl, refl, refl)
 

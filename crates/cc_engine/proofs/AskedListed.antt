@@ -35,7 +35,7 @@ use Rattle.cc_walk.specs.Machine.{NodeState}
 use Rattle.cc_walk.specs.WordClasses.{value_character}
 use Rattle.cc_walk.specs.Words.{before_equals}
 use Rattle.cc_walk.proofs.Whole.{walked, walked_only}
-use Rattle.cc_engine.specs.Asked.{AskForList, Asks, argument_within, offered_positional, opened_argument}
+use Rattle.cc_engine.specs.Asked.{AskForList, Asks, argument_within, begins_dash, offered_positional, opened_argument, unless_dash}
 use Rattle.cc_engine.specs.Completion.{Questions, match_question, offered_match, open_question, positional_question, questions, words_before}
 use Rattle.cc_engine.specs.declared.open_lists.OpenLists.{OpenLists}
 use Rattle.cc_engine.specs.OpenLists.{all_open, has_enough, least, none_open, open_lists_by}
@@ -305,6 +305,14 @@ found_in test first second third arg e = elim (found_first test first (option_to
   ]
 ]
 
+-- an argument that a word leaves is the argument
+left_by : (word : List ℕ) (argument : Option Arg) (arg : Arg) → unless_dash word argument ≡ Some arg → argument ≡ Some arg
+left_by word argument arg e = by (begins_dash word) e
+  where
+    by : (dashed : Bool) → cond dashed None argument ≡ Some arg → argument ≡ Some arg
+    by true e = cc
+    by false e = e
+
 -- the words lead to a node at which one question is for the list
 pub asks_for_list : (root : Tree) (asked : Arg) (list : ArgValueCandidates) (words : List (List ℕ)) (index : ℕ) (tree : Tree) (state : State)
     → Asks (built_tree root) words index (Some asked)
@@ -313,13 +321,16 @@ pub asks_for_list : (root : Tree) (asked : Arg) (list : ArgValueCandidates) (wor
 asks_for_list root asked list words index tree state asks leads =
     let word : List ℕ = get_or words index [] in
     let is = leads_with_list asked list root asks.tree tree asks.state state (words_before (built_tree root).node words index) asks.leads leads in
-    let found = found_in has_source (opened_argument asks.state.pending)
+    let opened = opened_argument asks.state.pending in
+    let positional =
+    offered_positional (positional_at asks.tree.node.arguments asks.state.position) (lists_at asked list asks.tree asks.state).value in
+    let found = found_in has_source (unless_dash word opened)
     (argument_within (offered_match (lists_at asked list asks.tree asks.state).options asks.tree.node.arguments word))
-    (offered_positional (positional_at asks.tree.node.arguments asks.state.position) (lists_at asked list asks.tree asks.state).value) asked asks.asked in
+    (unless_dash word positional) asked asks.asked in
     let same = same_source-self asked found.passes in
     subst (λ t. AskForList list.number (questions t state word)) (sym is.0)
     (subst (λ s. AskForList list.number (questions (tree_with_list asked list asks.tree) s word)) (sym is.1) (elim found.is [
-      | inl e ↦ inl (opened_is_listed asked list asks.tree asks.state word asked same e)
+      | inl e ↦ inl (opened_is_listed asked list asks.tree asks.state word asked same (left_by word opened asked e))
       | inr (inl e) ↦ inr (inl (within_is_listed asked list asks.tree asks.state word asked same e))
-      | inr (inr e) ↦ inr (inr (positional_is_listed asked list asks.tree asks.state word asked same e))
+      | inr (inr e) ↦ inr (inr (positional_is_listed asked list asks.tree asks.state word asked same (left_by word positional asked e)))
     ]))

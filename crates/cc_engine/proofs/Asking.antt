@@ -52,11 +52,6 @@ none_passes test (x ∷ xs) ys e = by (test x) (none_passes test xs ys) e
 abbrev first_of : (Arg → Bool) → Option Arg → Option Arg → Option Arg → Option Arg
 first_of test first second third = find test (option_to_list first ++ (option_to_list second ++ option_to_list third))
 
-pub first_is : (test : Arg → Bool) (first second third found : Option Arg) → found ≡ find test (option_to_list first) → is_some found ≡ true
-    → found ≡ first_of test first second third
-first_is test first second third found is some =
-    is ∙ sym (first_passes test (option_to_list first) (option_to_list second ++ option_to_list third) (sym (ap is_some is) ∙ some))
-
 pub second_is : (test : Arg → Bool) (first second third before found : Option Arg) → before ≡ find test (option_to_list first) → is_some before ≡ false
     → found ≡ find test (option_to_list second) → is_some found ≡ true → found ≡ first_of test first second third
 second_is test first second third before found is_before none is some =

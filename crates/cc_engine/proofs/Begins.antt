@@ -37,7 +37,7 @@ use Rattle.cc_gather.proofs.Law.{all-shown}
 use Rattle.cc_gather.proofs.WordKinds.{ends_past_dash, with_end}
 use Rattle.cc_gather.proofs.LastPosition.{begins_so, so_begins}
 use Rattle.cc_gather.specs.Parts.{front, front_length, part}
-use Rattle.cc_gather.specs.Values.{Allows, MayReturn, Question, as_value, candidates, completer, gather, gathered_by, is_path, paths, question, question_by, question_of_hint, sorted, value_candidate, values}
+use Rattle.cc_gather.specs.Values.{Allows, MayReturn, Question, as_value, completer, gather, gathered_by, is_path, paths, question, question_by, question_of_hint, sorted, value_candidate, values}
 use Rattle.cc_walk.specs.declared.word_class.ValueCharacter.{ValueCharacter}
 use Rattle.cc_walk.specs.declared.state.Pending.{Pending}
 use Rattle.cc_walk.specs.declared.state.Pending.TheVariants.{OptionOpen}

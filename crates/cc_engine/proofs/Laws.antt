@@ -9,7 +9,7 @@ use Rattle.cc_gather.specs.Finished.{AreGrouped, AreShown, Differ, finish, first
 use Rattle.cc_gather.proofs.Law.{differ, order, some_visible, visible}
 use Rattle.cc_gather.specs.Values.{MayReturn}
 use Rattle.cc_walk.specs.declared.state.State.{State}
-use Rattle.cc_engine.specs.Completion.{Completes, Returned, IsSorted, ShowsVisible, candidates_for, besides, finished_last, offered, opened_values}
+use Rattle.cc_engine.specs.Completion.{Completes, Returned, IsSorted, ShowsVisible, candidates_for, besides, finished_last, opened_values}
 use Rattle.cc_engine.proofs.OneFinishing.{to_gathered}
 
 abbrev Candidates : Type 0

@@ -7,7 +7,7 @@ ghost use Rattle.std.specs.Option.{option_copied};
 ghost use Rattle.cc_arg.specs.ValueSources.{has_source};
 ghost use Rattle.cc_command.specs.Built.{built_tree};
 ghost use Rattle.cc_engine.specs.Asked.{Asks, argument_within, asked_argument};
-ghost use Rattle.cc_engine.specs.Asked.{offered_positional, opened_argument};
+ghost use Rattle.cc_engine.specs.Asked.{offered_positional, opened_argument, unless_dash};
 ghost use Rattle.cc_engine.specs.Completion.{Refuses, is_in_range, offered_match};
 ghost use Rattle.cc_walk.specs.Lookup.{positional_at};
 
@@ -27,6 +27,9 @@ use std::alloc::{AllocError, Global};
 /// That is the first argument whose values are offered there and come from a command, a file or a
 /// hint whose values the system knows. An open option goes first, then the option whose value is
 /// within the word, then the positional. The `words` are those that `complete_from` takes.
+///
+/// A word that begins with `-` only asks for the option whose value is within it. The values of the
+/// others would have to begin with the word, but none from outside the command begins with `-`.
 ///
 /// # Errors
 ///
@@ -81,7 +84,7 @@ fn asked_at<'a>(
 {
     let arguments = command.get_arguments();
     let lists = OpenLists::new(arguments, state);
-    let opened = with_source(opened_argument(&state.pending));
+    let opened = with_source(unless_dash(word, opened_argument(&state.pending)));
     if opened.is_some() {
         return Ok(opened);
     }
@@ -90,7 +93,17 @@ fn asked_at<'a>(
         return Ok(within);
     }
     let positional = offered_positional(arguments, state.position, lists.value);
-    Ok(with_source(positional))
+    Ok(with_source(unless_dash(word, positional)))
+}
+
+// Returns the argument, unless `word` begins with `-`.
+fn unless_dash<'a>(word: &str, argument: Option<&'a Arg>) -> Option<&'a Arg>
+    ensures { option_copied result ≡ unless_dash word.now (option_copied argument.entry) }
+{
+    if word.starts_with('-') {
+        return None;
+    }
+    argument
 }
 
 fn opened_argument<'a>(pending: &Pending<'a>) -> Option<&'a Arg>
