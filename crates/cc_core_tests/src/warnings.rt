@@ -83,3 +83,32 @@ fn each_warning_has_its_place_and_its_text(rt: HostRuntime) {
     drop(found);
     drop(command);
 }
+
+// An argument whose values come from a shell beside a hint of paths, and a flag with a file.
+const SOURCES: &str = r#"{"name": "app", "args": [
+    {"id": "b", "values_from": ["/bin/sh", "-c", "ls"], "value_hint": "AnyPath"},
+    {"id": "h", "long": "host", "action": "SetTrue", "values_file": "a", "values_split": ":"},
+    {"id": "u", "long": "user", "values_file": "users"}],
+    "subcommands": [{"name": "s", "args": [{"id": "t", "values_from": ["git", "tag"]}]}]}"#;
+
+const OF_SOURCES: &str = "\
+args[0].values_from: a tab runs `/bin/sh` `-c` `ls`
+args[0].values_from[0]: `/bin/sh` may run its arguments as code; name a program that only \
+    prints values
+args[0].value_hint: live completion offers no paths here, since a command or a file lists the \
+    values; leave one out
+args[1].values_file: a flag takes no values, so this key has no effect; leave it out
+args[1].values_split: a flag takes no values, so this key has no effect; leave it out
+0/args[0].values_from: a tab runs `git` `tag`
+";
+
+#[test]
+fn sources_of_values_are_reported(rt: HostRuntime) {
+    let command = tree(&rt, rt.alloc(), SOURCES);
+    let found = command_warnings(rt.alloc(), None, &command).expect(&rt, "no memory");
+    let text = lines(rt.alloc(), &found).expect(&rt, "no memory");
+    same(&rt, text.as_str(), OF_SOURCES);
+    drop(text);
+    drop(found);
+    drop(command);
+}

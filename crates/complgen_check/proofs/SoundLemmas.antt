@@ -13,7 +13,7 @@ use Rattle.cc_command.specs.Tree.{Tree}
 use Rattle.complgen_lints.specs.Notes.{are_notes, is_note as is_note_kind}
 use Rattle.complgen_lints.specs.Texts.{level_of}
 use Rattle.complgen_lints.specs.declared.warning.Kind.{Kind}
-use Rattle.complgen_lints.specs.declared.warning.Kind.TheVariants.{HiddenArgument, HiddenCommand}
+use Rattle.complgen_lints.specs.declared.warning.Kind.TheVariants.{HiddenArgument, HiddenCommand, RunsCommand}
 use Rattle.complgen_lints.specs.declared.warning.Warning.{Warning}
 use Rattle.cc_fish.proofs.ScriptRead as fish
 use Rattle.cc_shell.specs.Shells.{shell_spec}
@@ -82,6 +82,7 @@ no_notes (finding ∷ more) are clean =
 kind_shown : (kind : Kind) → is_note (finding_level (level_of kind)) ≡ is_note_kind kind
 kind_shown HiddenCommand = refl
 kind_shown HiddenArgument = refl
+kind_shown (RunsCommand words) = refl
 kind_shown _ = refl
 
 -- whether everything shown is a note

@@ -3,4 +3,5 @@ pub mod PremisesFound
 pub mod Steps
 pub mod TakenNames
 pub mod TextsFound
+pub mod ValueLintsExamples
 pub mod Walked

@@ -6,7 +6,7 @@ use Rattle.cc_command.specs.Plain.{is_plain_forest, is_plain_node, passes_if_som
 use Rattle.cc_command.specs.Quiet.{is_quiet_tree}
 use Rattle.cc_command.specs.Tree.{Tree}
 use Rattle.cc_base.specs.PlainName.{is_plain_name}
-use Rattle.complgen_lints.specs.CommandWarnings.{clap_list, command_list, hidden_list}
+use Rattle.complgen_lints.specs.CommandWarnings.{clap_list, command_list, hidden_list, sources_list}
 use Rattle.complgen_lints.specs.Notes.{are_notes, is_note}
 use Rattle.complgen_lints.specs.Premises.{bin_kind, bin_list, holds_premises, names_list, premise_list}
 use Rattle.complgen_lints.specs.Scopes.{scope_list}
@@ -61,8 +61,10 @@ pub premises_hold : (bin : Option (List ℕ)) (tree : Tree) → IsTrue (are_note
 premises_hold bin tree h =
     let zsh = premise_list bin tree ++ tree_list (text_list Zsh) [] tree in
     let clap = zsh ++ tree_list clap_list [] tree in
+    let scope = clap ++ scope_list [] [] tree in
     subst IsTrue (premise_notes bin tree)
     (first_notes (premise_list bin tree) (tree_list (text_list Zsh) [] tree)
     (first_notes zsh (tree_list clap_list [] tree)
     (first_notes clap (scope_list [] [] tree)
-    (first_notes (clap ++ scope_list [] [] tree) (tree_list hidden_list [] tree) h))))
+    (first_notes scope (tree_list hidden_list [] tree)
+    (first_notes (scope ++ tree_list hidden_list [] tree) (tree_list sources_list [] tree) h)))))

@@ -8,6 +8,7 @@ use Rattle.complgen_lints.specs.PositionalLints.{positional_list}
 use Rattle.complgen_lints.specs.Premises.{names_list, premise_list}
 use Rattle.complgen_lints.specs.Scopes.{scope_list}
 use Rattle.complgen_lints.specs.TextLints.{text_list}
+use Rattle.complgen_lints.specs.ValueLints.{source_list}
 use Rattle.complgen_lints.specs.Walk.{each_from, tree_list, when}
 use Rattle.complgen_lints.specs.declared.found.Finding.{Finding}
 use Rattle.complgen_lints.specs.declared.found.Spot.TheVariants.{Command, Argument}
@@ -31,15 +32,22 @@ abbrev pub hidden_list : Tree → List Finding
 hidden_list tree = when tree.node.hide (finding Command Hide None HiddenCommand)
     ++ each_from hidden_argument 0 tree.node.arguments
 
+-- the sources of the values of each argument
+abbrev pub sources_list : Tree → List Finding
+sources_list tree = each_from source_list 0 tree.node.arguments
+
 -- what a lint finds in a command
 abbrev pub lint_list : Lint → Tree → List Finding
 lint_list lint.Names = names_list
 lint_list (lint.Texts texts) = text_list texts
 lint_list lint.Clap = clap_list
 lint_list lint.Hidden = hidden_list
+lint_list lint.Sources = sources_list
 
 -- all warnings: premises that do not hold, texts that end a text of the zsh script, what clap
--- refuses about a command alone, then together with inherited arguments, and what is hidden
+-- refuses about a command alone, then together with inherited arguments, what is hidden, and where
+-- values come from
 abbrev pub command_list : Option (List ℕ) → Tree → List Warning
-command_list bin tree = (((premise_list bin tree ++ tree_list (text_list Zsh) [] tree)
-    ++ tree_list clap_list [] tree) ++ scope_list [] [] tree) ++ tree_list hidden_list [] tree
+command_list bin tree = ((((premise_list bin tree ++ tree_list (text_list Zsh) [] tree)
+    ++ tree_list clap_list [] tree) ++ scope_list [] [] tree) ++ tree_list hidden_list [] tree)
+    ++ tree_list sources_list [] tree

@@ -13,4 +13,5 @@ pub mod Scopes
 pub mod SiblingNames
 pub mod TextLints
 pub mod Texts
+pub mod ValueLints
 pub mod Walk

@@ -1,7 +1,7 @@
 -- The keys as a tree file spells them.
 use Rattle.std.specs.Prelude.{ℕ, List, codes}
 use Rattle.complgen_lints.specs.declared.place.Key.{Key}
-use Rattle.complgen_lints.specs.declared.place.Key.TheVariants.{Name, BinName, About, Aliases, VisibleAliases, Hide, Id, Short, Long, ShortAliases, VisibleShortAliases, Help, Action, NumArgs, ValueNames, PossibleValues, ValueHint, Index, ConflictsWith, Required, Last, Global}
+use Rattle.complgen_lints.specs.declared.place.Key.TheVariants.{Name, BinName, About, Aliases, VisibleAliases, Hide, Id, Short, Long, ShortAliases, VisibleShortAliases, Help, Action, NumArgs, ValueNames, PossibleValues, ValueHint, ValuesFrom, ValuesFile, ValuesSplit, Index, ConflictsWith, Required, Last, Global}
 
 -- a key as a tree file spells it
 abbrev pub key_text : Key → List ℕ
@@ -22,6 +22,9 @@ key_text NumArgs = codes "num_args"
 key_text ValueNames = codes "value_names"
 key_text PossibleValues = codes "possible_values"
 key_text ValueHint = codes "value_hint"
+key_text ValuesFrom = codes "values_from"
+key_text ValuesFile = codes "values_file"
+key_text ValuesSplit = codes "values_split"
 key_text Index = codes "index"
 key_text ConflictsWith = codes "conflicts_with"
 key_text Required = codes "required"

@@ -8,6 +8,7 @@ use Rattle.complgen_lints.specs.declared.warning.Kind.TheVariants.{BinNotPlain, 
 use Rattle.complgen_lints.specs.declared.warning.Kind.TheVariants.{TakenId, TakenLong, TakenShort, TakenByHelp, TakenByVersion, UnknownConflict, SelfConflict}
 use Rattle.complgen_lints.specs.declared.warning.Kind.TheVariants.{IndexOutOfRange, TakenIndex, ManyBeforeLast, SecondLast, ValuesOfFlag, NoValues, RequiredAfterOptional, LastOption, GlobalRequired, MoreNamesThanValues, CommandHintWithoutMany}
 use Rattle.complgen_lints.specs.declared.warning.Kind.TheVariants.{PositionalWithoutValue, NoVersion, IndexOfOption, LastBesideChildren, HiddenCommand, HiddenArgument}
+use Rattle.complgen_lints.specs.declared.warning.Kind.TheVariants.{RunsCommand, RunsCode, SourceOfFlag, HintBesideSource}
 use Rattle.complgen_lints.specs.declared.warning.Level.{Level}
 use Rattle.complgen_lints.specs.declared.warning.Level.TheVariants as level
 use Rattle.complgen_lints.specs.declared.warning.Warning.{Warning}
@@ -16,6 +17,7 @@ use Rattle.complgen_lints.specs.declared.warning.Warning.{Warning}
 abbrev pub level_of : Kind → Level
 level_of HiddenCommand = level.Note
 level_of HiddenArgument = level.Note
+level_of (RunsCommand words) = level.Note
 level_of _ = level.Warning
 
 -- what messages call a text at a key
@@ -59,6 +61,9 @@ fixed_text LastBesideChildren =
     codes "a required `last` positional can't be combined with subcommands"
 fixed_text HiddenCommand = codes "scripts still offer a hidden command; live completion hides it"
 fixed_text HiddenArgument = codes "scripts still offer a hidden argument; live completion hides it"
+fixed_text SourceOfFlag = codes "a flag takes no values, so this key has no effect; leave it out"
+fixed_text HintBesideSource = codes
+    "live completion offers no paths here, since a command or a file lists the values; leave one out"
 fixed_text _ = []
 
 -- the harm that a name may do in scripts and in a shell
@@ -142,6 +147,9 @@ clap_text key (RequiredAfterOptional id) =
 clap_text key (MoreNamesThanValues names greatest) =
     decimal names ++ codes " value names, but the argument takes at most " ++ decimal greatest
 clap_text key (IndexOutOfRange index count) = outside_text index count
+clap_text key (RunsCommand words) = codes "a tab runs" ++ words
+clap_text key (RunsCode program) = codes "`" ++ program
+    ++ codes "` may run its arguments as code; name a program that only prints values"
 clap_text key kind = fixed_text kind
 
 -- the text of a kind at this key

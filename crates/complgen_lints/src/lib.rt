@@ -15,6 +15,7 @@ mod scopes;
 mod siblings;
 mod text_lints;
 mod texts;
+mod value_lints;
 mod walk;
 mod warning;
 

@@ -2,7 +2,7 @@
 
 ghost use Rattle.std.specs.Prelude.{◌≡◌, ◌++◌, OnOk};
 ghost use Rattle.complgen_lints.specs.CommandWarnings.{clap_list, hidden_argument, hidden_list};
-ghost use Rattle.complgen_lints.specs.CommandWarnings.{lint_list};
+ghost use Rattle.complgen_lints.specs.CommandWarnings.{lint_list, sources_list};
 ghost use Rattle.complgen_lints.specs.Premises.{names_list};
 ghost use Rattle.complgen_lints.specs.Walk.{each_from};
 
@@ -12,6 +12,7 @@ use crate::place::Key;
 use crate::positionals::push_positionals;
 use crate::siblings::push_taken_names;
 use crate::text_lints::{TextLint, push_text_findings};
+use crate::value_lints::push_sources;
 use crate::warning::Kind;
 use cc_arg::Arg;
 use cc_command::Command;
@@ -28,6 +29,8 @@ pub(crate) enum Lint {
     Clap,
     /// Hidden commands and arguments, which scripts still offer.
     Hidden,
+    /// Commands that a tab runs, and keys of sources of values with no effect.
+    Sources,
 }
 
 /// Adds what `lint` finds in `command` and its arguments.
@@ -39,6 +42,7 @@ pub(crate) fn push_lint(found: &mut Found, lint: Lint, command: &Command) -> Add
         Lint::Texts(texts) => push_text_findings(found, texts, command),
         Lint::Clap => push_clap(found, command),
         Lint::Hidden => push_hidden(found, command),
+        Lint::Sources => push_command_sources(found, command),
     }
 }
 
@@ -54,6 +58,12 @@ fn push_clap(found: &mut Found, command: &Command) -> Added
 {
     push_arguments(found, command)?;
     push_positionals(found, command.get_arguments())
+}
+
+fn push_command_sources(found: &mut Found, command: &Command) -> Added
+    ensures { OnOk result (found.new ≡ found.old ++ sources_list command.now) }
+{
+    push_sources(found, command.get_arguments())
 }
 
 fn push_hidden(found: &mut Found, command: &Command) -> Added

@@ -42,6 +42,12 @@ pub enum Key {
     PossibleValues,
     /// `value_hint`
     ValueHint,
+    /// `values_from`
+    ValuesFrom,
+    /// `values_file`
+    ValuesFile,
+    /// `values_split`
+    ValuesSplit,
     /// `index`
     Index,
     /// `conflicts_with`
@@ -77,6 +83,9 @@ impl Key {
             Key::ValueNames => "value_names",
             Key::PossibleValues => "possible_values",
             Key::ValueHint => "value_hint",
+            Key::ValuesFrom => "values_from",
+            Key::ValuesFile => "values_file",
+            Key::ValuesSplit => "values_split",
             Key::Index => "index",
             Key::ConflictsWith => "conflicts_with",
             Key::Required => "required",

@@ -53,7 +53,8 @@ pub fn premise_warnings(
 /// 2. names and help texts that end a text of the zsh script;
 /// 3. what clap refuses about each command by itself, and settings of its arguments with no effect;
 /// 4. what clap refuses about the arguments of a command together with those that it inherits;
-/// 5. notes about hidden commands and arguments.
+/// 5. notes about hidden commands and arguments;
+/// 6. notes about commands that a tab runs, and warnings about sources of values.
 ///
 /// A label of the bash script that two commands share is not among them. If there are only notes,
 /// the premises that `premise_warnings` checks hold.
@@ -83,6 +84,7 @@ pub fn command_warnings(
     push_tree(&mut warnings, Lint::Clap, root(alloc), command)?;
     push_scope(&mut warnings, root(alloc), &[], command)?;
     push_tree(&mut warnings, Lint::Hidden, root(alloc), command)?;
+    push_tree(&mut warnings, Lint::Sources, root(alloc), command)?;
     Ok(warnings)
 }
 

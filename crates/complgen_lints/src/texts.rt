@@ -193,6 +193,12 @@ fn write_clap<W: fmt::Write>(
             )
         }
         Kind::IndexOutOfRange(index, count) => write_outside(index.as_str(), count.as_str(), f),
+        Kind::RunsCommand(words) => write!(f, "a tab runs{}", words.as_str()),
+        Kind::RunsCode(program) => write!(
+            f,
+            "`{}` may run its arguments as code; name a program that only prints values",
+            program.as_str()
+        ),
         kind => f.write_str(fixed_text(kind)),
     }
 }
@@ -297,6 +303,11 @@ fn fixed_text(kind: &Kind) -> &'static str
         }
         Kind::HiddenCommand => "scripts still offer a hidden command; live completion hides it",
         Kind::HiddenArgument => "scripts still offer a hidden argument; live completion hides it",
+        Kind::SourceOfFlag => "a flag takes no values, so this key has no effect; leave it out",
+        Kind::HintBesideSource => {
+            "live completion offers no paths here, since a command or a file lists the values; \
+             leave one out"
+        }
         _ => "",
     }
 }

@@ -91,6 +91,14 @@ pub enum Kind {
     NoValues,
     /// A required argument with `last`, in a command with subcommands.
     LastBesideChildren,
+    /// A command that a tab runs to list values: its words as messages show them.
+    RunsCommand(Text),
+    /// The program of such a command, which may run its arguments as code.
+    RunsCode(Text),
+    /// A source of values of an argument that takes no value.
+    SourceOfFlag,
+    /// A hint of paths of an argument whose values come from a command or a file.
+    HintBesideSource,
     /// A hidden command.
     HiddenCommand,
     /// A hidden argument.
@@ -111,16 +119,19 @@ impl Warning {
     pub fn is_note(&self) -> bool
         ensures { result ≡ is_note self.now.kind }
     {
-        matches!(&self.kind, Kind::HiddenCommand | Kind::HiddenArgument)
+        matches!(
+            &self.kind,
+            Kind::HiddenCommand | Kind::HiddenArgument | Kind::RunsCommand(_)
+        )
     }
 
-    /// Returns the severity of the warning: `Note` for a hidden command or argument, or else
-    /// `Warning`.
+    /// Returns the severity of the warning: `Note` for a hidden command or argument and for a
+    /// command that a tab runs, or else `Warning`.
     pub fn level(&self) -> Level
         ensures { result ≡ level_of self.now.kind }
     {
         match &self.kind {
-            Kind::HiddenCommand | Kind::HiddenArgument => Level::Note,
+            Kind::HiddenCommand | Kind::HiddenArgument | Kind::RunsCommand(_) => Level::Note,
             _ => Level::Warning,
         }
     }
