@@ -9,7 +9,7 @@ use Rattle.complgen_import.specs.declared.form.OptionLine.{OptionLine}
 use Rattle.complgen_import.specs.Lines.{IsAmong}
 use Rattle.complgen_import.specs.Names.{KeepsOnly, if_new, is_said, kept_names, line_names, new_names, said_after}
 
-among_split : {A : Type 0} (x : A) (front rest : List A) → IsAmong x (front ++ rest) → IsAmong x front ⊎ IsAmong x rest
+pub among_split : {A : Type 0} (x : A) (front rest : List A) → IsAmong x (front ++ rest) → IsAmong x front ⊎ IsAmong x rest
 unfolding IsAmong
 among_split x [] rest h = inr h
 among_split x (y ∷ front) rest (inl here) = inl (inl here)
@@ -30,7 +30,7 @@ new_one true other name h = absurd h
 new_one false other name (inl here) = (refl, here)
 new_one false other name (inr later) = absurd later
 
-neither : (x y : Bool) → (x || y) ≡ false → (x ≡ false) × (y ≡ false)
+pub neither : (x y : Bool) → (x || y) ≡ false → (x ≡ false) × (y ≡ false)
 neither true y h = cc
 neither false y h = (refl, h)
 
@@ -92,7 +92,7 @@ unfolding said_after is_said
 unsaid_before said [] name h = h
 unsaid_before said (other ∷ names) name h = (neither (bytes_eq other name) (is_said said name) (unsaid_before (other ∷ said) names name h)).1
 
-abbrev Differ : List (List ℕ) → Type 0
+abbrev pub Differ : List (List ℕ) → Type 0
 Differ names = AllDifferBy (λ name. name) names
 
 -- a name differs from one that is not among the names with it
@@ -105,7 +105,7 @@ is_none_of said name other unsaid = λ same.
     cc
 
 -- more names that differ from those before them
-differ_more : (said names tail : List (List ℕ)) → Differ tail → ((name : List ℕ) → IsAmong name tail → is_said (said_after said names) name ≡ false) → Differ (new_names said names ++ tail)
+pub differ_more : (said names tail : List (List ℕ)) → Differ tail → ((name : List ℕ) → IsAmong name tail → is_said (said_after said names) name ≡ false) → Differ (new_names said names ++ tail)
 unfolding new_names said_after if_new
 differ_more said [] tail h unsaid = h
 differ_more said (other ∷ names) tail h unsaid =
@@ -131,7 +131,7 @@ kept_unsaid said (first ∷ lines) name h = elim (among_split name (new_names sa
   | inr later ↦ unsaid_before said first name (kept_unsaid (said_after said first) lines name later)
 ]
 
-kept_differ : (said : List (List ℕ)) (lines : List (List (List ℕ))) → Differ (all_of (kept_names said lines))
+pub kept_differ : (said : List (List ℕ)) (lines : List (List (List ℕ))) → Differ (all_of (kept_names said lines))
 unfolding kept_names
 kept_differ said [] = tt
 kept_differ said (first ∷ lines) =

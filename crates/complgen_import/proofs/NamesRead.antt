@@ -16,11 +16,11 @@ use Rattle.complgen_import.specs.Names.{Holds, KeepsEach, if_new, is_said, kept_
 
 -- ---- the set
 
-not_false : (b : Bool) → not b ≡ false → b ≡ true
+pub not_false : (b : Bool) → not b ≡ false → b ≡ true
 not_false true h = refl
 not_false false h = cc
 
-not_true : (b : Bool) → not b ≡ true → b ≡ false
+pub not_true : (b : Bool) → not b ≡ true → b ≡ false
 not_true true h = cc
 not_true false h = refl
 
@@ -183,7 +183,7 @@ first_new said other names name here = elim (cases_Bool (is_said said other)) [
       inr (subst P (sym new) (inl here))
 ]
 
-new_or_said : (said names : List (List ℕ)) (name : List ℕ) → IsAmong name names → IsAmong name said ⊎ IsAmong name (new_names said names)
+pub new_or_said : (said names : List (List ℕ)) (name : List ℕ) → IsAmong name names → IsAmong name said ⊎ IsAmong name (new_names said names)
 unfolding IsAmong new_names
 new_or_said said [] name h = absurd h
 new_or_said said (other ∷ names) name (inl here) = first_new said other names name here

@@ -2,7 +2,7 @@
 use Rattle.std.specs.Prelude.{ℕ, Bool, true, false, not, ◌||◌, ◌==◌, List, [], ◌∷◌}
 use Rattle.std.specs.Char.{is_ascii_alphanumeric, is_ascii_digit, is_ascii_lowercase, is_ascii_uppercase}
 use Rattle.complgen_import.specs.declared.class.Class.{Class}
-use Rattle.complgen_import.specs.declared.class.Class.TheVariants.{Blank, NameByte, ValueByte, Capital, CapitalByte, Small, SmallByte, InLine, InAngles, InCurlies, InSquares}
+use Rattle.complgen_import.specs.declared.class.Class.TheVariants.{Blank, NameByte, ValueByte, Capital, CapitalByte, Small, SmallByte, InLine, InAngles, InCurlies, InSquares, PlainByte, Opening, HeadingByte, BeforeNote}
 
 -- a letter, a digit, or one of `_.:+-`
 abbrev pub is_name_byte : ℕ → Bool
@@ -21,6 +21,14 @@ is_small_byte byte =
     is_ascii_alphanumeric byte
     || (byte == 95 || byte == 45 || byte == 46 || byte == 58 || byte == 47)
 
+-- a letter, a digit, `-` or `_`
+abbrev pub is_plain_byte : ℕ → Bool
+is_plain_byte byte = is_ascii_alphanumeric byte || (byte == 45 || byte == 95)
+
+-- one of `<[{`
+abbrev pub is_opening : ℕ → Bool
+is_opening byte = byte == 60 || byte == 91 || byte == 123
+
 -- the byte is in the class
 unfoldable pub in_class : Class → ℕ → Bool
 in_class Blank byte = byte == 32
@@ -34,6 +42,10 @@ in_class InLine byte = not (byte == 10)
 in_class InAngles byte = not (byte == 60 || byte == 62)
 in_class InCurlies byte = not (byte == 123 || byte == 125)
 in_class InSquares byte = not (byte == 91 || byte == 93)
+in_class PlainByte byte = is_plain_byte byte
+in_class Opening byte = is_opening byte
+in_class HeadingByte byte = not (byte == 45 || is_opening byte)
+in_class BeforeNote byte = not (byte == 40)
 
 -- the text begins with a byte of the class
 unfoldable pub begins : Class → List ℕ → Bool

@@ -1,10 +1,13 @@
 pub mod Arguments
 pub mod Classes
 pub mod Clean
+pub mod Commands
+pub mod Entries
 pub mod Form
 pub mod Lines
 pub mod Names
 pub mod Reading
+pub mod Sections
 pub mod Takes
 pub mod TreeArguments
 pub mod Unfolded

@@ -1,7 +1,7 @@
 //! Classes of bytes.
 
 ghost use Rattle.std.specs.Prelude.{◌≡◌};
-ghost use Rattle.complgen_import.specs.Classes.{in_class, is_capital_byte, is_name_byte, is_small_byte};
+ghost use Rattle.complgen_import.specs.Classes.{in_class, is_capital_byte, is_name_byte, is_opening, is_plain_byte, is_small_byte};
 
 /// A class of bytes.
 #[derive(Clone, Copy, Drop)]
@@ -27,6 +27,14 @@ pub(crate) enum Class {
     InCurlies,
     // any byte except `[` and `]`
     InSquares,
+    // a letter, a digit, `-` or `_`
+    PlainByte,
+    // one of `<[{`
+    Opening,
+    // any byte except `-` and one of `<[{`
+    HeadingByte,
+    // any byte except `(`
+    BeforeNote,
 }
 
 impl Class {
@@ -47,6 +55,10 @@ impl Class {
             Class::InAngles => !matches!(byte, b'<' | b'>'),
             Class::InCurlies => !matches!(byte, b'{' | b'}'),
             Class::InSquares => !matches!(byte, b'[' | b']'),
+            Class::PlainByte => is_plain_byte(byte),
+            Class::Opening => is_opening(byte),
+            Class::HeadingByte => !(byte == b'-' || is_opening(byte)),
+            Class::BeforeNote => byte != b'(',
         }
     }
 }
@@ -67,4 +79,16 @@ fn is_small_byte(byte: u8) -> bool
     ensures { result ≡ is_small_byte byte }
 {
     byte.is_ascii_alphanumeric() || matches!(byte, b'_' | b'-' | b'.' | b':' | b'/')
+}
+
+fn is_plain_byte(byte: u8) -> bool
+    ensures { result ≡ is_plain_byte byte }
+{
+    byte.is_ascii_alphanumeric() || matches!(byte, b'-' | b'_')
+}
+
+fn is_opening(byte: u8) -> bool
+    ensures { result ≡ is_opening byte }
+{
+    matches!(byte, b'<' | b'[' | b'{')
 }

@@ -1,4 +1,4 @@
-//! Reads the options and flags from the help text that a program prints.
+//! Reads the options, flags and subcommands from the help text that a program prints.
 //!
 //! ```rattle
 //! use complgen_import::{read_arguments, value_count};
@@ -15,14 +15,18 @@ mod arguments;
 mod bytes;
 mod class;
 mod clean;
+mod commands;
+mod entries;
 mod form;
 mod fronts;
+mod headings;
 mod line;
 mod lines;
 mod names;
 mod option_name;
 mod option_names;
 mod pieces;
+mod sections;
 mod takes;
 mod tree_argument;
 mod unfold;
@@ -32,6 +36,7 @@ mod words;
 pub use crate::arguments::{Argument, read_arguments};
 pub use crate::bytes::Bytes;
 pub use crate::clean::clean_text;
+pub use crate::commands::{Command, read_commands};
 pub use crate::form::{Mark, Name, OptionLine, Piece, Separator, Value};
 pub use crate::line::option_line;
 pub use crate::lines::{Lines, option_lines};

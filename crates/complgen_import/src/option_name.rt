@@ -1,4 +1,4 @@
-//! A name of an option as users type it.
+//! A name of an option or a subcommand as users type it.
 
 ghost use Rattle.std.specs.Prelude.{◌≡◌, ◌++◌, ℕ, List, Some, IfOk, bytes_eq, refl};
 ghost use Rattle.std.specs.Cmp.{partial_equiv_from_equiv};
@@ -9,7 +9,8 @@ use std::alloc::{AllocError, Global};
 use std::cmp::Ordering;
 use std::marker::Model;
 
-/// A name of an option as users type it: `-c` or `--name`. Clauses see only its bytes.
+/// A name of an option or a subcommand as users type it: `-c`, `--name` or `name`. Clauses see only
+/// its bytes.
 #[derive(Drop)]
 pub struct OptionName {
     written: Vec<u8>,

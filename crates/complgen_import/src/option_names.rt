@@ -58,8 +58,8 @@ fn unseen(
     Ok(kept)
 }
 
-// Adds a name to the set. Returns whether it is new there.
-fn insert_name(
+/// Adds a name to the set. Returns whether it is new there.
+pub(crate) fn insert_name(
     alloc: Global,
     seen: &mut BTreeSet<OptionName>,
     name: &OptionName,

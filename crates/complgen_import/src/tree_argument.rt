@@ -65,8 +65,8 @@ fn tree_argument(alloc: Global, argument: &Argument) -> Result<TreeArgument, All
     })
 }
 
-// Returns the text with one space for each run of spaces, and none at the start.
-fn singled(alloc: Global, text: &[u8]) -> Result<Vec<u8>, AllocError>
+/// Returns the text with one space for each run of spaces, and none at the start.
+pub(crate) fn singled(alloc: Global, text: &[u8]) -> Result<Vec<u8>, AllocError>
     ensures { IfOk result (λ single. single.items ≡ singled true text.now) }
 {
     let mut single = Vec::with_capacity(alloc, text.len())?;

@@ -51,8 +51,8 @@ fn push_help_below(out: &mut Vec<u8>, line: &[u8], lines: &Lines) -> Result<(), 
     push_help(out, blanks.as_slice().len(), lines.ahead())
 }
 
-// Adds the help text in the lines after an option line.
-fn push_help(out: &mut Vec<u8>, indent: usize, lines: Lines) -> Result<(), AllocError>
+/// Adds the help text in `lines`, the lines after a line with this indent.
+pub(crate) fn push_help(out: &mut Vec<u8>, indent: usize, lines: Lines) -> Result<(), AllocError>
     ensures { OnOk result
         (out.new.items ≡ out.old.items ++ help_of indent (lines_left lines.entry)) }
 {

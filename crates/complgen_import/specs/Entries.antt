@@ -1,0 +1,83 @@
+-- An entry of a list of commands: a name, what may follow it, and a help text.
+use Rattle.std.specs.Prelude.{ℕ, Bool, true, false, not, ◌||◌, ◌&&◌, ◌==◌, ◌+◌, ◌-◌, List, [], ◌∷◌, ◌++◌, Option, Some, None, codes, if◌then◌else◌, is_some, length, nat_lt}
+use Rattle.std.specs.Option.{option_or, unwrap_or}
+use Rattle.cc_base.specs.Found.{after}
+use Rattle.cc_base.specs.PlainName.{is_plain_name}
+use Rattle.complgen_import.specs.declared.class.Class.TheVariants.{Blank as BlankByte, Capital, Small, PlainByte, Opening}
+use Rattle.complgen_import.specs.declared.entries.Columns.{Columns}
+use Rattle.complgen_import.specs.Classes.{begins, past, run}
+use Rattle.complgen_import.specs.Form.{is_tail}
+use Rattle.complgen_import.specs.TreeArguments.{singled}
+use Rattle.complgen_import.specs.Unfolded.{help_of}
+
+-- the number of spaces before the line
+abbrev pub indent_of : List ℕ → ℕ
+indent_of line = length (run BlankByte line)
+
+-- the name of an entry, and the text after it
+abbrev pub entry_name : List ℕ → List ℕ
+entry_name line = run PlainByte (past BlankByte line)
+
+abbrev pub entry_rest : List ℕ → List ℕ
+entry_rest line = past PlainByte (past BlankByte line)
+
+-- the name of a value, as `<FILE>`, `[FILE]`, `{a,b}` or `FILE`; no word that only begins with an
+-- upper-case letter
+unfoldable pub is_value : List ℕ → Bool
+is_value [] = false
+is_value (byte ∷ text) =
+    begins Opening (byte ∷ text) || (begins Capital (byte ∷ text) && not (begins Small text))
+
+-- a value, or another name of the command
+unfoldable pub is_usage : List ℕ → Bool
+is_usage text = elim (after (codes " ") text) [
+  | Some value ↦ is_value value || is_some (after (codes "| ") value)
+  | None ↦ is_some (after (codes ", ") text) || is_some (after (codes "|") text)
+]
+
+-- the text from the first gap on
+unfoldable pub from_gap : List ℕ → List ℕ
+from_gap [] = []
+from_gap (byte ∷ text) = elim (is_some (after (codes "  ") (byte ∷ text))) [
+  | true ↦ byte ∷ text
+  | false ↦ from_gap text
+]
+
+-- the text after a mark between a name and its help text: `:`, ` - `, or `*`
+unfoldable pub past_mark : List ℕ → Option (List ℕ)
+past_mark text =
+    option_or (option_or (after (codes ": ") text) (after (codes " - ") text))
+    (after (codes "*  ") text)
+
+-- the help text after a name, with the spaces before it
+unfoldable pub help_in : List ℕ → List ℕ
+help_in rest =
+    if is_usage rest then from_gap rest else unwrap_or (past_mark rest) rest
+
+-- the column of the help text
+abbrev pub help_column : List ℕ → ℕ
+help_column line = length line - length (past BlankByte (help_in (entry_rest line)))
+
+abbrev pub columns_of : List ℕ → Columns
+columns_of line = record { entry = indent_of line; help = help_column line }
+
+-- The text may follow a name. One space is enough before a help text in the same column as that of
+-- the entry before, because it is the longest name that leaves one.
+abbrev pub may_follow_name : Bool → List ℕ → Bool
+may_follow_name in_column rest =
+    is_tail rest || is_usage rest || is_some (past_mark rest)
+    || (begins BlankByte rest && in_column)
+
+abbrev pub is_in_column : ℕ → List ℕ → Bool
+is_in_column column line = help_column line == column
+
+-- the line is an entry, after one with a help text in this column
+abbrev pub is_entry : ℕ → List ℕ → Bool
+is_entry column line =
+    nat_lt 0 (indent_of line)
+    && (is_plain_name (entry_name line) && may_follow_name (is_in_column column line) (entry_rest line))
+
+-- its help text, with that in the lines after it
+abbrev pub entry_help : List ℕ → List (List ℕ) → List ℕ
+entry_help line lines =
+    singled true (help_in (entry_rest line) ++ help_of (indent_of line) lines)

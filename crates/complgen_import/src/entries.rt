@@ -1,0 +1,155 @@
+//! Entries of a list of commands: a name, what may follow it, and a help text.
+
+ghost use Rattle.std.specs.Prelude.{◌≡◌, ◌++◌, IfOk, is_some};
+ghost use Rattle.std.specs.Option.{option_copied};
+ghost use Rattle.complgen_import.specs.Entries.{columns_of, entry_help, entry_name, entry_rest, from_gap, help_column, help_in, indent_of, is_entry, is_usage, is_value, may_follow_name, past_mark};
+ghost use Rattle.complgen_import.specs.Lines.{lines_left};
+
+use crate::bytes::Bytes;
+use crate::class::Class;
+use crate::fronts::{after, begins, split_run};
+use crate::lines::Lines;
+use crate::pieces::is_tail;
+use crate::tree_argument::singled;
+use crate::unfold::push_help;
+use crate::words::is_plain_word;
+use cc_base::Items;
+use std::alloc::{AllocError, Global};
+
+/// The columns of an entry.
+#[derive(Clone, Copy, Drop)]
+pub(crate) struct Columns {
+    /// The number of spaces before it.
+    pub entry: usize,
+    /// The column of its help text.
+    pub help: usize,
+}
+
+impl Columns {
+    /// Returns the columns of an entry.
+    pub(crate) fn new(line: &[u8]) -> Columns
+        ensures { result ≡ columns_of line.now }
+    {
+        Columns {
+            entry: indent_of(line),
+            help: help_column(line),
+        }
+    }
+}
+
+/// Returns the number of spaces before the line.
+pub(crate) fn indent_of(line: &[u8]) -> usize
+    ensures { result ≡ indent_of line.now }
+{
+    let (blanks, _) = split_run(Class::Blank, line);
+    blanks.as_slice().len()
+}
+
+/// Returns whether the line is an entry. `column` is that of the help text of the entry before it.
+pub(crate) fn is_entry(column: usize, line: &[u8]) -> bool
+    ensures { result ≡ is_entry column line.now }
+{
+    let (name, rest) = split_entry(line);
+    let in_column = help_column(line) == column;
+    indent_of(line) > 0
+        && (is_plain_word(name.as_slice()) && may_follow_name(in_column, rest.as_slice()))
+}
+
+/// Returns the name of an entry, and the text after it.
+pub(crate) fn split_entry<'a>(line: &'a [u8]) -> (Bytes<'a>, Bytes<'a>)
+    ensures name { result.0 ≡ entry_name line.now }
+    ensures rest { result.1 ≡ entry_rest line.now }
+{
+    let (_, text) = split_run(Class::Blank, line);
+    split_run(Class::PlainByte, text.as_slice())
+}
+
+/// Returns the help text of an entry. `lines` are the lines after it.
+///
+/// # Errors
+///
+/// `AllocError` if an allocation fails.
+pub(crate) fn entry_help(alloc: Global, line: &[u8], lines: &Lines) -> Result<Items<u8>, AllocError>
+    ensures { IfOk result (λ help. help ≡ entry_help line.now (lines_left lines.now)) }
+{
+    let (_, rest) = split_entry(line);
+    let mut help = Vec::from_slice(alloc, help_in(rest.as_slice()))?;
+    push_help(&mut help, indent_of(line), lines.ahead())?;
+    Ok(Items::from(singled(alloc, help.as_slice())?))
+}
+
+// Returns the column of the help text.
+fn help_column(line: &[u8]) -> usize
+    ensures { result ≡ help_column line.now }
+{
+    let (_, rest) = split_entry(line);
+    let (_, help) = split_run(Class::Blank, help_in(rest.as_slice()));
+    line.len().saturating_sub(help.as_slice().len())
+}
+
+// Returns whether the text may follow a name. `in_column` tells whether the help text is in the
+// column of that of the entry before.
+fn may_follow_name(in_column: bool, rest: &[u8]) -> bool
+    ensures { result ≡ may_follow_name in_column rest.now }
+{
+    is_tail(rest)
+        || is_usage(rest)
+        || past_mark(rest).is_some()
+        || (begins(Class::Blank, rest) && in_column)
+}
+
+// Returns the help text after a name, with the spaces before it.
+#[tactic(auto, unfolding(crate::specs::Entries::help_in))]
+fn help_in(rest: &[u8]) -> &[u8]
+    ensures { result.now ≡ help_in rest.now }
+{
+    if is_usage(rest) {
+        return from_gap(rest);
+    }
+    past_mark(rest).unwrap_or(rest)
+}
+
+// Returns the text after a mark between a name and its help text.
+#[tactic(auto, unfolding(crate::specs::Entries::past_mark))]
+fn past_mark<'a>(rest: &'a [u8]) -> Option<&'a [u8]>
+    ensures { option_copied result ≡ past_mark rest.now }
+{
+    after(b": ", rest)
+        .or_else(|| after(b" - ", rest))
+        .or_else(|| after(b"*  ", rest))
+}
+
+// Returns whether the text begins with a value, or with another name of the command.
+#[tactic(auto, unfolding(crate::specs::Entries::is_usage))]
+fn is_usage(rest: &[u8]) -> bool
+    ensures { result ≡ is_usage rest.now }
+{
+    match after(b" ", rest) {
+        Some(value) => is_value(value) || after(b"| ", value).is_some(),
+        None => after(b", ", rest).is_some() || after(b"|", rest).is_some(),
+    }
+}
+
+// Returns whether the text begins with the name of a value.
+#[tactic(auto, unfolding(crate::specs::Entries::is_value))]
+fn is_value(text: &[u8]) -> bool
+    ensures { result ≡ is_value text.now }
+{
+    match text {
+        [_, rest @ ..] => begins(Class::Opening, text)
+            || (begins(Class::Capital, text) && !begins(Class::Small, rest)),
+        [] => false,
+    }
+}
+
+// Returns the text from its first gap on.
+fn from_gap(text: &[u8]) -> &[u8]
+    ensures { result.now ≡ from_gap text.now }
+{
+    for at in 0..text.len() {
+        if after(b"  ", &text[at..]).is_some() {
+            return &text[at..];
+        }
+    }
+    &text[text.len()..]
+}

@@ -1,0 +1,116 @@
+//! The sections of a help text.
+
+ghost use Rattle.std.specs.Prelude.{◌≡◌, IfOk};
+ghost use Rattle.complgen_import.specs.Lines.{lines_left};
+ghost use Rattle.complgen_import.specs.Sections.{is_below, is_entry_of, is_other, may_be_entry, section_after, section_left, section_of, section_past};
+
+use crate::class::Class;
+use crate::entries::{Columns, indent_of, is_entry};
+use crate::fronts::split_run;
+use crate::headings::{is_among_commands, is_blank, is_heading, is_of_commands};
+use crate::lines::Lines;
+use std::alloc::{AllocError, Global};
+
+/// The section of a line.
+#[derive(Clone, Copy, Drop)]
+pub(crate) enum Section {
+    /// No section of commands.
+    Other,
+    /// A section of commands, before its first entry.
+    Opened,
+    /// A section of commands, after an entry in these columns.
+    Entries(Columns),
+}
+
+impl Section {
+    /// Returns the section after a line. `lines` are the lines after it.
+    ///
+    /// # Errors
+    ///
+    /// `AllocError` if an allocation fails.
+    pub(crate) fn after(
+        self,
+        alloc: Global,
+        line: &[u8],
+        lines: &Lines,
+    ) -> Result<Section, AllocError>
+        ensures { IfOk result (λ after. after ≡ section_after self line.now (lines_left lines.now)) }
+    {
+        if self.has_entry(line, lines) {
+            return Ok(Section::Entries(Columns::new(line)));
+        }
+        self.past(alloc, line, lines)
+    }
+
+    /// Returns whether the line is an entry of a list of commands.
+    pub(crate) fn has_entry(self, line: &[u8], lines: &Lines) -> bool
+        ensures { result ≡ is_entry_of self line.now (lines_left lines.now) }
+    {
+        self.may_have_entry(line) && (self.is_below(line) || !is_heading(line, lines))
+    }
+
+    // Returns the section after a line that is not an entry.
+    fn past(self, alloc: Global, line: &[u8], lines: &Lines) -> Result<Section, AllocError>
+        ensures { IfOk result (λ after. after ≡ section_past self line.now (lines_left lines.now)) }
+    {
+        if is_blank(line) || self.is_below(line) {
+            return Ok(self);
+        }
+        if is_heading(line, lines) {
+            let (_, text) = split_run(Class::Blank, line);
+            return self.under(alloc, text.as_slice());
+        }
+        Ok(self.left())
+    }
+
+    // Returns the section that a heading begins.
+    fn under(self, alloc: Global, text: &[u8]) -> Result<Section, AllocError>
+        ensures { IfOk result (λ after. after ≡ section_of self text.now) }
+    {
+        let of_commands = is_of_commands(alloc, text)?;
+        let among_commands = is_among_commands(alloc, text)?;
+        if of_commands || (!self.is_other() && among_commands) {
+            return Ok(Section::Opened);
+        }
+        Ok(Section::Other)
+    }
+
+    fn is_other(self) -> bool
+        ensures { result ≡ is_other self }
+    {
+        matches!(self, Section::Other)
+    }
+
+    // Returns the section after a line that is neither in a list of entries nor a heading.
+    fn left(self) -> Section
+        ensures { result ≡ section_left self }
+    {
+        match self {
+            Section::Opened => Section::Opened,
+            _ => Section::Other,
+        }
+    }
+
+    // Returns whether the line belongs to an entry, or begins one.
+    fn is_below(self, line: &[u8]) -> bool
+        ensures { result ≡ is_below self line.now }
+    {
+        match self {
+            Section::Entries(columns) => indent_of(line) >= columns.entry,
+            _ => false,
+        }
+    }
+
+    // Returns whether the line is an entry if it is no heading.
+    #[tactic(auto, unfolding(crate::specs::Sections::may_be_entry))]
+    fn may_have_entry(self, line: &[u8]) -> bool
+        ensures { result ≡ may_be_entry self line.now }
+    {
+        match self {
+            Section::Other => false,
+            Section::Opened => is_entry(0, line),
+            Section::Entries(columns) => indent_of(line) == columns.entry
+                && is_entry(columns.help, line),
+        }
+    }
+}
