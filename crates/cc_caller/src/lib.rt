@@ -11,11 +11,13 @@ ghost use Rattle.clap_complete.specs.PlainName.{is_plain_name};
 ghost use Rattle.cc_caller.specs.PlainScript.{TakesPlain};
 
 mod bash;
+mod branches;
 mod equality;
 mod known_names;
 mod word_list;
 
 pub use crate::bash::write_bash_if_quiet;
+pub use crate::branches::{branch, write_answer_over};
 pub use crate::equality::{same_action, same_hint, same_range, same_shell};
 pub use crate::known_names::{KnownNames, tools};
 pub use crate::word_list::WordList;

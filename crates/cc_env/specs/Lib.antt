@@ -1,6 +1,7 @@
 pub mod Arguments
 pub mod Builtins
 pub mod Replies
+pub mod Requested
 pub mod SafeShells
 pub mod ShellNames
 pub mod Shells

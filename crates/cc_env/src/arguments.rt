@@ -10,7 +10,7 @@ use cc_paths::{join, trim_trailing};
 use std::alloc::{AllocError, Global};
 
 /// Returns the words after the first `--`; none without one.
-pub(crate) fn after_dashes(words: &[String]) -> &[String]
+pub fn after_dashes(words: &[String]) -> &[String]
     ensures { map string_bytes result.now ≡ after_dashes (map string_bytes words.now) }
 {
     let mut left = words;

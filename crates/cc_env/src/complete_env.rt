@@ -8,6 +8,7 @@ ghost use Rattle.cc_engine.specs.Completion.{Completes};
 ghost use Rattle.cc_engine.specs.Sources.{returned_from};
 ghost use Rattle.cc_replies.specs.Environment.{value_of};
 ghost use Rattle.cc_env.specs.Wanted.{wanted_name};
+ghost use Rattle.cc_env.specs.Requested.{FindsShell, found_shell};
 ghost use Rattle.cc_env.specs.Steps.{MakesText, Tries, made_bytes, names_of};
 
 use crate::builtin::Builtin;
@@ -202,6 +203,50 @@ impl<'s, F: Fn(Global) -> Result<Command, Error> + Drop, E: EnvCompleter> Comple
             completers,
         };
         self.try_complete_from(alloc, args, env, &sources, out)
+    }
+
+    /// Returns the shell that `env` requests by the value of the variable, or `None` if it requests
+    /// nothing.
+    ///
+    /// # Errors
+    ///
+    /// `UnknownShell` if no shell has the requested name, and `Memory` if there is no memory for
+    /// that message.
+    pub fn requested_shell(&self, alloc: Global, env: &EnvValues) -> Result<Option<&E>, Error>
+        ensures { FindsShell E.spec self.now.shells.0.now
+            (wanted_name (value_of self.now.variable.now env.now)) (found_shell result) }
+    {
+        let Some(name) = wanted_name(env.get(self.variable)) else {
+            return Ok(None);
+        };
+        Ok(Some(known_shell(alloc, &self.shells, name)?))
+    }
+
+    /// Returns the program as this shell runs it.
+    pub fn shell_program<'p>(&'p self, shell: &'p E) -> ShellProgram<'p, E>
+        ensures shell { result.shell.now ≡ shell.now }
+        ensures variable { result.variable.now ≡ self.now.variable.now }
+        ensures bin { option_copied result.bin ≡ self.now.bin }
+        ensures completer { option_copied result.completer ≡ self.now.completer }
+    {
+        ShellProgram {
+            shell,
+            variable: self.variable,
+            bin: some_text(&self.bin),
+            completer: some_text(&self.completer),
+        }
+    }
+
+    /// Returns the command that the factory makes. It is not built yet.
+    ///
+    /// # Errors
+    ///
+    /// The error of the factory.
+    pub fn command(&self, alloc: Global) -> Result<Command, Error>
+        requires { F.IsAlwaysCallable self.now.factory }
+        ensures { F.post self.now.factory alloc result }
+    {
+        (self.factory)(alloc)
     }
 
     // Returns the text for a shell and the arguments of the program.

@@ -1,5 +1,5 @@
 -- The requests of a shell, by an environment that is not known beforehand.
-use Rattle.std.specs.Prelude.{◌≡◌, ⊤, ℕ, Bool, List, Option, None, Result, Err, codes}
+use Rattle.std.specs.Prelude.{◌≡◌, ⊤, ℕ, List, Option, None, Result, Err, codes}
 use Rattle.std.specs.declared.alloc.Global.{Global}
 use Rattle.cc_env.specs.SafeShells.{all_safe}
 use Rattle.cc_env.specs.declared.safe_shell.SafeShell.{SafeShell}
@@ -22,7 +22,8 @@ system_facts home = record {
 -- written; or it ended so for some values of environment variables, some current folder and some
 -- home folder, with the commands that the factory makes, the variable `COMPLETE`, neither a binary
 -- nor a completer set, and the safe shells.
-pub data TriesSome {S F : Type 0} (old new : S) (result : Result Bool Error) (factory : F)
+pub data TriesSome {S F : Type 0} (old new : S) (result : Result (Option ℕ) Error)
+    (factory : F)
     (Ends : Global → EnvValues → Option (List ℕ) → Option (List ℕ) → F → List ℕ → Option (List ℕ)
     → Option (List ℕ) → List SafeShell → Type 0) : Type 0 where
   out_of_memory : result ≡ Err Memory → new ≡ old → TriesSome old new result factory Ends

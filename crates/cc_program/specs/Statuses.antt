@@ -7,6 +7,8 @@ use Rattle.clap.specs.declared.error.kind.ErrorKind.{ErrorKind}
 use Rattle.clap.specs.declared.error.kind.ErrorKind.TheVariants.{DisplayHelp, DisplayVersion, OutOfMemory}
 use Rattle.clap.specs.declared.parser.matches.ArgMatches.{ArgMatches}
 use Rattle.clap.specs.Words.{App, HasMatchesOf, takes}
+use Rattle.cc_asking.specs.Answers.{Told}
+use Rattle.cc_asking.specs.WrittenAnswers.{status_of as answer_status}
 use Rattle.cc_base.specs.declared.error.Error.{Error}
 use Rattle.cc_base.specs.declared.error.Error.TheVariants.{Memory}
 use Rattle.cc_command.specs.Built.{built_tree}
@@ -79,7 +81,8 @@ pub data ParsesMade {E : Type 0} (Makes : Result Tree Error → Type 0)
 pub data Runs {E : Type 0} (Makes : Result Tree Error → Type 0)
     (Does : ArgMatches → Result (Unit {0}) E → Type 0) : Result ExitCode (Failure E) → Type 0 where
   unread : (failure : Failure E) → IsOfWords failure → Runs Makes Does (Err failure)
-  completed : (code : ExitCode) → exit_status code ≡ 0 → Runs Makes Does (Ok code)
+  completed : (code : ExitCode) (told : Told) → exit_status code ≡ answer_status told
+      → Runs Makes Does (Ok code)
   not_completed : (error : Error) → Runs Makes Does (Err (Library error))
   words_parsed : (result : Result ExitCode (Failure E)) → ParsesMade Makes Does result
       → Runs Makes Does result

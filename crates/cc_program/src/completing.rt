@@ -1,69 +1,121 @@
 //! Live completion as the environment requests it.
 
 ghost use Rattle.std.specs.Prelude.{map, string_bytes};
-ghost use Rattle.cc_env.specs.SafeShells.{safe_spec};
-ghost use Rattle.cc_engine.specs.Completion.{Completes};
+ghost use Rattle.std.specs.Option.{option_copied};
+ghost use Rattle.cc_asking.specs.OwnAnswers.{AnswersBy, own_parts};
+ghost use Rattle.cc_asking.specs.OwnEnds.{EndsOwn};
 ghost use Rattle.cc_engine.specs.Sources.{returned_from};
-ghost use Rattle.cc_env.specs.Steps.{MakesText, Tries, names_of};
-ghost use Rattle.cc_env.specs.Wanted.{wanted_name};
+ghost use Rattle.cc_env.specs.Steps.{names_of};
+ghost use Rattle.cc_lines.specs.SystemLines.{SystemGives};
 ghost use Rattle.cc_program.specs.Requests.{TriesSome, system_facts};
 ghost use Rattle.cc_replies.specs.Environment.{value_of};
 
+use cc_asking::{Called, try_complete_asking};
 use cc_base::{CandidateSources, Error, Sink};
 use cc_candidates::Completers;
 use cc_command::Command;
-use cc_env::CompleteEnv;
-use cc_paths::RealFolder;
+use cc_engine::Sources;
+use cc_env::{CompleteEnv, SafeShell};
+use cc_lines::SystemLines;
+use cc_paths::{Folder, RealFolder};
 use cc_replies::{home, variables};
 use std::alloc::Global;
 use std::env::{self, Env};
+use std::io::Input;
 use std::rt::Files;
 
-// The variables by which a shell asks: by the safe registration, or by one of the original's form.
-const VARIABLES: [&str; 6] = [
+// The variables by which a shell asks, by the safe registration or by one of the original's form;
+// the one by which a user turns commands off; and the one that lists the directories of programs.
+const VARIABLES: [&str; 8] = [
     "COMPLETE",
     "_COMPLGEN_VALUES",
     "_COMPLGEN_KEPT",
     "_COMPLGEN_QUOTE",
     "_CLAP_COMPLETE_INDEX",
     "_CLAP_IFS",
+    "COMPLGEN_COMMANDS",
+    "PATH",
 ];
 
 /// Writes what a shell asks for by the environment to `out`, through the safe adapters, and returns
-/// whether one asks. If one does, the program has nothing else to do. `words` are those of the
-/// command line, the program's name first. `factory` makes the command that is completed, and
-/// `completers` are those that its arguments name.
+/// the exit status with which the program then ends: 0 after a reply or a registration, and 3 after
+/// the words of a command for the shell to run. Returns `None` if no shell asks. `words` are those
+/// of the command line, the program's name first. `factory` makes the command that is completed,
+/// and `completers` are those that its arguments name.
 ///
-/// The environment, the current directory and the user's home directory are those of the system.
+/// The environment, the current directory and the user's home directory are those of the system. If
+/// the values of an argument come from a command, a file or a hint, `SystemLines` reads them: what
+/// the command printed is on the standard input. Nothing else is read from there.
 ///
 /// # Errors
 ///
-/// Those of `CompleteEnv::try_complete`.
+/// Those of `try_complete_asking`, and `Memory` if an allocation fails.
 pub fn completes<R, F, W>(
     rt: &R,
-    words: Vec<String>,
+    words: &[String],
     factory: F,
     completers: &Completers,
     out: &mut W,
-) -> Result<bool, Error>
+) -> Result<Option<u8>, Error>
 where
-    R: Env + Files + AllocGlobal,
+    R: Env + Files + Input + AllocGlobal,
     F: Fn(Global) -> Result<Command, Error> + Drop,
     W: Sink,
     requires { F.IsAlwaysCallable factory }
     ensures { TriesSome out.old out.new result factory (λ alloc env current home made_by variable
-        bin completer shells. Tries W.taken W.failed safe_spec shells (λ shell. MakesText
-        (λ made. F.post made_by alloc made) (safe_spec shell)
-        (names_of variable bin completer current) env (Completes (returned_from
-        ⟦<Completers as CandidateSources>⟧ completers.now (system_facts home) current))
-        (map string_bytes words.items))
-        (wanted_name (value_of variable env)) out.old out.new result) }
+        bin completer shells. EndsOwn W.taken W.failed (AnswersBy shells
+        (λ made. F.post made_by alloc made) (own_parts (names_of variable bin completer current)
+        env (map string_bytes words.now) (returned_from ⟦<Completers as CandidateSources>⟧
+        completers.now (system_facts home) current)) SystemGives (value_of variable env))
+        out.old out.new result) }
 {
-    let alloc = rt.alloc();
     let variables = variables(rt, &VARIABLES)?;
     let folder = RealFolder::new(rt, home(rt)?);
     let current = env::current_dir(rt).ok();
-    let current = current.as_ref().map(|path| path.as_str());
-    let asked = CompleteEnv::safe(factory);
-    asked.try_complete(alloc, words, current, &variables, &folder, completers, out)
+    let current_dir = current.as_ref().map(|path| path.as_str());
+    let called = Called {
+        args: words,
+        env: &variables,
+    };
+    let sources = Sources {
+        current_dir,
+        folder: &folder,
+        completers,
+    };
+    let completion = CompleteEnv::safe(factory);
+    answers_in(rt, rt.alloc(), &completion, &called, &sources, out)
+}
+
+// Writes the answer to a request, with lines of the system, and returns the exit status.
+fn answers_in<R, F, D, W>(
+    rt: &R,
+    alloc: Global,
+    completion: &CompleteEnv<'_, F, SafeShell>,
+    called: &Called<'_>,
+    sources: &Sources<'_, D, Completers>,
+    out: &mut W,
+) -> Result<Option<u8>, Error>
+where
+    R: Files + Input,
+    F: Fn(Global) -> Result<Command, Error> + Drop,
+    D: Folder,
+    W: Sink,
+    requires { F.IsAlwaysCallable completion.now.factory }
+    ensures { EndsOwn W.taken W.failed (AnswersBy completion.now.shells.0.now
+        (λ made. F.post completion.now.factory alloc made) (own_parts
+        (names_of completion.now.variable.now completion.now.bin completion.now.completer
+        (option_copied sources.now.current_dir)) called.now.env.now
+        (map string_bytes called.now.args.now)
+        (returned_from ⟦<Completers as CandidateSources>⟧ sources.now.completers.now
+        (D.facts sources.now.folder.now) (option_copied sources.now.current_dir)))
+        SystemGives (value_of completion.now.variable.now called.now.env.now))
+        out.old out.new result }
+{
+    let lines = SystemLines {
+        rt,
+        env: called.env,
+        current_dir: sources.current_dir,
+        folder: sources.folder,
+    };
+    try_complete_asking(alloc, completion, called, sources, &lines, out)
 }

@@ -16,7 +16,7 @@ use cc_replies::words;
 use clap::ArgMatches;
 use std::alloc::Global;
 use std::env::Env;
-use std::io;
+use std::io::{self, Input};
 use std::process::ExitCode;
 use std::rt::Files;
 
@@ -26,7 +26,8 @@ use std::rt::Files;
 /// help text and the version to standard output, a mistake to standard error.
 ///
 /// Returns status 0 if the words were completed or carried out, or ask for a help text or the
-/// version, and status 2 for a mistake.
+/// version, status 2 for a mistake, and status 3 if the words of a command were written for the
+/// shell to run.
 ///
 /// # Errors
 ///
@@ -39,7 +40,7 @@ pub fn run<R, F, C, E>(
     carry_out: C,
 ) -> Result<ExitCode, Failure<E>>
 where
-    R: Env + Files + Print + Eprint + AllocGlobal,
+    R: Env + Files + Input + Print + Eprint + AllocGlobal,
     F: Fn(Global) -> Result<Command, Error> + Drop,
     C: FnOnce(&ArgMatches<'_>) -> Result<(), E> + Drop,
     E: Drop,
@@ -50,8 +51,8 @@ where
 {
     let asked = read_words(rt)?;
     let mut out = Counted::new(io::writer(rt));
-    if completes(rt, asked, &factory, completers, &mut out)? {
-        return Ok(ExitCode::SUCCESS);
+    if let Some(status) = completes(rt, asked.as_slice(), &factory, completers, &mut out)? {
+        return Ok(ExitCode::from(status));
     }
     parses(rt, factory, carry_out)
 }

@@ -194,6 +194,18 @@ pub use Rattle.cc_env.specs.declared.safe_shell.SafeShell
 pub use Rattle.cc_env.specs.Arguments as RequestArguments
 pub use Rattle.cc_env.specs.Wanted as WantedShell
 pub use Rattle.cc_env.specs.Steps as RequestSteps
+pub use Rattle.cc_env.specs.Requested as RequestedShell
+-- values from outside the tree
+pub use Rattle.cc_replies.specs.GivenLines as CandidateLines
+pub use Rattle.cc_asking.specs.Asking as AskedValues
+pub use Rattle.cc_asking.specs.Given as GivenValues
+pub use Rattle.cc_asking.specs.Completion as GivenCompletion
+pub use Rattle.cc_asking.specs.Answers as RequestAnswers
+pub use Rattle.cc_asking.specs.RunWords as WordsToRun
+pub use Rattle.cc_asking.specs.WrittenAnswers
+pub use Rattle.cc_asking.specs.OwnAnswers
+pub use Rattle.cc_asking.specs.OwnEnds
+pub use Rattle.cc_lines.specs.SystemLines as SystemValues
 -- the whole program
 pub use Rattle.cc_program.specs.Requests as ProgramRequests
 pub use Rattle.cc_program.specs.Statuses as ProgramStatuses

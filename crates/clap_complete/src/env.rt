@@ -1,8 +1,15 @@
 //! Completion by the program itself, when its shell asks for candidates through the environment.
 
+pub use cc_asking::{
+    Answer, Call, Called, LineSource, PassedLines, answer_call, answer_own, try_complete_asking,
+    write_answer, write_run_words,
+};
 pub use cc_env::{
     Bash, Builtin, CompleteEnv, Elvish, EnvCompleter, Fish, Powershell, SafeShell, ShellNames,
     ShellProgram, Shells, Zsh,
 };
+pub use cc_lines::SystemLines;
 pub use cc_quote::is_plain_path;
-pub use cc_replies::{EnvValues, are_readable_lines, are_readable_values, are_readable_zsh_items};
+pub use cc_replies::{
+    EnvValues, GivenLines, are_readable_lines, are_readable_values, are_readable_zsh_items,
+};

@@ -1,34 +1,39 @@
-//! Answers requests of shells: writes the registration of all programs that have a tree file, or
-//! the candidates for a word of one of them.
+//! Answers requests of shells: writes the registration of all programs that have a tree file, the
+//! candidates for a word of one of them, or the words of a command that lists them.
 
 use crate::contents;
 use crate::output::{buffered, flush};
 use cc_base::{Error, Sink};
+use cc_lines::SystemLines;
 use cc_paths::{Folder, RealFolder};
 use cc_replies::{EnvValues, home, variables};
 use complgen_commands::{Refusal, error_refusal};
 use complgen_live::{
-    BadTree, OWN_TREE, ReplyError, command_name, known_names, reply, request_words, tree_folders,
-    tree_paths, write_registrations,
+    BadTree, OWN_TREE, Origin, ReplyError, Request, command_name, known_names, reply,
+    request_words, tree_folders, tree_paths, write_registrations,
 };
 use std::alloc::{AllocError, Global};
 use std::borrow::CowStr;
 use std::convert::AsStr;
 use std::env::{self, Env};
+use std::io::Input;
 use std::rt::Files;
 
-// The environment variables that shells set, and those that name the directories of tree files.
-const VARIABLES: [&str; 10] = [
+// The environment variables that shells set, the one that turns commands off, those that name the
+// directories of tree files, and the one that lists the directories of programs.
+const VARIABLES: [&str; 12] = [
     "COMPLETE",
     "_COMPLGEN_VALUES",
     "_COMPLGEN_KEPT",
     "_COMPLGEN_QUOTE",
     "_CLAP_COMPLETE_INDEX",
     "_CLAP_IFS",
+    "COMPLGEN_COMMANDS",
     "COMPLGEN_PATH",
     "XDG_DATA_HOME",
     "XDG_DATA_DIRS",
     "HOME",
+    "PATH",
 ];
 
 // The path that is printed for the built-in tree.
@@ -41,63 +46,85 @@ struct TreeFile {
     bytes: Option<Vec<u8>>,
 }
 
-/// Writes what a shell requests. `words` are all words of the command line.
+/// Writes what a shell requests, and returns the exit status: 3 if the shell is to run a command
+/// whose words are written, and 1 if nothing is written, because the completed program has no tree
+/// file. Then the shell goes on without candidates. `words` are all words of the command line.
 ///
 /// # Errors
 ///
-/// A refusal with status 1. Its text is empty if the completed program has no tree file: then the
-/// shell goes on without candidates.
-pub(crate) fn complete<R: Env + Files + Print + Eprint + AllocGlobal>(
+/// A refusal with status 1.
+pub(crate) fn complete<R: Env + Files + Input + Print + Eprint + AllocGlobal>(
     rt: &R,
     env: &EnvValues,
     words: Vec<String>,
-) -> Result<(), Refusal> {
+) -> Result<u8, Refusal> {
     let folders = tree_folders(rt.alloc(), env)?;
     let folder = RealFolder::new(rt, home(rt)?);
-    print(rt, env, words, folders.as_slice(), &folder)
+    print(rt, env, words.as_slice(), folders.as_slice(), &folder)
 }
 
 // Writes what a shell requests, over tree files in `folders` and paths in `folder`.
-fn print<R: Env + Files + Print + Eprint + AllocGlobal, D: Folder>(
+fn print<R: Env + Files + Input + Print + Eprint + AllocGlobal, D: Folder>(
     rt: &R,
     env: &EnvValues,
-    words: Vec<String>,
+    words: &[String],
     folders: &[String],
     folder: &D,
-) -> Result<(), Refusal> {
+) -> Result<u8, Refusal> {
     let mut out = buffered(rt)?;
-    match write_requested(rt, env, words, folders, folder, &mut out) {
-        Ok(true) => flush(&mut out),
-        Ok(false) => Err(Refusal::from_static(1, "")),
-        Err(refusal) => Err(refusal),
-    }
+    let status = write_requested(rt, env, words, folders, folder, &mut out)?;
+    flush(&mut out)?;
+    Ok(status)
 }
 
-// Writes the registration, or the reply if words follow the `--`. Returns whether anything was
-// written.
-fn write_requested<R: Env + Files + Eprint + AllocGlobal, D: Folder, W: Sink>(
+// Writes the registration, or the answer if words follow the `--`. Returns the exit status.
+fn write_requested<'r, R: Env + Files + Input + Eprint + AllocGlobal, D: Folder, W: Sink>(
     rt: &R,
-    env: &EnvValues,
-    words: Vec<String>,
+    env: &'r EnvValues,
+    words: &'r [String],
     folders: &[String],
-    folder: &D,
+    folder: &'r D,
     out: &mut W,
-) -> Result<bool, Refusal> {
+) -> Result<u8, Refusal> {
     let current = env::current_dir(rt).ok();
     let current_dir = current.as_ref().map(|path| path.as_str());
-    let called = request_words(words.as_slice()).and_then(|words| words.first());
+    let called = request_words(words).and_then(|words| words.first());
     let Some(word) = called else {
         let program = words.first().map_or("complgen", |program| program.as_str());
         return match write_known(rt, env, program, current_dir, folder, folders, out) {
-            Ok(()) => Ok(true),
+            Ok(()) => Ok(0),
             Err(error) => Err(error_refusal(rt.alloc(), &error)),
         };
     };
     let file = tree_file(rt, folders, word.as_str())?;
-    let bytes = file.bytes.as_ref().map(Vec::as_slice);
-    match reply(rt.alloc(), env, words, bytes, current_dir, folder, out) {
-        Ok(written) => Ok(written),
-        Err(error) => Err(reply_refusal(rt.alloc(), file.path.as_str(), &error)),
+    let request = Request {
+        env,
+        words,
+        origin: Origin::File(file.path.as_str()),
+        file: file.bytes.as_ref().map(Vec::as_slice),
+        current_dir,
+        folder,
+    };
+    write_answer(rt, &request, file.path.as_str(), out)
+}
+
+// Writes the answer to a request for candidates, over the tree file at `path`. Returns the exit
+// status.
+fn write_answer<R: Files + Input + AllocGlobal, D: Folder, W: Sink>(
+    rt: &R,
+    request: &Request<'_, D>,
+    path: &str,
+    out: &mut W,
+) -> Result<u8, Refusal> {
+    let lines = SystemLines {
+        rt,
+        env: request.env,
+        current_dir: request.current_dir,
+        folder: request.folder,
+    };
+    match reply(rt.alloc(), request, &lines, out) {
+        Ok(status) => Ok(status),
+        Err(error) => Err(reply_refusal(rt.alloc(), path, &error)),
     }
 }
 

@@ -12,6 +12,7 @@ use complgen_commands::{Refusal, WRITE_FAILED};
 use std::alloc::AllocError;
 use std::convert::AsStr;
 use std::env::{self, Env};
+use std::io::Input;
 use std::process::ExitCode;
 use std::rt::Files;
 use std::{fs, io};
@@ -26,12 +27,11 @@ fn main(rt: HostRuntime) -> ExitCode {
 }
 
 // Replies to a shell, or carries out what the command line asks for. Returns the exit status.
-fn carry_out<R: Env + Files + Print + Eprint + AllocGlobal>(rt: &R) -> Result<u8, Refusal> {
+fn carry_out<R: Env + Files + Input + Print + Eprint + AllocGlobal>(rt: &R) -> Result<u8, Refusal> {
     let words = words(rt)?;
     let env = live::environment(rt)?;
     if is_shell_request(&env, words.as_slice()) {
-        live::complete(rt, &env, words)?;
-        return Ok(0);
+        return live::complete(rt, &env, words);
     }
     let plan = plan(rt.alloc(), words.as_slice())?;
     carry_out_plan(rt, &plan)

@@ -6,7 +6,10 @@ use cc_base::Sink;
 use cc_paths::{Folder, RealFolder};
 use cc_replies::home;
 use complgen_check::{Report, check};
-use complgen_commands::{Plan, Refusal, TreeFile, run, scripts, unreadable};
+use complgen_commands::{
+    Plan, Refusal, TreeFile, WordAt, reply_with, run, scripts, unreadable, unreadable_values,
+    write_wanted,
+};
 use std::convert::AsStr;
 use std::env::Env;
 use std::rt::Files;
@@ -66,9 +69,46 @@ fn write_plan<R: Files + AllocGlobal, D: Folder, W: Sink>(
             scripts(rt, alloc, bin.as_str(), out_dir.as_str(), file, out)?;
             Ok(0)
         }
+        Plan::CandidatesWith {
+            values,
+            index,
+            words,
+            ..
+        } => {
+            let word = WordAt {
+                words: words.as_slice(),
+                index: *index,
+            };
+            write_candidates(rt, values.as_str(), word, file, folder, out)?;
+            Ok(0)
+        }
+        Plan::Wanted(index, _, words) => {
+            let word = WordAt {
+                words: words.as_slice(),
+                index: *index,
+            };
+            write_wanted(alloc, word, file, out)?;
+            Ok(0)
+        }
         Plan::Script(..) | Plan::Register(..) | Plan::Candidates(..) => {
             run(alloc, plan, file, folder, out)?;
             Ok(0)
         }
     }
+}
+
+// Writes the candidates for `word`, with the lines of the file at `values` as the values that it
+// asks for.
+fn write_candidates<R: Files + AllocGlobal, D: Folder, W: Sink>(
+    rt: &R,
+    values: &str,
+    word: WordAt<'_>,
+    file: Option<&[u8]>,
+    folder: &D,
+    out: &mut W,
+) -> Result<(), Refusal> {
+    let Some(lines) = contents(rt, values)? else {
+        return Err(unreadable_values(rt.alloc(), values));
+    };
+    reply_with(rt.alloc(), word, lines.as_slice(), file, folder, out)
 }

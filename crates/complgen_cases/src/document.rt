@@ -1,12 +1,13 @@
 //! A document with cases: Markdown with trees and command lines in fenced blocks.
 //!
-//! - A block that begins with ```` ```json NAME ```` is a tree file with that name.
+//! - A block that begins with ```` ```json NAME ```` is a tree file with that name. A block that
+//!   begins with ```` ```text NAME ```` is another file.
 //! - A block that begins with ```` ```console ```` contains cases: a line `$ COMMAND`, perhaps a
 //!   line `? STATUS`, and then the expected output. A line `...` matches any lines, `[..]` matches
 //!   any text, and a last line `(no-eol)` means that no line feed ends the line before it.
 //! - A line that begins with `#` outside blocks is the title of the cases after it.
 //!
-//! Other blocks, lines of a block of cases before its first command, and a second tree with the
+//! Other blocks, lines of a block of cases before its first command, and a second file with the
 //! same name are not read. They are kept as strays.
 
 use std::alloc::{AllocError, Global};
@@ -19,15 +20,15 @@ pub(crate) struct Document {
     place: Place,
     /// The lines that are not read at their places.
     pub strays: Vec<String>,
-    /// The tree files, in order.
-    pub trees: Vec<TreeFile>,
+    /// The files, in order.
+    pub files: Vec<File>,
     /// The cases, in order.
     pub cases: Vec<Case>,
 }
 
-/// A tree file.
+/// A file, such as a tree file.
 #[derive(Drop)]
-pub(crate) struct TreeFile {
+pub(crate) struct File {
     /// Its name on command lines.
     pub name: String,
     /// Its content.
@@ -52,7 +53,7 @@ pub(crate) struct Case {
 #[derive(Clone, Copy, PartialEq, Eq)]
 enum Place {
     Prose,
-    Tree,
+    File,
     // A block of cases before its first command.
     Console,
     Case,
@@ -70,7 +71,7 @@ impl Document {
             title: String::new(alloc),
             place: Place::Prose,
             strays: Vec::new(alloc),
-            trees: Vec::new(alloc),
+            files: Vec::new(alloc),
             cases: Vec::new(alloc),
         };
         for line in text.split('\n') {
@@ -79,11 +80,11 @@ impl Document {
         Ok(document)
     }
 
-    /// Returns the bytes of the tree file with this name, if there is one.
-    pub(crate) fn tree(&self, name: &str) -> Option<&[u8]> {
-        for tree in &self.trees {
-            if tree.name.as_str() == name {
-                return Some(tree.text.as_bytes());
+    /// Returns the bytes of the file with this name, if there is one.
+    pub(crate) fn file(&self, name: &str) -> Option<&[u8]> {
+        for file in &self.files {
+            if file.name.as_str() == name {
+                return Some(file.text.as_bytes());
             }
         }
         None
@@ -96,15 +97,15 @@ impl Document {
                 self.place = Place::Prose;
                 Ok(())
             }
-            Place::Tree => self.push_to_tree(line),
+            Place::File => self.push_to_file(line),
             Place::Console | Place::Case => self.push_to_console(line),
         }
     }
 
     fn push_prose(&mut self, line: &str) -> Result<(), AllocError> {
-        if let Some(name) = line.strip_prefix("```json ") {
-            self.place = Place::Tree;
-            return self.push_tree(name);
+        if let Some(name) = file_name(line) {
+            self.place = Place::File;
+            return self.push_file(name);
         }
         if line == "```console" {
             self.place = Place::Console;
@@ -125,20 +126,20 @@ impl Document {
         Ok(())
     }
 
-    fn push_tree(&mut self, name: &str) -> Result<(), AllocError> {
-        if self.tree(name).is_some() {
+    fn push_file(&mut self, name: &str) -> Result<(), AllocError> {
+        if self.file(name).is_some() {
             self.push_stray(name)?;
         }
         let name = String::from_str(self.alloc, name)?;
         let text = String::new(self.alloc);
-        self.trees.push(TreeFile { name, text })?;
+        self.files.push(File { name, text })?;
         Ok(())
     }
 
-    fn push_to_tree(&mut self, line: &str) -> Result<(), AllocError> {
-        if let Some(tree) = self.trees.last_mut() {
-            tree.text.push_str(line)?;
-            tree.text.push('\n')?;
+    fn push_to_file(&mut self, line: &str) -> Result<(), AllocError> {
+        if let Some(file) = self.files.last_mut() {
+            file.text.push_str(line)?;
+            file.text.push('\n')?;
         }
         Ok(())
     }
@@ -161,6 +162,14 @@ impl Document {
         let case = Case::new(self.alloc, self.title.as_str(), command)?;
         self.cases.push(case)?;
         Ok(())
+    }
+}
+
+// Returns the name of the file that begins after this line, if one does.
+fn file_name(line: &str) -> Option<&str> {
+    match line.strip_prefix("```json ") {
+        Some(name) => Some(name),
+        None => line.strip_prefix("```text "),
     }
 }
 

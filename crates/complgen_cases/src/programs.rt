@@ -10,7 +10,9 @@ use cc_quote::posix_word;
 use cc_replies::EnvValues;
 use complgen_check::{Report, check};
 use complgen_command_line::plan;
-use complgen_commands::{Plan, Refusal, run, unreadable};
+use complgen_commands::{
+    Plan, Refusal, WordAt, reply_with, run, unreadable, unreadable_values, write_wanted,
+};
 use complgen_tree_file::read_tree;
 use std::alloc::{AllocError, Global};
 use std::convert::AsStr;
@@ -25,7 +27,7 @@ pub(crate) struct Outcome {
 }
 
 /// Runs a command line: words quoted as for a shell, after variables such as `NAME=VALUE`. The
-/// trees are those of the document.
+/// files are those of the document.
 ///
 /// `complgen` is the program with that name. Any other program completes itself. The variable
 /// `TREE` names the tree of its command, `PWD` is its current directory, and `BIN` and `COMPLETER`
@@ -119,7 +121,7 @@ fn carry_out(
     out: &mut Collected,
 ) -> Result<u8, Refusal> {
     let plan = plan(alloc, words)?;
-    let file = document.tree(plan.tree());
+    let file = document.file(plan.tree());
     match &plan {
         Plan::Check { bin, json, tree } => {
             if file.is_none() {
@@ -131,6 +133,30 @@ fn carry_out(
             Ok(u8::from(!is_clean))
         }
         Plan::Scripts { .. } => Ok(3),
+        Plan::CandidatesWith {
+            values,
+            index,
+            words,
+            ..
+        } => {
+            let Some(lines) = document.file(values.as_str()) else {
+                return Err(unreadable_values(alloc, values.as_str()));
+            };
+            let word = WordAt {
+                words: words.as_slice(),
+                index: *index,
+            };
+            reply_with(alloc, word, lines, file, &folders(), out)?;
+            Ok(0)
+        }
+        Plan::Wanted(index, _, words) => {
+            let word = WordAt {
+                words: words.as_slice(),
+                index: *index,
+            };
+            write_wanted(alloc, word, file, out)?;
+            Ok(0)
+        }
         Plan::Script(..) | Plan::Register(..) | Plan::Candidates(..) => {
             run(alloc, &plan, file, &folders(), out)?;
             Ok(0)
@@ -147,7 +173,7 @@ fn completed(
 ) -> Result<Outcome, Error> {
     let tree = variables
         .get("TREE")
-        .and_then(|name| document.tree(name))
+        .and_then(|name| document.file(name))
         .unwrap_or(&[]);
     let factory = |alloc: Global| command(alloc, tree);
     if variables.get("SAFE").is_some() {

@@ -224,8 +224,10 @@ enters_its entered =
     refl (three_given _ _ _ (checks_pass (shape_at 2) words e))))
     (either (enters entered (shape_at 3) GivesWords (λ words e. gives_words (shape_at 3) words e refl refl
     (two_given _ _ (checks_pass (shape_at 3) words e))))
-    (last (enters entered (shape_at 4) GivesTree (λ words e. has_value (shape_at 4) words e (codes "tree")
-    refl (one_given _ (checks_pass (shape_at 4) words e))))))))
+    (either (enters entered (shape_at 4) GivesWords (λ words e. gives_words (shape_at 4) words e refl refl
+    (two_given _ _ (checks_pass (shape_at 4) words e))))
+    (last (enters entered (shape_at 5) GivesTree (λ words e. has_value (shape_at 5) words e (codes "tree")
+    refl (one_given _ (checks_pass (shape_at 5) words e)))))))))
 
 -- words at which no step fails enter a command, with its required arguments
 pub enters_one : (words : List Text) → fault_of program_line words ≡ []

@@ -33,6 +33,29 @@ words_of_candidates : option_map (λ entered. words_of entered.1) (subcommand_of
 unfolding clap_on_literals
 words_of_candidates = refl
 
+-- `--values` has a value only if it is given
+no_values : option_map (λ entered. first_of (codes "values") entered.1)
+    (subcommand_of program_line asking) ≡ Some None
+unfolding clap_on_literals
+no_values = refl
+
+values_of_candidates : option_map (λ entered. first_of (codes "values") entered.1)
+    (subcommand_of program_line (codes "complgen" ∷ codes "candidates" ∷ codes "--index" ∷ codes "1"
+    ∷ codes "--values" ∷ codes "v" ∷ codes "t.json" ∷ [])) ≡ Some (Some (codes "v"))
+unfolding clap_on_literals
+values_of_candidates = refl
+
+takes_wanted : takes program_line (codes "complgen" ∷ codes "wanted" ∷ codes "--index" ∷ codes "1"
+    ∷ codes "t.json" ∷ codes "--" ∷ codes "app" ∷ codes "" ∷ []) ≡ true
+unfolding clap_on_literals
+takes_wanted = refl
+
+-- `wanted` has no option `--values`
+no_values_of_wanted : takes program_line (codes "complgen" ∷ codes "wanted" ∷ codes "--index"
+    ∷ codes "1" ∷ codes "--values" ∷ codes "v" ∷ codes "t.json" ∷ []) ≡ false
+unfolding clap_on_literals
+no_values_of_wanted = refl
+
 -- a command is required, and so is `--index`
 no_subcommand : takes program_line (codes "complgen" ∷ []) ≡ false
 unfolding clap_on_literals

@@ -13,9 +13,9 @@ option_rule name = record (new_rule name) { long = Some name; value_names = 1; r
 abbrev pub tree_rule : Rule
 tree_rule = record (new_rule (codes "tree")) { value_names = 1; required = true }
 
--- `--bin NAME`, which is not required
-abbrev pub bin_rule : Rule
-bin_rule = record (new_rule (codes "bin")) { long = Some (codes "bin"); value_names = 1 }
+-- `--NAME VALUE`, which is not required
+abbrev pub optional_rule : Text → Rule
+optional_rule name = record (new_rule name) { long = Some name; value_names = 1 }
 
 -- the flag `--json`
 abbrev pub json_rule : Rule
@@ -38,15 +38,20 @@ abbrev pub scripts_line : App
 scripts_line = with_rule (with_rule (with_rule (new_app (codes "scripts"))
     (option_rule (codes "bin"))) (option_rule (codes "out-dir"))) tree_rule
 
--- `candidates --index I TREE WORDS..`
+-- `candidates --index I [--values FILE] TREE WORDS..`
 abbrev pub candidates_line : App
-candidates_line = with_rule (with_rule (with_rule (new_app (codes "candidates"))
+candidates_line = with_rule (with_rule (with_rule (with_rule (new_app (codes "candidates"))
+    (option_rule (codes "index"))) (optional_rule (codes "values"))) tree_rule) words_rule
+
+-- `wanted --index I TREE WORDS..`
+abbrev pub wanted_line : App
+wanted_line = with_rule (with_rule (with_rule (new_app (codes "wanted"))
     (option_rule (codes "index"))) tree_rule) words_rule
 
 -- `check [--bin NAME] [--json] TREE`
 abbrev pub check_line : App
-check_line =
-    with_rule (with_rule (with_rule (new_app (codes "check")) bin_rule) json_rule) tree_rule
+check_line = with_rule (with_rule (with_rule (new_app (codes "check"))
+    (optional_rule (codes "bin"))) json_rule) tree_rule
 
 -- the program requires a subcommand, and has a version
 abbrev pub top_line : App
@@ -61,6 +66,10 @@ abbrev pub writing_line : App
 writing_line = with_subcommand (with_subcommand (with_subcommand top_line
     (shell_line (codes "script")).top) scripts_line.top) (shell_line (codes "register")).top
 
+-- the program with the subcommands that complete a word, too
+abbrev pub asking_line : App
+asking_line = with_subcommand (with_subcommand writing_line candidates_line.top) wanted_line.top
+
 -- the whole command line
 abbrev pub program_line : App
-program_line = with_subcommand (with_subcommand writing_line candidates_line.top) check_line.top
+program_line = with_subcommand asking_line check_line.top

@@ -5,8 +5,9 @@ use Rattle.std.specs.Str.{bytes_eq}
 use Rattle.std.specs.Str.Parse.{IsNumeral, digits_value, without_leading_plus}
 use Rattle.clap.specs.Words.{Row, Text, all_of, first_of}
 use Rattle.complgen_commands.specs.declared.plans.Plan.{Plan}
-use Rattle.complgen_commands.specs.declared.plans.Plan.TheVariants.{Candidates, Check, Register}
-use Rattle.complgen_commands.specs.declared.plans.Plan.TheVariants.{Script, Scripts}
+use Rattle.complgen_commands.specs.declared.plans.Plan.TheVariants.{Candidates, CandidatesWith}
+use Rattle.complgen_commands.specs.declared.plans.Plan.TheVariants.{Check, Register, Script}
+use Rattle.complgen_commands.specs.declared.plans.Plan.TheVariants.{Scripts, Wanted}
 
 -- the subcommand with this name was entered, and its rows have this property
 pub record Enters (name : Text) (Has : List Row → Type 0) (entered : Option (Text × List Row))
@@ -72,6 +73,12 @@ pub record HasWords (index : ℕ) (tree : Text) (words : List Text) (rows : List
   pub has_tree : first_of (codes "tree") rows ≡ Some tree
   pub has_words : words_of rows ≡ words
 
+-- the same, and of `--values`, which may be left out
+pub record HasValues (values : Option Text) (index : ℕ) (tree : Text) (words : List Text)
+    (rows : List Row) : Type 0 where
+  pub has_values : first_of (codes "values") rows ≡ values
+  pub has_line : HasWords index tree words rows
+
 -- ---- what words ask for
 
 -- the subcommand that was entered asks for this plan
@@ -81,6 +88,11 @@ AsksFor entered (Script shell bin tree) = Enters (codes "script")
 AsksFor entered (Register shell bin tree) = Enters (codes "register")
     (HasNames (string_bytes shell) (string_bytes bin) (string_bytes tree)) entered
 AsksFor entered (Candidates index tree words) = Enters (codes "candidates")
+    (HasValues None index (string_bytes tree) (map string_bytes words.items)) entered
+AsksFor entered (CandidatesWith values index tree words) = Enters (codes "candidates")
+    (HasValues (Some (string_bytes values)) index (string_bytes tree)
+    (map string_bytes words.items)) entered
+AsksFor entered (Wanted index tree words) = Enters (codes "wanted")
     (HasWords index (string_bytes tree) (map string_bytes words.items)) entered
 AsksFor entered (Check bin json tree) = Enters (codes "check")
     (HasReport (option_map string_bytes bin) json (string_bytes tree)) entered
@@ -97,7 +109,7 @@ abbrev pub GivesDirectory : List Row → Type 0
 GivesDirectory rows = IsSome (first_of (codes "bin") rows) × IsSome (first_of (codes "out-dir") rows)
     × IsSome (first_of (codes "tree") rows)
 
--- the required arguments of `candidates` have values
+-- the required arguments of `candidates` and `wanted` have values
 abbrev pub GivesWords : List Row → Type 0
 GivesWords rows = IsSome (first_of (codes "index") rows) × IsSome (first_of (codes "tree") rows)
 
@@ -110,4 +122,5 @@ abbrev pub EntersOne : Option (Text × List Row) → Type 0
 EntersOne entered = Enters (codes "script") GivesNames entered
     ⊎ (Enters (codes "scripts") GivesDirectory entered
     ⊎ (Enters (codes "register") GivesNames entered
-    ⊎ (Enters (codes "candidates") GivesWords entered ⊎ Enters (codes "check") GivesTree entered)))
+    ⊎ (Enters (codes "candidates") GivesWords entered
+    ⊎ (Enters (codes "wanted") GivesWords entered ⊎ Enters (codes "check") GivesTree entered))))

@@ -29,7 +29,8 @@ pub record IsBadIndex (refusal : Refusal) : Type 0 where
 -- The refusal for a parse that fails with one of these kinds. If there are no kinds, the index is
 -- not a number.
 abbrev pub Fails : Kinds → Option (Text × List Row) → Refusal → Type 0
-Fails [] entered refusal = IsBadIndex refusal × Enters (codes "candidates") HasBadIndex entered
+Fails [] entered refusal = IsBadIndex refusal × (Enters (codes "candidates") HasBadIndex entered
+    ⊎ Enters (codes "wanted") HasBadIndex entered)
 Fails (first ∷ more) entered refusal =
     (kind : ErrorKind) × IsAmong kind (first ∷ more) × ReportsKind kind refusal
 

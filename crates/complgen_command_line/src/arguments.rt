@@ -2,10 +2,10 @@
 
 ghost use Rattle.std.specs.Prelude.{◌≡◌, false};
 ghost use Rattle.clap.specs.Words.{rule_of};
-ghost use Rattle.complgen_command_line.specs.CommandLine.{bin_rule, json_rule, option_rule};
+ghost use Rattle.complgen_command_line.specs.CommandLine.{json_rule, option_rule, optional_rule};
 ghost use Rattle.complgen_command_line.specs.CommandLine.{tree_rule, words_rule};
 
-use crate::texts::{CHECK_BIN_HELP, JSON_HELP, TREE_HELP, WORDS_HELP};
+use crate::texts::{JSON_HELP, TREE_HELP, WORDS_HELP};
 use clap::{Arg, ArgAction};
 use std::alloc::Global;
 
@@ -27,15 +27,20 @@ pub fn option<'a>(
         .help(help)
 }
 
-/// Returns the option `--bin NAME` of `check`, which is not required.
-pub fn optional_bin<'a>(alloc: Global) -> Arg<'a>
-    ensures rule { rule_of result ≡ bin_rule }
+/// Returns such an option that is not required.
+pub fn optional<'a>(
+    alloc: Global,
+    name: &'static str,
+    value_name: &'static str,
+    help: &'static str,
+) -> Arg<'a>
+    ensures rule { rule_of result ≡ optional_rule name.entry.now }
     ensures local { result.global ≡ false }
 {
-    Arg::new(alloc, "bin")
-        .long("bin")
-        .value_name("NAME")
-        .help(CHECK_BIN_HELP)
+    Arg::new(alloc, name)
+        .long(name)
+        .value_name(value_name)
+        .help(help)
 }
 
 /// Returns the flag `--json`.

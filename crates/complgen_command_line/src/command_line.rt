@@ -3,15 +3,15 @@
 ghost use Rattle.std.specs.Prelude.{◌≡◌, IfOk, codes, false};
 ghost use Rattle.clap.specs.Words.{app_of};
 ghost use Rattle.clap.specs.declared.builder.command.Command.TheViews.{out-Command};
-ghost use Rattle.complgen_command_line.specs.CommandLine.{candidates_line, check_line, program_line};
-ghost use Rattle.complgen_command_line.specs.CommandLine.{scripts_line, shell_line, top_line};
-ghost use Rattle.complgen_command_line.specs.CommandLine.{writing_line};
+ghost use Rattle.complgen_command_line.specs.CommandLine.{asking_line, candidates_line, check_line};
+ghost use Rattle.complgen_command_line.specs.CommandLine.{program_line, scripts_line, shell_line};
+ghost use Rattle.complgen_command_line.specs.CommandLine.{top_line, wanted_line, writing_line};
 
-use crate::arguments::{json, option, optional_bin, tree, words};
+use crate::arguments::{json, option, optional, tree, words};
 use crate::texts::{
-    ABOUT, AFTER_HELP, BIN_HELP, CANDIDATES_ABOUT, CHECK_ABOUT, CHECK_LINES, INDEX_HELP,
-    OUT_DIR_HELP, REGISTER_ABOUT, REGISTER_SHELL_HELP, SCRIPT_ABOUT, SCRIPT_FILES,
-    SCRIPT_SHELL_HELP, SCRIPTS_ABOUT, SCRIPTS_FILES, VERSION,
+    ABOUT, AFTER_HELP, BIN_HELP, CANDIDATES_ABOUT, CHECK_ABOUT, CHECK_BIN_HELP, CHECK_LINES,
+    INDEX_HELP, OUT_DIR_HELP, REGISTER_ABOUT, REGISTER_SHELL_HELP, SCRIPT_ABOUT, SCRIPT_FILES,
+    SCRIPT_SHELL_HELP, SCRIPTS_ABOUT, SCRIPTS_FILES, VALUES_HELP, VERSION, WANTED_ABOUT,
 };
 use clap::Command;
 use std::alloc::{AllocError, Global};
@@ -55,13 +55,26 @@ fn scripts<'a>(alloc: Global) -> Result<Command<'a>, AllocError>
         .arg(tree(alloc))
 }
 
-// Returns the subcommand `candidates --index I TREE WORDS..`.
+// Returns the subcommand `candidates --index I [--values FILE] TREE WORDS..`.
 fn candidates<'a>(alloc: Global) -> Result<Command<'a>, AllocError>
     ensures shape { IfOk result (λ command. app_of command ≡ candidates_line) }
     ensures local { IfOk result (λ command. (out-Command command).has_globals ≡ false) }
 {
     Command::new(alloc, "candidates")
         .about(CANDIDATES_ABOUT)
+        .arg(option(alloc, "index", "INDEX", INDEX_HELP))?
+        .arg(optional(alloc, "values", "FILE", VALUES_HELP))?
+        .arg(tree(alloc))?
+        .arg(words(alloc))
+}
+
+// Returns the subcommand `wanted --index I TREE WORDS..`.
+fn wanted<'a>(alloc: Global) -> Result<Command<'a>, AllocError>
+    ensures shape { IfOk result (λ command. app_of command ≡ wanted_line) }
+    ensures local { IfOk result (λ command. (out-Command command).has_globals ≡ false) }
+{
+    Command::new(alloc, "wanted")
+        .about(WANTED_ABOUT)
         .arg(option(alloc, "index", "INDEX", INDEX_HELP))?
         .arg(tree(alloc))?
         .arg(words(alloc))
@@ -75,7 +88,7 @@ fn check<'a>(alloc: Global) -> Result<Command<'a>, AllocError>
     Command::new(alloc, "check")
         .about(CHECK_ABOUT)
         .after_help(CHECK_LINES)
-        .arg(optional_bin(alloc))?
+        .arg(optional(alloc, "bin", "NAME", CHECK_BIN_HELP))?
         .arg(json(alloc))?
         .arg(tree(alloc))
 }
@@ -106,6 +119,15 @@ fn writing<'a>(alloc: Global) -> Result<Command<'a>, AllocError>
     line.subcommand(for_shell(alloc, "register", REGISTER_ABOUT, REGISTER_SHELL_HELP)?)
 }
 
+// Returns the command line with the subcommands that complete a word, too.
+fn asking<'a>(alloc: Global) -> Result<Command<'a>, AllocError>
+    ensures { IfOk result (λ command. app_of command ≡ asking_line) }
+{
+    let line = writing(alloc)?;
+    let line = line.subcommand(candidates(alloc)?)?;
+    line.subcommand(wanted(alloc)?)
+}
+
 /// Returns the whole command line of `complgen`.
 ///
 /// # Errors
@@ -114,7 +136,6 @@ fn writing<'a>(alloc: Global) -> Result<Command<'a>, AllocError>
 pub fn command_line<'a>(alloc: Global) -> Result<Command<'a>, AllocError>
     ensures { IfOk result (λ command. app_of command ≡ program_line) }
 {
-    let line = writing(alloc)?;
-    let line = line.subcommand(candidates(alloc)?)?;
+    let line = asking(alloc)?;
     line.subcommand(check(alloc)?)
 }

@@ -41,6 +41,9 @@ pub const REGISTER_ABOUT: &str =
 
 pub const CANDIDATES_ABOUT: &str = "Writes the candidates for one word of a command line";
 
+pub const WANTED_ABOUT: &str =
+    "Writes the words of the command that lists the values for one word, as JSON";
+
 pub const CHECK_ABOUT: &str = "Reports what is wrong with a tree file, and where";
 
 pub const SCRIPT_SHELL_HELP: &str = script_shells!("The shell: ", "");
@@ -55,6 +58,8 @@ pub const CHECK_BIN_HELP: &str =
 pub const OUT_DIR_HELP: &str = "The directory for the scripts, which must exist";
 
 pub const INDEX_HELP: &str = "The index of the word to complete, where 0 is the program's name";
+
+pub const VALUES_HELP: &str = "The file with the values that the word asks for, one on each line";
 
 pub const JSON_HELP: &str = "Prints JSON for editors and scripts, with one object on each line";
 

@@ -1,6 +1,6 @@
 //! Finds the plan that the words of the command line ask for.
 
-ghost use Rattle.std.specs.Prelude.{◌≡◌, ◌⊎◌, [], IfOk, IfErr, IsSome, codes, map, option_map, true};
+ghost use Rattle.std.specs.Prelude.{◌≡◌, ◌⊎◌, [], IfOk, IfErr, IsSome, Some, codes, map, option_map, true};
 ghost use Rattle.std.specs.Prelude.{string_bytes};
 ghost use Rattle.clap.specs.Words.{fault_of, first_of, found_of, rows_of, subcommand_of};
 ghost use Rattle.clap.specs.Words.{subcommand_rows_of, takes};
@@ -68,9 +68,10 @@ fn plan_of(alloc: Global, matches: &ArgMatches<'_>) -> Result<Plan, Refusal>
             let (shell, bin, tree) = names(alloc, values)?;
             Ok(Plan::Register(shell, bin, tree))
         }
-        Some(("candidates", values)) => {
+        Some(("candidates", values)) => candidates(alloc, values),
+        Some(("wanted", values)) => {
             let (index, tree, words) = line(alloc, values)?;
-            Ok(Plan::Candidates(index, tree, words))
+            Ok(Plan::Wanted(index, tree, words))
         }
         Some(("check", values)) => {
             let (bin, json, tree) = report(alloc, values)?;
@@ -116,6 +117,26 @@ fn report(
     let bin = optional(alloc, values, "bin")?;
     let tree = value(alloc, values, "tree")?;
     Ok((bin, flag(values, "json"), tree))
+}
+
+// Returns the plan of `candidates`.
+fn candidates(alloc: Global, values: &ArgMatches<'_>) -> Result<Plan, Refusal>
+    requires { GivesWords (rows_of (found_of values.now)) }
+    ensures ok { IfOk result
+        (AsksFor (Some (codes "candidates", rows_of (found_of values.now)))) }
+    ensures err { IfErr result
+        (Reports [] (Some (codes "candidates", rows_of (found_of values.now)))) }
+{
+    let (index, tree, words) = line(alloc, values)?;
+    let Some(values) = optional(alloc, values, "values")? else {
+        return Ok(Plan::Candidates(index, tree, words));
+    };
+    Ok(Plan::CandidatesWith {
+        values,
+        index,
+        tree,
+        words,
+    })
 }
 
 // Reads the values of `--index`, `TREE` and `WORDS`.

@@ -1,11 +1,12 @@
 -- The outcomes of writing the candidates for a word.
 use Rattle.std.proofs.Common.{◌≡◌, ◌∙◌, ap, refl, subst, sym, ℕ, List, Option, Result, Ok, Err}
-use Rattle.std.proofs.Common.{Global, String, Vec, [], false, true, length, map, IfOk, OnOk}
+use Rattle.std.proofs.Common.{Global, String, Vec, [], false, true, length, map, IfErr, IfOk, OnOk, inl, inr}
 use Rattle.std.proofs.lemmas.List.{length-map}
 use Rattle.std.specs.String.{string_bytes}
 use Rattle.complgen_commands.specs.declared.plans.Plan.{Plan}
 use Rattle.complgen_commands.specs.declared.plans.Plan.TheVariants.{Candidates}
 use Rattle.complgen_commands.specs.declared.refusals.Refusal.{Refusal}
+use Rattle.cc_asking.specs.Completion.{CompletesWith, RefusesWith}
 use Rattle.cc_gather.specs.Values.{MayReturn}
 use Rattle.cc_command.specs.Built.{built_tree}
 use Rattle.cc_candidates.specs.Sources.{ReturnsAt}
@@ -20,7 +21,9 @@ use Rattle.cc_base.specs.Writes.{IsWrite, Writes}
 use Rattle.cc_replies.specs.Reply.{LinesRead, lines_reply}
 use Rattle.complgen_commands.specs.Ends.{Ends, EndsReply}
 use Rattle.complgen_commands.specs.Refusals.{Reports}
-use Rattle.complgen_commands.specs.Replies.{AreFound, FindsNone, IsOutOfRange, IsReply, Paths, only_paths}
+use Rattle.complgen_commands.specs.GivenReplies.{AreFoundWith}
+use Rattle.complgen_commands.specs.Replies.{AreFound, FindsNone, IsOutOfRange, IsReply, IsReplyOf, Paths, only_paths}
+use Rattle.complgen_commands.specs.Writing.{Finishes}
 use Rattle.complgen_commands.proofs.WritingLemmas.{ends_cut_off, ends_rejected, ends_unwritten}
 use Rattle.complgen_commands.proofs.WritingLemmas.{ends_written, same}
 use Rattle.complgen_tree_file.specs.TreeFile.{HoldsTree}
@@ -82,30 +85,109 @@ ends_plan taken failed Finds plan index path words passed file old new result is
     (subst (λ ws. EndsReply taken failed Finds (map string_bytes ws) index file old new result)
     all ends)
 
-module _ {S : Type 0} (taken : S → List ℕ) (failed : S → Failures) (Finds : Paths)
-    (words : List (List ℕ)) (index : ℕ) where
+-- the same over given lines
+pub are_found_with : {A : Type 0} (items : A → List CompletionCandidate) (Finds : Paths)
+    (sources : MayReturn) (lines : List ℕ) (words copies : List (String Global)) (index : ℕ)
+    (old : Tree) (result : Result A Error) → sources ≡ only_paths Finds
+    → map string_bytes copies ≡ map string_bytes words
+    → IfOk result (λ found.
+    CompletesWith sources lines old (map string_bytes copies) index (items found))
+    → OnOk result (is_in_range old.node (length copies) index ≡ true)
+    → IfOk result (λ found.
+    AreFoundWith Finds lines (map string_bytes words) index old (items found))
+are_found_with items Finds sources lines words copies index old (Ok found) is same completes ranges =
+    record {
+      in_range = subst (λ count. is_in_range old.node count index ≡ true)
+          (sym (length-map copies string_bytes) ∙ ap length same) ranges;
+      completes = subst (λ l. CompletesWith l lines old (map string_bytes words) index (items found)) is
+          (subst (λ ws. CompletesWith sources lines old ws index (items found)) same completes);
+    }
+are_found_with items Finds sources lines words copies index old (Err e) is same completes ranges = tt
+
+-- why a call with given lines finds no candidates
+finds_none_with : (old new : Tree) (count index : ℕ) (e : Error)
+    → RefusesWith old new count index e → FindsNone count index old e
+finds_none_with old new count index e (inl refused) = finds_none old new count index e refused
+finds_none_with old new count index e (inr refused) =
+    subst (λ e. FindsNone count index old e) (sym refused.0) tt
+
+pub find_none_with : {A : Type 0} (old new : Tree) (words copies : List (String Global)) (index : ℕ)
+    (result : Result A Error) → map string_bytes copies ≡ map string_bytes words
+    → IfErr result (RefusesWith old new (length copies) index)
+    → IfErr result (FindsNone (length words) index old)
+find_none_with old new words copies index (Ok found) same refuses = tt
+find_none_with old new words copies index (Err e) same refuses =
+    subst (λ count. FindsNone count index old e)
+    (sym (length-map copies string_bytes) ∙ ap length same ∙ length-map words string_bytes)
+    (finds_none_with old new (length copies) index e refuses)
+
+module _ {S : Type 0} (taken : S → List ℕ) (failed : S → Failures)
+    (IsText : Tree → List ℕ → Type 0) (words : List (List ℕ)) (index : ℕ) where
   -- the candidates for copies of the words are those for the words
   recount : (copies : List (String Global)) → map string_bytes copies ≡ words
       → length copies ≡ length words
   recount copies are = sym (length-map copies string_bytes) ∙ ap length are
 
-  -- no candidates are found
-  pub none_found : (state : S) (file : Option (List ℕ)) (tree : Tree) (e : Error)
-      (refusal : Refusal) (copies : List (String Global)) → map string_bytes copies ≡ words → HoldsTree file tree
-      → FindsNone (length copies) index tree e → Reports e refusal
-      → EndsReply taken failed Finds words index file state state (Err refusal)
-  none_found state file tree error.Memory refusal copies are held none reported =
-      ends_unwritten taken failed false (IsOutOfRange (length words) index) (IsReply Finds words index)
-      state file tree refusal held reported
-  none_found state file tree error.NoCompletion refusal copies are held none reported =
-      ends_rejected taken failed false (IsOutOfRange (length words) index) (IsReply Finds words index)
-      state state file tree refusal held
+  -- nothing is found for the word
+  pub nothing_found : (state : S) (file : Option (List ℕ)) (tree : Tree) (e : Error)
+      (refusal : Refusal) (copies : List (String Global)) → map string_bytes copies ≡ words
+      → HoldsTree file tree → FindsNone (length copies) index tree e → Reports e refusal
+      → Finishes taken failed false (IsOutOfRange (length words) index) IsText state state file
+      (Err refusal)
+  nothing_found state file tree error.Memory refusal copies are held none reported =
+      ends_unwritten taken failed false (IsOutOfRange (length words) index) IsText state file tree
+      refusal held reported
+  nothing_found state file tree error.NoCompletion refusal copies are held none reported =
+      ends_rejected taken failed false (IsOutOfRange (length words) index) IsText state state file tree
+      refusal held
       (record {
         out_of_range = subst (λ count. is_in_range (built_tree tree).node count index ≡ false)
             (recount copies are) none;
         reported = reported;
       }) (same taken failed state)
-  none_found state file tree _ refusal copies are held none reported = absurd none
+  nothing_found state file tree _ refusal copies are held none reported = absurd none
+
+module _ {S : Type 0} (taken : S → List ℕ) (failed : S → Failures)
+    (Rejects : Tree → Refusal → Type 0) (MayFind : Tree → List CompletionCandidate → Type 0) where
+  -- candidates are found, and written
+  pub found_written : (old new : S) (file : Option (List ℕ)) (tree : Tree)
+      (found shown : List CompletionCandidate) → HoldsTree file tree → MayFind tree found
+      → shown ≡ found → Writes taken failed (Ok tt) old new (lines_reply shown) → LinesRead shown
+      → Finishes taken failed false Rejects (IsReplyOf MayFind) old new file (Ok tt)
+  found_written old new file tree found shown held may all wrote read =
+      ends_written taken failed false Rejects (IsReplyOf MayFind) old new file tree (lines_reply shown)
+      held
+      (record {
+        found = found;
+        are_found = may;
+        is = ap lines_reply all;
+        read_back = subst LinesRead all read;
+      }) wrote.ok wrote.failures
+
+  -- candidates are found, and writing them fails
+  pub found_failed : (old new : S) (file : Option (List ℕ)) (tree : Tree)
+      (found shown : List CompletionCandidate) (e : Error) (refusal : Refusal) → HoldsTree file tree
+      → MayFind tree found → shown ≡ found → Writes taken failed (Err e) old new (lines_reply shown)
+      → IsWrite e → LinesRead shown → Reports e refusal
+      → Finishes taken failed false Rejects (IsReplyOf MayFind) old new file (Err refusal)
+  found_failed old new file tree found shown e refusal held may all wrote kind read reported =
+      ends_cut_off taken failed false Rejects (IsReplyOf MayFind) old new file tree (lines_reply shown)
+      e refusal held
+      (record {
+        found = found;
+        are_found = may;
+        is = ap lines_reply all;
+        read_back = subst LinesRead all read;
+      }) wrote.failures kind reported
+
+module _ {S : Type 0} (taken : S → List ℕ) (failed : S → Failures) (Finds : Paths)
+    (words : List (List ℕ)) (index : ℕ) where
+  -- no candidates are found
+  pub none_found : (state : S) (file : Option (List ℕ)) (tree : Tree) (e : Error)
+      (refusal : Refusal) (copies : List (String Global)) → map string_bytes copies ≡ words
+      → HoldsTree file tree → FindsNone (length copies) index tree e → Reports e refusal
+      → EndsReply taken failed Finds words index file state state (Err refusal)
+  none_found = nothing_found taken failed (IsReply Finds words index) words index
 
   -- candidates are found, and written
   pub reply_written : (old new : S) (file : Option (List ℕ)) (tree : Tree)
@@ -115,14 +197,9 @@ module _ {S : Type 0} (taken : S → List ℕ) (failed : S → Failures) (Finds 
       → Writes taken failed (Ok tt) old new (lines_reply shown) → LinesRead shown
       → EndsReply taken failed Finds words index file old new (Ok tt)
   reply_written old new file tree found shown copies are held are_found all wrote read =
-      ends_written taken failed false (IsOutOfRange (length words) index) (IsReply Finds words index)
-      old new file tree (lines_reply shown) held
-      (record {
-        found = found;
-        are_found = subst (λ ws. AreFound Finds ws index tree found) are are_found;
-        is = ap lines_reply all;
-        read_back = subst LinesRead all read;
-      }) wrote.ok wrote.failures
+      found_written taken failed (IsOutOfRange (length words) index) (AreFound Finds words index) old
+      new file tree found shown held (subst (λ ws. AreFound Finds ws index tree found) are are_found)
+      all wrote read
 
   -- candidates are found, and writing them fails
   pub reply_failed : (old new : S) (file : Option (List ℕ)) (tree : Tree)
@@ -134,11 +211,6 @@ module _ {S : Type 0} (taken : S → List ℕ) (failed : S → Failures) (Finds 
       → EndsReply taken failed Finds words index file old new (Err refusal)
   reply_failed old new file tree found shown e refusal copies are held are_found all wrote kind
       read reported =
-      ends_cut_off taken failed false (IsOutOfRange (length words) index) (IsReply Finds words index)
-      old new file tree (lines_reply shown) e refusal held
-      (record {
-        found = found;
-        are_found = subst (λ ws. AreFound Finds ws index tree found) are are_found;
-        is = ap lines_reply all;
-        read_back = subst LinesRead all read;
-      }) wrote.failures kind reported
+      found_failed taken failed (IsOutOfRange (length words) index) (AreFound Finds words index) old new
+      file tree found shown e refusal held
+      (subst (λ ws. AreFound Finds ws index tree found) are are_found) all wrote kind read reported

@@ -2,8 +2,9 @@
 use Rattle.std.specs.Prelude.{⊤, ℕ, false, List, Option, Result, Ok, Err, length, map, string_bytes}
 use Rattle.cc_base.specs.declared.failures.Failures.{Failures}
 use Rattle.complgen_commands.specs.declared.plans.Plan.{Plan}
-use Rattle.complgen_commands.specs.declared.plans.Plan.TheVariants.{Candidates, Check, Register}
-use Rattle.complgen_commands.specs.declared.plans.Plan.TheVariants.{Script, Scripts}
+use Rattle.complgen_commands.specs.declared.plans.Plan.TheVariants.{Candidates, CandidatesWith}
+use Rattle.complgen_commands.specs.declared.plans.Plan.TheVariants.{Check, Register, Script}
+use Rattle.complgen_commands.specs.declared.plans.Plan.TheVariants.{Scripts, Wanted}
 use Rattle.complgen_commands.specs.declared.refusals.Refusal.{Refusal}
 use Rattle.complgen_commands.specs.Refusals.{IsRefusal, other_plan_line}
 use Rattle.complgen_commands.specs.Registrations.{Registers, RegistrationReads, no_registration_text}
@@ -32,7 +33,7 @@ Refuses taken failed old new (Ok done) = ⊥
 Refuses taken failed old new (Err refusal) =
     IsRefusal other_plan_line refusal × Untouched taken failed old new
 
--- the outcomes of `run` if these paths may be found; it refuses the plans of `check` and `scripts`
+-- the outcomes of `run` if these paths may be found; it refuses all other plans
 abbrev pub Ends : {S : Type 0} → (S → List ℕ) → (S → Failures) → Paths → Plan → Option (List ℕ)
     → S → S → Result (Unit {0}) Refusal → Type 0
 Ends taken failed Finds (Script shell bin tree) file old new result =
@@ -41,6 +42,10 @@ Ends taken failed Finds (Register shell bin tree) file old new result =
     EndsRegistration taken failed (string_bytes shell) (string_bytes bin) file old new result
 Ends taken failed Finds (Candidates index tree words) file old new result =
     EndsReply taken failed Finds (map string_bytes words.items) index file old new result
+Ends taken failed Finds (CandidatesWith values index tree words) file old new result =
+    Refuses taken failed old new result
+Ends taken failed Finds (Wanted index tree words) file old new result =
+    Refuses taken failed old new result
 Ends taken failed Finds (Check bin json tree) file old new result =
     Refuses taken failed old new result
 Ends taken failed Finds (Scripts bin out_dir tree) file old new result =

@@ -1,5 +1,6 @@
 pub mod AllScripts
 pub mod Ends
+pub mod GivenReplies
 pub mod Plans
 pub mod Refusals
 pub mod Registrations
@@ -7,4 +8,5 @@ pub mod Replies
 pub mod ScriptEnds
 pub mod Scripts
 pub mod TreeFiles
+pub mod Wanted
 pub mod Writing

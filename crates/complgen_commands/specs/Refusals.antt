@@ -54,6 +54,10 @@ checked_line path text = ((about_file (on_one_line path) text ++ codes " (run co
 abbrev pub unreadable_at : List ℕ → List ℕ
 unreadable_at path = about_file (on_one_line path) unreadable_line
 
+-- the same for a file of values
+abbrev pub values_unreadable_at : List ℕ → List ℕ
+values_unreadable_at path = about_file (on_one_line path) (codes "values: unreadable\n")
+
 abbrev pub not_json_at : List ℕ → List ℕ
 not_json_at path = checked_line path (codes "tree: not JSON")
 
@@ -64,9 +68,9 @@ bad_form_at path = checked_line path (codes "tree: bad form")
 abbrev pub out_of_memory_line : List ℕ
 out_of_memory_line = codes "out of memory\n"
 
--- the plan is one of `check` or `scripts`
+-- the plan is not one of `script`, `register` and `candidates`
 abbrev pub other_plan_line : List ℕ
-other_plan_line = codes "plan: check and scripts are not carried out by run\n"
+other_plan_line = codes "plan: not carried out by run\n"
 
 -- ---- which refusal it is
 

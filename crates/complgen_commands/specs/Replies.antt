@@ -42,10 +42,14 @@ pub record IsOutOfRange (count index : ℕ) (tree : Tree) (refusal : Refusal) : 
   pub out_of_range : is_in_range (built_tree tree).node count index ≡ false
   pub reported : IsRefusal (error_line NoCompletion) refusal
 
--- the text is the reply to fish with such candidates, and it reads back
-pub record IsReply (Finds : Paths) (words : List (List ℕ)) (index : ℕ) (tree : Tree) (text : List ℕ)
-    : Type 0 where
+-- the text is the reply to fish with candidates that may be found for the tree, and it reads back
+pub record IsReplyOf (MayFind : Tree → List CompletionCandidate → Type 0) (tree : Tree)
+    (text : List ℕ) : Type 0 where
   pub found : List CompletionCandidate
-  pub are_found : AreFound Finds words index tree found
+  pub are_found : MayFind tree found
   pub is : text ≡ lines_reply found
   pub read_back : LinesRead found
+
+-- the same for the candidates for the word at the index
+abbrev pub IsReply : Paths → List (List ℕ) → ℕ → Tree → List ℕ → Type 0
+IsReply Finds words index = IsReplyOf (AreFound Finds words index)

@@ -13,7 +13,7 @@ use cc_base::Sink;
 use cc_paths::Folder;
 use std::alloc::Global;
 
-const OTHER_PLAN: &str = "plan: check and scripts are not carried out by run\n";
+const OTHER_PLAN: &str = "plan: not carried out by run\n";
 
 /// A task that the command line asks for.
 #[derive(Debug, Drop)]
@@ -26,6 +26,20 @@ pub enum Plan {
     Register(String, String, String),
     /// Write candidates: the index of the word, the path of the tree file, and the words.
     Candidates(usize, String, Vec<String>),
+    /// Write candidates, with the lines of a file as the values that the word asks for.
+    CandidatesWith {
+        /// The path of the file with the values.
+        values: String,
+        /// The index of the word.
+        index: usize,
+        /// The path of the tree file.
+        tree: String,
+        /// The words.
+        words: Vec<String>,
+    },
+    /// Write the words of the command that lists the values for a word: the index of the word, the
+    /// path of the tree file, and the words.
+    Wanted(usize, String, Vec<String>),
     /// Report what is wrong with a tree file.
     Check {
         /// The name by which users call the program, if it is not the one in the tree file.
@@ -58,6 +72,8 @@ impl Plan {
             Plan::Script(_, _, tree) => tree.as_str(),
             Plan::Register(_, _, tree) => tree.as_str(),
             Plan::Candidates(_, tree, _) => tree.as_str(),
+            Plan::CandidatesWith { tree, .. } => tree.as_str(),
+            Plan::Wanted(_, tree, _) => tree.as_str(),
             Plan::Check { tree, .. } => tree.as_str(),
             Plan::Scripts { tree, .. } => tree.as_str(),
         }
@@ -70,8 +86,8 @@ impl Plan {
 ///
 /// # Errors
 ///
-/// A refusal with status 1 and the text of the error. Refuses the plans of `check` and `scripts`,
-/// and writes nothing: they have functions of their own.
+/// A refusal with status 1 and the text of the error. Refuses all other plans, and writes nothing:
+/// they have functions of their own.
 pub fn run<D: Folder, W: Sink>(
     alloc: Global,
     plan: &Plan,
@@ -89,6 +105,9 @@ pub fn run<D: Folder, W: Sink>(
         Plan::Candidates(index, _, words) => {
             reply(alloc, words.as_slice(), *index, file, folder, out)
         }
-        Plan::Check { .. } | Plan::Scripts { .. } => Err(Refusal::from_static(1, OTHER_PLAN)),
+        Plan::CandidatesWith { .. }
+        | Plan::Wanted(..)
+        | Plan::Check { .. }
+        | Plan::Scripts { .. } => Err(Refusal::from_static(1, OTHER_PLAN)),
     }
 }

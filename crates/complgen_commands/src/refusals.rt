@@ -28,6 +28,9 @@ const OUT_OF_MEMORY: &str = "out of memory\n";
 /// The text that is printed if the tree file cannot be read.
 pub const UNREADABLE: &str = "tree: unreadable\n";
 
+/// The text that is printed if a file of values cannot be read.
+pub(crate) const VALUES_UNREADABLE: &str = "values: unreadable\n";
+
 const NOT_JSON: &str = "tree: not JSON\n";
 
 const BAD_FORM: &str = "tree: bad form\n";

@@ -16,8 +16,8 @@ use cc_paths::Folder;
 use cc_replies::write_lines;
 use std::alloc::{AllocError, Global};
 
-// The directory in which relative paths begin.
-const CURRENT_DIR: &str = ".";
+/// The directory in which relative paths begin.
+pub(crate) const CURRENT_DIR: &str = ".";
 
 /// Writes the candidates for the word of `words` at `index` to `out`, in the form of a reply to
 /// fish. `file` has the bytes of the tree file, or is `None` if it cannot be read.
@@ -49,7 +49,12 @@ pub(crate) fn reply<D: Folder, W: Sink>(
     }
 }
 
-fn copies(alloc: Global, words: &[String]) -> Result<Vec<String>, AllocError>
+/// Returns copies of the words.
+///
+/// # Errors
+///
+/// `AllocError` if an allocation fails.
+pub(crate) fn copies(alloc: Global, words: &[String]) -> Result<Vec<String>, AllocError>
     ensures { IfOk result (λ copies. map string_bytes copies.items ≡ map string_bytes words.now) }
 {
     let mut copies = Vec::new(alloc);

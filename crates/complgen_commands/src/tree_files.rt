@@ -3,10 +3,10 @@
 ghost use Rattle.std.specs.Prelude.{◌≡◌, IfOk, string_bytes};
 ghost use Rattle.std.specs.Option.{option_copied};
 ghost use Rattle.complgen_commands.specs.Refusals.{IsMade, ReportsTreeAt, about_file, checked_line};
-ghost use Rattle.complgen_commands.specs.Refusals.{unreadable_at};
+ghost use Rattle.complgen_commands.specs.Refusals.{unreadable_at, values_unreadable_at};
 ghost use Rattle.complgen_commands.specs.TreeFiles.{ReadsFile, ReadsFileAt};
 
-use crate::refusals::{Refusal, UNREADABLE, text_refusal, tree_refusal};
+use crate::refusals::{Refusal, UNREADABLE, VALUES_UNREADABLE, text_refusal, tree_refusal};
 use cc_base::on_one_line;
 use cc_command::Command;
 use complgen_tree_file::{TreeError, read_tree};
@@ -58,6 +58,16 @@ pub fn unreadable(alloc: Global, path: &str) -> Refusal
 {
     match on_one_line(alloc, path) {
         Ok(path) => text_refusal(about_file(alloc, path.as_str(), UNREADABLE)),
+        Err(failed) => Refusal::from(failed),
+    }
+}
+
+/// Returns what is printed if the file of values at `path` cannot be read.
+pub fn unreadable_values(alloc: Global, path: &str) -> Refusal
+    ensures { IsMade (values_unreadable_at path.now) result }
+{
+    match on_one_line(alloc, path) {
+        Ok(path) => text_refusal(about_file(alloc, path.as_str(), VALUES_UNREADABLE)),
         Err(failed) => Refusal::from(failed),
     }
 }

@@ -1,12 +1,15 @@
--- Requests, directories and names of tree files, for some values.
-use Rattle.std.proofs.Common.{◌≡◌, true, false, [], ◌∷◌, Some, None, codes, filter, refl}
+-- Requests, origins of trees, directories and names of tree files, for some values.
+use Rattle.std.proofs.Common.{◌≡◌, ℕ, true, false, List, [], ◌∷◌, Some, None, codes, filter, refl}
 use Rattle.std.specs.Path.{path_file_name, path_join, rsplit_once, split_last_component, trim_trailing}
 use Rattle.cc_base.specs.Sorting.{in_order, insert}
 use Rattle.cc_base.specs.PlainName.{is_joined, is_plain_name, name_byte}
 use Rattle.complgen_live.specs.Folders.{tree_folders}
 use Rattle.complgen_live.specs.KnownNames.{each_once, is_other_name}
+use Rattle.complgen_live.specs.Origins.{is_trusted}
 use Rattle.complgen_live.specs.Requests.{is_request, request_words}
 use Rattle.complgen_live.specs.TreeFiles.{stems, tree_paths, tree_stem}
+use Rattle.complgen_live.specs.declared.requests.Origin.{Origin}
+use Rattle.complgen_live.specs.declared.requests.Origin.TheVariants.{File, Program}
 
 -- ---- requests
 
@@ -34,6 +37,27 @@ after_row = refl
 
 no_dashes_row : request_words (codes "complgen" ∷ []) ≡ None
 no_dashes_row = refl
+
+-- ---- origins
+
+-- a file that was found by this path
+abbrev found_at : List ℕ → Origin
+found_at path = File (record { ref_ptr = (0, 0); now = path })
+
+program_row : is_trusted Program ≡ true
+program_row = refl
+
+absolute_row : is_trusted (found_at (codes "/t/git.json")) ≡ true
+absolute_row = refl
+
+relative_row : is_trusted (found_at (codes "t/git.json")) ≡ false
+relative_row = refl
+
+tilde_row : is_trusted (found_at (codes "~/git.json")) ≡ false
+tilde_row = refl
+
+no_path_row : is_trusted (found_at []) ≡ false
+no_path_row = refl
 
 -- ---- directories
 

@@ -1,5 +1,6 @@
+mod AnswerLemmas
 mod Examples
 mod Names
 mod PlainKnown
-mod ReplyLemmas
+mod PreparedLemmas
 mod Stems

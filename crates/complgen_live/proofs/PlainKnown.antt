@@ -1,5 +1,5 @@
 -- The names that are registered are plain.
-use Rattle.std.proofs.Common.{◌≡◌, ℕ, Bool, IsTrue, inl, inr, refl, List, [], ◌∷◌, ◌++◌, filter}
+use Rattle.std.proofs.Common.{ℕ, Bool, IsTrue, inl, inr, refl, List, [], ◌∷◌, ◌++◌, filter}
 use Rattle.std.specs.List.{AllByRecursion, dedup}
 use Rattle.std.specs.Str.{bytes_eq}
 use Rattle.std.proofs.lemmas.Bool.{cases_Bool}

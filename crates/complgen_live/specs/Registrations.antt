@@ -9,7 +9,7 @@ use Rattle.cc_base.specs.declared.error.Error.{Error}
 use Rattle.cc_base.specs.declared.failures.Failures.{Failures}
 use Rattle.cc_env.specs.Wanted.{Wanted, IsUnknownShell, known, nothing, unknown}
 use Rattle.complgen_live.specs.KnownNames.{own_name}
-use Rattle.complgen_live.specs.Replies.{shell_names, variable}
+use Rattle.complgen_live.specs.Prepared.{shell_names, variable}
 
 -- each of the names is plain
 abbrev pub ArePlain : List (List ℕ) → Type 0

@@ -1,23 +1,27 @@
 //! Live completion of any program by its tree file. This crate finds the tree files and the
-//! programs that have one, recognizes the requests of shells, and writes registrations and replies.
+//! programs that have one, recognizes the requests of shells, and writes registrations and
+//! answers: replies, or the words of a command that lists values.
 #![tactic(auto)]
 
+mod answers;
 mod files;
 mod folders;
 mod known;
 mod own_tree;
 mod plain_names;
+mod prepared;
 mod registrations;
 mod replies;
 mod reply_errors;
 mod requests;
 
+pub use crate::answers::answer_request;
 pub use crate::files::{command_name, tree_path, tree_paths, tree_stem};
 pub use crate::folders::tree_folders;
 pub use crate::known::{KnownNames, known_names};
 pub use crate::own_tree::OWN_TREE;
 pub use crate::plain_names::PlainNames;
 pub use crate::registrations::write_registrations;
-pub use crate::replies::{reply, reply_text};
+pub use crate::replies::reply;
 pub use crate::reply_errors::{BadTree, ReplyError};
-pub use crate::requests::{is_request, request_words};
+pub use crate::requests::{Origin, Request, is_request, request_words};

@@ -120,6 +120,39 @@ pub const OWN_TREE: &str = r#"{
           "required": true
         },
         {
+          "id": "values",
+          "long": "values",
+          "value_names": ["FILE"],
+          "help": "The file with the values that the word asks for, one on each line",
+          "value_hint": "FilePath"
+        },
+        {
+          "id": "tree",
+          "value_names": ["TREE"],
+          "help": "The tree file, a description of the program in JSON",
+          "required": true,
+          "value_hint": "FilePath"
+        },
+        {
+          "id": "words",
+          "value_names": ["WORDS"],
+          "help": "The command line, starting with the program's name; after --, words may begin with -",
+          "num_args": [0, null]
+        }
+      ]
+    },
+    {
+      "name": "wanted",
+      "about": "Writes the words of the command that lists the values for one word, as JSON",
+      "args": [
+        {
+          "id": "index",
+          "long": "index",
+          "value_names": ["INDEX"],
+          "help": "The index of the word to complete, where 0 is the program's name",
+          "required": true
+        },
+        {
           "id": "tree",
           "value_names": ["TREE"],
           "help": "The tree file, a description of the program in JSON",

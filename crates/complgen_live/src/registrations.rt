@@ -5,7 +5,7 @@ ghost use Rattle.std.specs.Option.{option_copied};
 ghost use Rattle.cc_env.specs.Arguments.{program_path};
 ghost use Rattle.complgen_live.specs.KnownNames.{own_name};
 ghost use Rattle.complgen_live.specs.Registrations.{ArePlain, RegistersAll, WritesAll};
-ghost use Rattle.complgen_live.specs.Replies.{requested};
+ghost use Rattle.complgen_live.specs.Prepared.{requested};
 
 use crate::plain_names::PlainNames;
 use cc_base::{Error, Sink};

@@ -3,10 +3,51 @@
 ghost use Rattle.std.specs.Prelude.{◌≡◌, codes, map, option_map, string_bytes};
 ghost use Rattle.std.specs.Option.{option_copied};
 ghost use Rattle.cc_replies.specs.Environment.{value_of};
+ghost use Rattle.complgen_live.specs.Origins.{is_trusted};
 ghost use Rattle.complgen_live.specs.Requests.{begins_request, is_request, names_shell};
 ghost use Rattle.complgen_live.specs.Requests.{request_words};
 
 use cc_replies::EnvValues;
+
+/// Where a tree comes from.
+#[derive(Clone, Copy, Drop)]
+pub enum Origin<'r> {
+    /// The program that is completed has it.
+    Program,
+    /// A file has it. This is the path by which the file was found.
+    File(&'r str),
+}
+
+impl Origin<'_> {
+    /// Returns whether commands that the tree names may be run: those of the program's own tree, and
+    /// those of a file that was found by an absolute path. Another path depends on the current
+    /// directory, which may belong to someone else.
+    pub fn is_trusted(&self) -> bool
+        ensures { result ≡ is_trusted self.now }
+    {
+        match self {
+            Origin::Program => true,
+            Origin::File(path) => path.starts_with('/'),
+        }
+    }
+}
+
+/// A request of a shell, and what its answer depends on.
+#[derive(Drop)]
+pub struct Request<'r, D> {
+    /// The values of the environment variables.
+    pub env: &'r EnvValues,
+    /// All words of this program: its name, a `--` and the words to complete.
+    pub words: &'r [String],
+    /// Where the tree comes from, which decides whether its commands may be run.
+    pub origin: Origin<'r>,
+    /// The bytes of the tree file, if there is one.
+    pub file: Option<&'r [u8]>,
+    /// The directory where relative paths begin, if it is known.
+    pub current_dir: Option<&'r str>,
+    /// The folder whose paths complete the values of value hints.
+    pub folder: &'r D,
+}
 
 /// Returns whether a shell requests registrations or candidates. In a request, the variable
 /// `COMPLETE` of `env` is set, and is neither empty nor `0`. The first of `words` is the program's

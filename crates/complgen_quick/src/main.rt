@@ -67,9 +67,11 @@ fn carry_out_plan<R: Files + Print + AllocGlobal>(
             let is_clean = check(alloc, bin, report, file, &mut out)?;
             Ok(u8::from(!is_clean))
         }
-        Plan::Register(..) | Plan::Candidates(..) | Plan::Scripts { .. } => {
-            Err(Refusal::from_static(1, NEEDS_PROOF))
-        }
+        Plan::Register(..)
+        | Plan::Candidates(..)
+        | Plan::CandidatesWith { .. }
+        | Plan::Wanted(..)
+        | Plan::Scripts { .. } => Err(Refusal::from_static(1, NEEDS_PROOF)),
     }
 }
 

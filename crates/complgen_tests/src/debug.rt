@@ -1,7 +1,7 @@
 //! The `Debug` texts of plans and of a refusal.
 
 use crate::checks::is;
-use crate::runs::{candidates, script};
+use crate::runs::{candidates, candidates_with, script};
 use complgen_commands::Refusal;
 use std::alloc::AllocError;
 
@@ -19,5 +19,13 @@ fn debug_shows_each_field(rt: HostRuntime) {
 fn debug_shows_the_words(rt: HostRuntime) {
     let plan = candidates(rt.alloc(), 1, &["app", ""]).expect(&rt, "no plan");
     let wanted = "Candidates(1, \"tree.json\", [\"app\", \"\"])";
+    is(&rt, format!(in rt.alloc(); "{plan:?}"), wanted);
+}
+
+#[test]
+fn debug_shows_the_file_of_values(rt: HostRuntime) {
+    let plan = candidates_with(rt.alloc(), "lines", 1, &["app"]).expect(&rt, "no plan");
+    let wanted =
+        "CandidatesWith { values: \"lines\", index: 1, tree: \"tree.json\", words: [\"app\"] }";
     is(&rt, format!(in rt.alloc(); "{plan:?}"), wanted);
 }

@@ -3,6 +3,8 @@
 #![tactic(auto)]
 
 #[cfg(test)]
+mod answers;
+#[cfg(test)]
 mod checks;
 #[cfg(test)]
 mod debug;
@@ -16,5 +18,7 @@ mod own_tree;
 mod runs;
 #[cfg(test)]
 mod scripts;
+#[cfg(test)]
+mod values;
 #[cfg(test)]
 mod writers;

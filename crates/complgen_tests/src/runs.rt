@@ -29,6 +29,24 @@ pub(crate) fn candidates(alloc: Global, index: usize, words: &[&str]) -> Result<
     Ok(Plan::Candidates(index, String::from_str(alloc, "tree.json")?, words))
 }
 
+/// The plan of candidates for the word at the index, over the lines of a file.
+pub(crate) fn candidates_with(
+    alloc: Global,
+    values: &str,
+    index: usize,
+    words: &[&str],
+) -> Result<Plan, AllocError> {
+    let words = to_strings(alloc, words)?;
+    let tree = String::from_str(alloc, "tree.json")?;
+    let values = String::from_str(alloc, values)?;
+    Ok(Plan::CandidatesWith {
+        values,
+        index,
+        tree,
+        words,
+    })
+}
+
 /// Returns the output of the plan over this tree file, with these directories.
 pub(crate) fn output_in(
     alloc: Global,

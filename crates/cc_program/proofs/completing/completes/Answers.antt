@@ -16,5 +16,5 @@ returns-in_err-home g c =
 
 pub returns : goal.returns
 returns g c =
-    tries_some _ _ _ _ _ _ _ _ c.new-folder.result.home _ _ _ _ _ c.safe-asked.ensures.factory c.safe-asked.ensures.variable
-    c.safe-asked.ensures.names.0 c.safe-asked.ensures.names.1 c.safe-asked.ensures.shells c.try_complete.ensures
+    tries_some _ _ _ _ _ _ _ _ c.new-folder.result.home _ _ _ _ _ c.safe-completion.ensures.factory c.safe-completion.ensures.variable
+    c.safe-completion.ensures.names.0 c.safe-completion.ensures.names.1 c.safe-completion.ensures.shells c.answers_in.ensures

@@ -11,15 +11,18 @@ returns-clause-shape c =
     let start = ap app_of_fields c.about.ensures ∙ c.new.ensures.app in
     let one = c.in_ok-arg.ensures.shape c.option.ensures.local
     ∙ ap₂ with_rule start c.option.ensures.rule in
-    let two = c.in_ok-arg-2.ensures.shape c.tree.ensures.local
-    ∙ ap₂ with_rule one c.tree.ensures.rule in
-    IfOk-weaker c.arg-3.result _ _ (λ line adds. adds.shape c.words.ensures.local
-    ∙ ap₂ with_rule two c.words.ensures.rule) c.arg-3.ensures
+    let two = c.in_ok-arg-2.ensures.shape c.optional.ensures.local
+    ∙ ap₂ with_rule one c.optional.ensures.rule in
+    let three = c.in_ok-arg-3.ensures.shape c.tree.ensures.local
+    ∙ ap₂ with_rule two c.tree.ensures.rule in
+    IfOk-weaker c.arg-4.result _ _ (λ line adds. adds.shape c.words.ensures.local
+    ∙ ap₂ with_rule three c.words.ensures.rule) c.arg-4.ensures
 
 pub returns-clause-local : goal.returns-clause-local
 returns-clause-local c =
     let start = ap (λ (f : Command-F Command). f.has_globals) c.about.ensures ∙ c.new.ensures.local in
     let one = c.in_ok-arg.ensures.globals ∙ ap₂ ◌||◌ start c.option.ensures.local in
-    let two = c.in_ok-arg-2.ensures.globals ∙ ap₂ ◌||◌ one c.tree.ensures.local in
-    IfOk-weaker c.arg-3.result _ _ (λ line adds. adds.globals ∙ ap₂ ◌||◌ two c.words.ensures.local)
-    c.arg-3.ensures
+    let two = c.in_ok-arg-2.ensures.globals ∙ ap₂ ◌||◌ one c.optional.ensures.local in
+    let three = c.in_ok-arg-3.ensures.globals ∙ ap₂ ◌||◌ two c.tree.ensures.local in
+    IfOk-weaker c.arg-4.result _ _ (λ line adds. adds.globals ∙ ap₂ ◌||◌ three c.words.ensures.local)
+    c.arg-4.ensures

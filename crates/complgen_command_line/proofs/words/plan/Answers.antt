@@ -4,7 +4,7 @@ use Rattle.clap.specs.Kinds.{HasKind, Kinds}
 use Rattle.clap.specs.Words.{App, Row, Text, fault_of, is_simple, is_simple_and_free, subcommand_of}
 use Rattle.clap.specs.Words.{takes}
 use Rattle.complgen_command_line.specs.CommandLine.{program_line}
-use Rattle.complgen_command_line.specs.Plans.{EntersOne}
+use Rattle.complgen_command_line.specs.Plans.{AsksFor, EntersOne}
 use Rattle.complgen_command_line.specs.Refusals.{Reports}
 use Rattle.complgen_command_line.proofs.CommandLineLemmas.{enters_one, program_line_is_free}
 use Rattle.complgen_command_line.proofs.CommandLineLemmas.{program_line_is_simple, reports_memory}
@@ -20,6 +20,16 @@ plan_of-planned-requires c =
     let entered = (c.in-Ok.ensures.matches (ap is_simple line ∙ program_line_is_simple)).1
     ∙ ap (λ (a : App). subcommand_of a words) line in
     subst EntersOne (sym entered) (enters_one words none)
+
+pub returns-in-Ok-clause-ok : goal.returns-in-Ok-clause-ok
+returns-in-Ok-clause-ok c =
+    let words = map string_bytes c.args.words.now in
+    let line = c.in_ok-command.ensures in
+    let entered = (c.in-Ok.ensures.matches (ap is_simple line ∙ program_line_is_simple)).1
+    ∙ ap (λ (a : App). subcommand_of a words) line in
+    IfOk-weaker c.plan_of-planned.result _ _ (λ plan asks.
+    subst (λ (e : Option (Text × List Row)). AsksFor e plan) entered asks)
+    c.plan_of-planned.ensures.ok
 
 pub returns-in-Ok-clause-fits : goal.returns-in-Ok-clause-fits
 returns-in-Ok-clause-fits c =

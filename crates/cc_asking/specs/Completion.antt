@@ -1,0 +1,42 @@
+-- The candidates for a word if some given lines are the values that the word asks for.
+use Rattle.std.specs.Prelude.{◌≡◌, ◌⊎◌, ℕ, List, Option, None, Some}
+use Rattle.cc_arg.specs.declared.parts.ArgParts.{ArgParts as Arg}
+use Rattle.cc_base.specs.declared.error.Error.{Error}
+use Rattle.cc_base.specs.declared.error.Error.TheVariants.{Memory}
+use Rattle.cc_candidates.specs.declared.candidate.CompletionCandidate.{CompletionCandidate}
+use Rattle.cc_command.specs.Built.{built_tree}
+use Rattle.cc_command.specs.Tree.{Tree}
+use Rattle.cc_command.specs.ValueLists.{listed_tree}
+use Rattle.cc_engine.specs.Asked.{Asks}
+use Rattle.cc_engine.specs.Completion.{Completes, Refuses}
+use Rattle.cc_gather.specs.Values.{MayReturn}
+use Rattle.cc_replies.specs.GivenLines.{candidates_of_lines}
+use Rattle.cc_asking.specs.Given.{lines_list, with_lines}
+
+-- the tree in which each argument with the source of the one that is asked for has the list of the
+-- lines
+abbrev pub tree_for : Option Arg → Tree → Tree
+tree_for None tree = tree
+tree_for (Some asked) tree = listed_tree asked lines_list tree
+
+-- what may be returned, with the lines in that list
+abbrev pub returned_for : MayReturn → List ℕ → Option Arg → MayReturn
+returned_for returned lines None = returned
+returned_for returned lines (Some asked) =
+    with_lines returned (candidates_of_lines asked.values_split lines)
+
+-- The candidates for the word at the index, with these lines as the values of the argument that is
+-- asked for there. If none is asked for, the lines do not count.
+pub record CompletesWith (returned : MayReturn) (lines : List ℕ) (tree : Tree)
+    (words : List (List ℕ)) (index : ℕ) (found : List CompletionCandidate) : Type 0 where
+  pub asked : Option Arg
+  pub asks : Asks (built_tree tree) words index asked
+  pub completes : Completes (returned_for returned lines asked) (built_tree (tree_for asked tree))
+      words index found
+
+-- How such a call ends without candidates: as `complete_from` does, or out of memory after some
+-- arguments got the list of the lines.
+abbrev pub RefusesWith : Tree → Tree → ℕ → ℕ → Error → Type 0
+RefusesWith old new count index error = Refuses old new count index error
+    ⊎ ((error ≡ Memory) × ((asked : Arg)
+    × Refuses (listed_tree asked lines_list (built_tree old)) new count index Memory))

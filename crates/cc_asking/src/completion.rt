@@ -1,0 +1,114 @@
+//! The candidates for a word, with given lines as the values of the argument that it asks for.
+
+ghost use Rattle.std.specs.Prelude.{◌≡◌, length, map, string_bytes, true};
+ghost use Rattle.std.specs.Prelude.{IfErr, IfOk, OnOk};
+ghost use Rattle.std.specs.Option.{option_copied};
+ghost use Rattle.cc_command.specs.Built.{built_tree};
+ghost use Rattle.cc_engine.specs.Asked.{Asks};
+ghost use Rattle.cc_engine.specs.Completion.{Completes, Refuses, is_in_range};
+ghost use Rattle.cc_engine.specs.Sources.{returned_from};
+ghost use Rattle.cc_gather.specs.Finished.{Differ};
+ghost use Rattle.cc_asking.specs.Completion.{CompletesWith, RefusesWith};
+ghost use Rattle.cc_asking.specs.Given.{with_lines};
+
+use crate::given::{WithLines, lines_list};
+use cc_arg::Arg;
+use cc_base::{CandidateSources, Error};
+use cc_candidates::CompletionCandidate;
+use cc_command::{Command, list_values};
+use cc_engine::{Sources, asked_argument, complete_from};
+use cc_paths::Folder;
+use cc_replies::GivenLines;
+use std::alloc::Global;
+
+/// Returns the candidates for the word at `index`, counted from 0, of a command line of `command`,
+/// as `complete_from` does.
+///
+/// If the word asks for the values of an argument that come from a command, a file or the system,
+/// `lines` has these values. Each argument with values from there then has a list with the
+/// candidates in the lines. If the word asks for no such argument, the lines do not count.
+///
+/// # Errors
+///
+/// Those of `complete_from`. After `Memory`, some arguments of the command may have a list more.
+pub fn complete_with_lines<D, C>(
+    alloc: Global,
+    command: &mut Command,
+    words: Vec<String>,
+    index: usize,
+    lines: &[u8],
+    sources: &Sources<'_, D, C>,
+) -> Result<Vec<CompletionCandidate>, Error>
+where
+    D: Folder,
+    C: CandidateSources<Candidate = CompletionCandidate>,
+    ensures candidates { IfOk result (λ found. CompletesWith
+        (returned_from C.CandidateSources sources.now.completers.now
+        (D.facts sources.now.folder.now) (option_copied sources.now.current_dir)) lines.now
+        command.old (map string_bytes words.items) index found.items) }
+    ensures differ { IfOk result (λ found. Differ found.items) }
+    ensures in_range { OnOk result
+        (is_in_range command.old.node (length words.items) index ≡ true) }
+    ensures errors { IfErr result
+        (RefusesWith command.old command.new (length words.items) index) }
+{
+    let Some(asked) = asked_of(alloc, command, words.as_slice(), index)? else {
+        return complete_from(alloc, command, words, index, sources);
+    };
+    let given = GivenLines::new(alloc, lines, asked.get_values_split())?;
+    list_values(command, &asked, lines_list());
+    complete_over(alloc, command, words, index, &given, sources)
+}
+
+// Builds the command, and returns the argument that the word at `index` asks for.
+fn asked_of(
+    alloc: Global,
+    command: &mut Command,
+    words: &[String],
+    index: usize,
+) -> Result<Option<Arg>, Error>
+    ensures asks { IfOk result
+        (λ asked. Asks (built_tree command.old) (map string_bytes words.now) index asked) }
+    ensures built { OnOk result (command.new ≡ built_tree command.old) }
+    ensures whole { OnOk result (built_tree command.new ≡ command.new) }
+    ensures in_range { OnOk result
+        (is_in_range command.old.node (length words.now) index ≡ true) }
+    ensures errors { IfErr result (Refuses command.old command.new (length words.now) index) }
+{
+    command.build(alloc)?;
+    asked_argument(alloc, command, words, index)
+}
+
+// Returns the candidates, with those in the given lines as one list more.
+fn complete_over<D, C>(
+    alloc: Global,
+    command: &mut Command,
+    words: Vec<String>,
+    index: usize,
+    given: &GivenLines,
+    sources: &Sources<'_, D, C>,
+) -> Result<Vec<CompletionCandidate>, Error>
+where
+    D: Folder,
+    C: CandidateSources<Candidate = CompletionCandidate>,
+    ensures candidates { IfOk result (λ found. Completes (with_lines
+        (returned_from C.CandidateSources sources.now.completers.now
+        (D.facts sources.now.folder.now) (option_copied sources.now.current_dir))
+        given.now.candidates) command.new (map string_bytes words.items) index found.items) }
+    ensures differ { IfOk result (λ found. Differ found.items) }
+    ensures built { OnOk result (command.new ≡ built_tree command.old) }
+    ensures in_range { OnOk result
+        (is_in_range command.new.node (length words.items) index ≡ true) }
+    ensures errors { IfErr result (Refuses command.old command.new (length words.items) index) }
+{
+    let completers = WithLines {
+        sources: sources.completers,
+        lines: given,
+    };
+    let sources = Sources {
+        current_dir: sources.current_dir,
+        folder: sources.folder,
+        completers: &completers,
+    };
+    complete_from(alloc, command, words, index, &sources)
+}

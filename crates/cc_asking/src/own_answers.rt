@@ -1,0 +1,118 @@
+//! A program that completes its own command line, with values from outside its tree.
+
+ghost use Rattle.std.specs.Prelude.{map, string_bytes};
+ghost use Rattle.std.specs.Option.{option_copied};
+ghost use Rattle.cc_engine.specs.Sources.{returned_from};
+ghost use Rattle.cc_env.specs.Steps.{names_of};
+ghost use Rattle.cc_replies.specs.Environment.{value_of};
+ghost use Rattle.cc_asking.specs.OwnAnswers.{AnswersBy, own_parts, seen_own};
+ghost use Rattle.cc_asking.specs.OwnEnds.{EndsOwn};
+
+use crate::answers::{Answer, Call, answer_call};
+use crate::line_source::LineSource;
+use crate::writing::write_answer;
+use cc_base::{CandidateSources, Error, Sink};
+use cc_candidates::CompletionCandidate;
+use cc_command::Command;
+use cc_engine::Sources;
+use cc_env::{CompleteEnv, SafeShell};
+use cc_paths::Folder;
+use cc_replies::EnvValues;
+use std::alloc::Global;
+
+/// What a program was called with.
+#[derive(Drop)]
+pub struct Called<'r> {
+    /// The arguments, the program's name first.
+    pub args: &'r [String],
+    /// The values of the environment variables.
+    pub env: &'r EnvValues,
+}
+
+/// Writes the answer of `answer_own` to `out`, and returns the exit status: 0 after a reply or a
+/// registration, and 3 after the words of a command for the shell to run. Returns `None` if the
+/// environment requests nothing, and writes nothing then. The whole answer is made before any of it
+/// is written.
+///
+/// If a status is returned, the program ends with it, and writes nothing else to `out`.
+///
+/// # Errors
+///
+/// Those of `answer_own`, with nothing written. `Write` if `out` fails, which may then hold part of
+/// the answer.
+pub fn try_complete_asking<F, D, C, S, W>(
+    alloc: Global,
+    completion: &CompleteEnv<'_, F, SafeShell>,
+    called: &Called<'_>,
+    sources: &Sources<'_, D, C>,
+    lines: &S,
+    out: &mut W,
+) -> Result<Option<u8>, Error>
+where
+    F: Fn(Global) -> Result<Command, Error> + Drop,
+    D: Folder,
+    C: CandidateSources<Candidate = CompletionCandidate>,
+    S: LineSource,
+    W: Sink,
+    requires { F.IsAlwaysCallable completion.now.factory }
+    ensures { EndsOwn W.taken W.failed (AnswersBy completion.now.shells.0.now
+        (λ made. F.post completion.now.factory alloc made) (own_parts
+        (names_of completion.now.variable.now completion.now.bin completion.now.completer
+        (option_copied sources.now.current_dir)) called.now.env.now
+        (map string_bytes called.now.args.now)
+        (returned_from C.CandidateSources sources.now.completers.now
+        (D.facts sources.now.folder.now) (option_copied sources.now.current_dir)))
+        (S.gives lines.now) (value_of completion.now.variable.now called.now.env.now))
+        out.old out.new result }
+{
+    let Some(answer) = answer_own(alloc, completion, called, sources, lines)? else {
+        return Ok(None);
+    };
+    write_answer(&answer, out)?;
+    Ok(Some(answer.status()))
+}
+
+/// Returns the answer to the request of the environment, or `None` if it requests nothing.
+///
+/// It is the answer of `answer_call` for the requested shell, over the command that the factory of
+/// `completion` makes. Commands of this tree may be run, since the program has it.
+///
+/// # Errors
+///
+/// In this order: `UnknownShell` if no shell has the requested name; the error of the factory;
+/// those of `answer_call`.
+pub fn answer_own<F, D, C, S>(
+    alloc: Global,
+    completion: &CompleteEnv<'_, F, SafeShell>,
+    called: &Called<'_>,
+    sources: &Sources<'_, D, C>,
+    lines: &S,
+) -> Result<Option<Answer>, Error>
+where
+    F: Fn(Global) -> Result<Command, Error> + Drop,
+    D: Folder,
+    C: CandidateSources<Candidate = CompletionCandidate>,
+    S: LineSource,
+    requires { F.IsAlwaysCallable completion.now.factory }
+    ensures { AnswersBy completion.now.shells.0.now
+        (λ made. F.post completion.now.factory alloc made) (own_parts
+        (names_of completion.now.variable.now completion.now.bin completion.now.completer
+        (option_copied sources.now.current_dir)) called.now.env.now
+        (map string_bytes called.now.args.now)
+        (returned_from C.CandidateSources sources.now.completers.now
+        (D.facts sources.now.folder.now) (option_copied sources.now.current_dir)))
+        (S.gives lines.now) (value_of completion.now.variable.now called.now.env.now)
+        (seen_own result) }
+{
+    let Some(shell) = completion.requested_shell(alloc, called.env)? else {
+        return Ok(None);
+    };
+    let command = completion.command(alloc)?;
+    let call = Call {
+        program: completion.shell_program(shell),
+        args: called.args,
+        env: called.env,
+        trusted: true,
+    };
+    Ok(Some(answer_call(alloc, &call, command, sources, lines)?))
+}

@@ -1,0 +1,3 @@
+mod Examples
+pub mod Parts
+pub mod ReadBack

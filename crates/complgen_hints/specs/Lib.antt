@@ -1,4 +1,0 @@
-pub mod Hosts
-pub mod Marks
-pub mod SshConfig
-pub mod Users

@@ -1,0 +1,67 @@
+//! The shell and the command of a request.
+
+ghost use Rattle.std.specs.Option.{option_copied};
+ghost use Rattle.complgen_live.specs.Prepared.{Prepares};
+ghost use Rattle.complgen_live.specs.TreeErrors.{DescribedBy};
+
+use crate::reply_errors::{BadTree, ReplyError};
+use cc_base::Error;
+use cc_command::Command;
+use cc_env::{SafeShell, Shells, known_shell, wanted_name};
+use cc_replies::EnvValues;
+use complgen_tree_file::{TreeError, read_tree};
+use std::alloc::Global;
+
+/// The variable that requests a registration or a reply, by the name of a shell.
+pub(crate) const VARIABLE: &str = "COMPLETE";
+
+/// The shell that requests an answer, and the command that the tree file describes.
+#[derive(Drop)]
+pub(crate) struct Prepared {
+    /// The shell.
+    pub(crate) shell: SafeShell,
+    /// The command.
+    pub(crate) command: Command,
+}
+
+/// Returns the shell that `env` names and the command that `file` describes, or `None` without a
+/// file or a request.
+///
+/// # Errors
+///
+/// `Library` with `UnknownShell` if no shell has the name, which is reported before the file is
+/// read, and with `Memory` if an allocation fails. `Tree` if the file is not JSON or describes no
+/// command.
+pub(crate) fn prepare(
+    alloc: Global,
+    env: &EnvValues,
+    file: Option<&[u8]>,
+) -> Result<Option<Prepared>, ReplyError>
+    ensures { Prepares env.now (option_copied file.entry) result }
+{
+    let Some(bytes) = file else {
+        return Ok(None);
+    };
+    let Some(name) = wanted_name(env.get(VARIABLE)) else {
+        return Ok(None);
+    };
+    let shells = Shells::safe();
+    let known = known_shell(alloc, &shells, name)?;
+    let command = described(alloc, bytes)?;
+    Ok(Some(Prepared {
+        shell: *known,
+        command,
+    }))
+}
+
+// Returns the command that a tree file describes.
+fn described(alloc: Global, bytes: &[u8]) -> Result<Command, ReplyError>
+    ensures { DescribedBy bytes.now result }
+{
+    match read_tree(alloc, bytes) {
+        Ok(command) => Ok(command),
+        Err(TreeError::NotJson) => Err(ReplyError::Tree(BadTree::NotJson)),
+        Err(TreeError::BadForm) => Err(ReplyError::Tree(BadTree::BadForm)),
+        Err(TreeError::Memory) => Err(ReplyError::Library(Error::Memory)),
+    }
+}
