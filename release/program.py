@@ -62,6 +62,8 @@ def put_documents(args, folder, debian):
     copy_folder(args.source / "docs", folder / "docs")
     for path in sorted((args.source / "examples").glob("*.json")):
         copy(path, folder / "examples" / path.name)
+    for path in sorted((args.source / "examples/values").iterdir()):
+        copy(path, folder / "examples/values" / path.name)
     copy(args.source / "examples/git-tree", folder / "examples/git-tree", 0o755)
     put(folder / "LICENSES-THIRD-PARTY", licences(args, "complgen"))
     for page in sorted(folder.rglob("*.md")):

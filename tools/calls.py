@@ -38,7 +38,8 @@ head of a group names the directory. `requires` means that the call has a precon
 
 The two functions of `complgen_c` are for programs in other languages. `rust/lagvtsune/src/native.rs` declares them. There
 a slice is its start and its length, and `alloc` is left out. Each such program has to define the three functions that give
-the archive its memory: `rattle_alloc`, `rattle_realloc` and `rattle_dealloc`.
+the archive its memory: `rattle_alloc`, `rattle_realloc` and `rattle_dealloc`. `lagvtsune_live` reads no file, so it offers
+values from commands, but none for `values_file` and for the hints `Username`, `Hostname` and `CommandName`.
 
 If several modules re-export an item, it is listed in one of them, and the others name that one.
 """

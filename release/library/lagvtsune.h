@@ -57,7 +57,8 @@ enum {
     LAGVTSUNE_FAILED = 1,        /* the text is a message that ends in a line feed */
     LAGVTSUNE_NOT_UTF8 = 2,      /* an argument is not UTF-8; there is no text, and the result is 0 */
     LAGVTSUNE_NOT_REQUESTED = 3, /* lagvtsune_live: no shell requests anything; the result is 0 */
-    LAGVTSUNE_WANTS_FOLDER = 4   /* lagvtsune_live: the text is the path of a directory; its names are needed */
+    LAGVTSUNE_WANTS_FOLDER = 4,  /* lagvtsune_live: the text is the path of a directory; its names are needed */
+    LAGVTSUNE_RUN = 5            /* lagvtsune_live: the text is the words of a command; the shell runs it */
 };
 
 /*
@@ -83,10 +84,10 @@ size_t lagvtsune_script(const uint8_t *shell, size_t shell_length,
                         uint8_t *status);
 
 /*
- * Answers the request of a shell to the program that the tree file `tree` describes, with the
- * registration or with the candidates. Returns the length of the text, and copies the text to the
- * start of `room` if it fits there. Otherwise `room` stays unchanged, and you can call again with
- * more room. You may pass any bytes.
+ * Answers the request of a shell to the program that the tree file `tree` describes: with the
+ * registration, with the candidates, or with a command that lists values. Returns the length of the
+ * text, and copies the text to the start of `room` if it fits there. Otherwise `room` stays
+ * unchanged, and you can call again with more room. You may pass any bytes.
  *
  * `words` are the program's arguments, starting with its name. `variables` are names and values,
  * alternating:
@@ -95,7 +96,14 @@ size_t lagvtsune_script(const uint8_t *shell, size_t shell_length,
  * - `_COMPLGEN_VALUES`, `_COMPLGEN_KEPT` and `_COMPLGEN_QUOTE` have the values that the
  *   registration sets. A registration of the original's form sets `_CLAP_COMPLETE_INDEX` and
  *   `_CLAP_IFS` instead.
+ * - `COMPLGEN_COMMANDS` turns off the commands of `values_from` if it is `0`.
  * - `HOME` is the user's home directory, and `PWD` the directory where relative paths begin.
+ *
+ * `output` is what the command of an argument with `values_from` printed. It counts only if
+ * `_COMPLGEN_VALUES` is `stdin`. In that case, your program reads it from the standard input.
+ * Otherwise, pass no bytes. Pass only the tree of your own program, because the user's shell runs
+ * the commands that it names. This function offers no values for `values_file` and for the hints
+ * `Username`, `Hostname` and `CommandName`.
  *
  * `names` are the names in the directory at the path `listed`, or none if it can't be read.
  * `folders` and `files` are the paths of directories and of files, among these: that directory
@@ -108,16 +116,20 @@ size_t lagvtsune_script(const uint8_t *shell, size_t shell_length,
  * - 2: a word, a variable or a name is not UTF-8, and there is no text.
  * - 3: nothing is requested, and there is no text.
  * - 4: the text is the path of another directory. Call again with the names in that one.
+ * - 5: the text is the words of a command, each with a vertical tab after it. Write the text to the
+ *   standard output, and end your program with exit status 3. The shell then runs the command, and
+ *   makes the request again. In that request, `_COMPLGEN_VALUES` is `stdin`.
  *
  * Proved (`crates/complgen_c/src/live.rt`):
  *
- *     EndsAs (MakesReply tree.now (handed words.now) (handed variables.now) (record { path =
- *     listed.now; names = handed names.now; folders = handed folders.now; files = handed files.now;
- *     })) room.old room.new status.new result
+ *     EndsAs (MakesReply tree.now (handed words.now) (handed variables.now) output.now (record {
+ *     path = listed.now; names = handed names.now; folders = handed folders.now; files = handed
+ *     files.now; })) room.old room.new status.new result
  */
 size_t lagvtsune_live(const uint8_t *tree, size_t tree_length,
                       const lagvtsune_bytes *words, size_t words_length,
                       const lagvtsune_bytes *variables, size_t variables_length,
+                      const uint8_t *output, size_t output_length,
                       const uint8_t *listed, size_t listed_length,
                       const lagvtsune_bytes *names, size_t names_length,
                       const lagvtsune_bytes *folders, size_t folders_length,

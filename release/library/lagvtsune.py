@@ -10,9 +10,13 @@ import ctypes
 import os
 import sys
 
-MADE, FAILED, NOT_UTF8, NOT_REQUESTED, WANTS_FOLDER = range(5)
+MADE, FAILED, NOT_UTF8, NOT_REQUESTED, WANTS_FOLDER, RUN = range(6)
 # The variables that registrations set.
 REQUESTS = ("COMPLETE", "_COMPLGEN_VALUES", "_COMPLGEN_KEPT", "_COMPLGEN_QUOTE", "_CLAP_COMPLETE_INDEX", "_CLAP_IFS")
+# The exit statuses after an answer. After the second one, the shell runs the command whose words were written.
+EXITS = {MADE: 0, RUN: 3}
+# The most bytes of a command's output that count.
+MOST_OUTPUT = 16 << 20
 # The size of the first room for a text. A longer text takes a second call.
 FIRST_ROOM = 1 << 16
 # The number of directories that one request may need. The library asks for at most one.
@@ -31,7 +35,7 @@ ROOM = [ctypes.c_char_p, ctypes.c_size_t, ctypes.POINTER(ctypes.c_uint8)]
 
 library = ctypes.CDLL(os.environ.get("LAGVTSUNE_SO", "liblagvtsune.so.0"))
 library.lagvtsune_script.argtypes = SLICE * 3 + ROOM
-library.lagvtsune_live.argtypes = SLICE + SLICES * 2 + SLICE + SLICES * 3 + ROOM
+library.lagvtsune_live.argtypes = SLICE + SLICES * 2 + SLICE * 2 + SLICES * 3 + ROOM
 for function in (library.lagvtsune_script, library.lagvtsune_live):
     function.restype = ctypes.c_size_t
 
@@ -49,19 +53,21 @@ def script(shell, bin_name, tree):
     return text.decode()
 
 
-def reply(tree, words, variables, current_dir=None):
-    """Returns the bytes that a shell requests, or `None` if the variables request nothing.
+def answer(tree, words, variables, current_dir=None, output=b""):
+    """Returns an exit status and the bytes that a shell requests, or `None` if the variables request nothing.
 
-    `words` are the program's arguments, starting with its name. Raises `Failed`.
+    `words` are the program's arguments, starting with its name. `output` is what a command printed, if the
+    variable _COMPLGEN_VALUES is `stdin`. The status is 0 with a registration or a reply, and 3 with the words of
+    a command, which the shell then runs. Raises `Failed`.
     """
     requests = {name: variables[name] for name in REQUESTS if name in variables}
-    places = {"HOME": variables.get("HOME"), "PWD": current_dir}
-    requests.update({name: path for name, path in places.items() if path and _is_utf8(path)})
+    others = {**{name: variables.get(name) for name in ("HOME", "COMPLGEN_COMMANDS")}, "PWD": current_dir}
+    requests.update({name: text for name, text in others.items() if text and _is_utf8(text)})
     pairs = [text for pair in requests.items() for text in pair]
     listed, names, paths = "", [], []
     for _ in range(1 + MOST_DIRECTORIES):
         lists = [names, [it for it in paths if os.path.isdir(it)], [it for it in paths if os.path.isfile(it)]]
-        arguments = [*_slice(tree), *_slices(words), *_slices(pairs), *_slice(listed)]
+        arguments = [*_slice(tree), *_slices(words), *_slices(pairs), *_slice(output), *_slice(listed)]
         arguments += [it for texts in lists for it in _slices(texts)]
         status, text = _call(library.lagvtsune_live, arguments)
         if status != WANTS_FOLDER:
@@ -71,28 +77,38 @@ def reply(tree, words, variables, current_dir=None):
         paths = [listed, *(os.path.join(listed, name) for name in names)]
     if status == NOT_REQUESTED:
         return None
-    if status != MADE:
+    if status not in EXITS:
         raise _failure(status, text)
-    return text
+    return EXITS[status], text
 
 
 def complete(tree, words=None):
     """Answers a completion request of a shell, if there is one, and ends the process.
 
-    Call it before your program does anything else. `tree` is a tree file, or a function that returns one.
-    The exit status is 0, or 2 after a message on stderr.
+    Call it before your program does anything else. `tree` is a tree file, or a function that returns one. If
+    _COMPLGEN_VALUES is `stdin`, the function reads the standard input, which has what a command printed. The
+    exit status is 0, 3 after the words of a command, or 2 after a message on stderr.
     """
     if os.environ.get("COMPLETE", "0") in ("", "0"):
         return
     try:
-        text = reply(tree() if callable(tree) else tree, words or sys.argv, os.environ, os.getcwd())
+        output = _output() if os.environ.get("_COMPLGEN_VALUES") == "stdin" else b""
+        answered = answer(tree() if callable(tree) else tree, words or sys.argv, os.environ, os.getcwd(), output)
     except (Failed, OSError) as error:
         print(error, file=sys.stderr)
         sys.exit(2)
-    if text is not None:
+    if answered is not None:
+        status, text = answered
         sys.stdout.buffer.write(text)
         sys.stdout.flush()
-        sys.exit(0)
+        sys.exit(status)
+
+
+def _output():
+    """Returns what a command printed, from the standard input: the lines in the first 16 MiB."""
+    with open(0, "rb", closefd=False) as stdin:
+        output = stdin.read(MOST_OUTPUT + 1)
+    return output if len(output) <= MOST_OUTPUT else output[: output.rfind(b"\n", 0, MOST_OUTPUT) + 1]
 
 
 def _failure(status, text):

@@ -17,6 +17,9 @@
 /* The size of the first room for a text. A longer text takes a second call. */
 enum { FIRST_ROOM = 1 << 16 };
 
+/* The most bytes of a command's output that count: 16 MiB. */
+enum { MOST_OUTPUT = 16 << 20 };
+
 /* The number of directories that one request may need. The library asks for at most one. */
 enum { MOST_DIRECTORIES = 4 };
 
@@ -26,17 +29,18 @@ struct list {
     size_t length;
 };
 
+/* Bytes in a room: the text of a call, or the output of a command. */
+struct text {
+    uint8_t *room;
+    size_t size, length;
+};
+
 /* The arguments of lagvtsune_live. */
 struct request {
     const char *tree;
     struct list words, variables, names, folders, files;
+    struct text output;
     char *listed;
-};
-
-/* The text of a call, in a room. */
-struct text {
-    uint8_t *room;
-    size_t size, length;
 };
 
 static const lagvtsune_bytes NOTHING = {(const uint8_t *)"", 0};
@@ -111,8 +115,42 @@ static bool put_variables(struct list *to)
         if (value != NULL && !(put(to, REQUESTS[place]) && put(to, value)))
             return false;
     }
-    return put_variable(to, "HOME", home != NULL && *home != '\0' ? home : NULL)
+    return put_variable(to, "COMPLGEN_COMMANDS", getenv("COMPLGEN_COMMANDS"))
+        && put_variable(to, "HOME", home != NULL && *home != '\0' ? home : NULL)
         && put_variable(to, "PWD", getcwd(here, sizeof here));
+}
+
+/* Cuts an output that is too long after the last line that ends within the limit. */
+static void cut_output(struct text *output)
+{
+    if (output->length <= MOST_OUTPUT)
+        return;
+    output->length = MOST_OUTPUT;
+    while (output->length > 0 && output->room[output->length - 1] != '\n')
+        output->length--;
+}
+
+/* Reads the standard input, one byte past the limit at most. Returns whether there was memory. */
+static bool read_output(struct text *output)
+{
+    while (output->length == output->size && output->size <= MOST_OUTPUT) {
+        size_t more = output->size == 0 ? FIRST_ROOM : output->size;
+        size_t size = output->size + more <= MOST_OUTPUT ? output->size + more : MOST_OUTPUT + 1;
+        uint8_t *room = realloc(output->room, size);
+        if (room == NULL)
+            return false;
+        output->room = room, output->size = size;
+        output->length += fread(room + output->length, 1, size - output->length, stdin);
+    }
+    cut_output(output);
+    return true;
+}
+
+/* Reads the output of a command if the registration passes it on. Returns whether there was memory. */
+static bool put_output(struct text *output)
+{
+    const char *values = getenv("_COMPLGEN_VALUES");
+    return values == NULL || strcmp(values, "stdin") != 0 || read_output(output);
 }
 
 /* Adds a path to the directories or to the files, if it leads to one. */
@@ -172,9 +210,11 @@ static const lagvtsune_bytes *first(const struct list *list)
 static size_t call_live(const struct request *it, const struct text *text, uint8_t *status)
 {
     const char *listed = it->listed != NULL ? it->listed : "";
+    const uint8_t *output = it->output.room != NULL ? it->output.room : NOTHING.start;
     return lagvtsune_live(BYTES(it->tree), first(&it->words), it->words.length, first(&it->variables),
-        it->variables.length, BYTES(listed), first(&it->names), it->names.length, first(&it->folders),
-        it->folders.length, first(&it->files), it->files.length, text->room, text->size, status);
+        it->variables.length, output, it->output.length, BYTES(listed), first(&it->names), it->names.length,
+        first(&it->folders), it->folders.length, first(&it->files), it->files.length, text->room, text->size,
+        status);
 }
 
 /* Provides a room of at least this size. Returns whether there was memory. */
@@ -213,11 +253,11 @@ static int finish(int status, const struct text *text, FILE *out)
 {
     if (status == LAGVTSUNE_NOT_REQUESTED)
         return status;
-    if (status == LAGVTSUNE_MADE) {
+    if (status == LAGVTSUNE_MADE || status == LAGVTSUNE_RUN) {
         bool is_written = fwrite(text->room, 1, text->length, out) == text->length && fflush(out) == 0;
         if (!is_written)
             perror("write");
-        return is_written ? LAGVTSUNE_MADE : LAGVTSUNE_FAILED;
+        return is_written ? status : LAGVTSUNE_FAILED;
     }
     if (status == LAGVTSUNE_FAILED)
         fwrite(text->room, 1, text->length, stderr);
@@ -235,14 +275,20 @@ int lagvtsune_complete(const char *tree, int argc, char *const argv[])
         return LAGVTSUNE_NOT_REQUESTED;
     struct request request = {.tree = tree};
     struct text text = {NULL, 0, 0};
-    bool has_memory = make_room(&text, FIRST_ROOM) && put_variables(&request.variables);
+    bool has_memory = make_room(&text, FIRST_ROOM) && put_variables(&request.variables)
+        && put_output(&request.output);
     for (int place = 0; has_memory && place < argc; place++)
         has_memory = put(&request.words, argv[place]);
     int status = finish(has_memory ? answer(&request, &text) : -1, &text, stdout);
     clear(&request.words), clear(&request.variables);
     clear(&request.names), clear(&request.folders), clear(&request.files);
-    free(request.listed), free(text.room);
+    free(request.output.room), free(request.listed), free(text.room);
     return status;
+}
+
+int lagvtsune_exit_status(int result)
+{
+    return result == LAGVTSUNE_MADE ? 0 : result == LAGVTSUNE_RUN ? 3 : 2;
 }
 
 int lagvtsune_write_script(const char *shell, const char *bin, const char *tree, FILE *out)

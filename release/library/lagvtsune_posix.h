@@ -1,8 +1,8 @@
 /*
  * lagvtsune_posix.h - the library's two functions for C programs on a POSIX system.
  *
- * Compile lagvtsune_posix.c with your program. It passes the environment and the names in directories
- * to the library, and repeats a call that needs more room or another directory.
+ * Compile lagvtsune_posix.c with your program. It passes the environment, the names in directories and
+ * the output of a command to the library, and repeats a call that needs more room or another directory.
  *
  * SPDX-License-Identifier: MIT OR Apache-2.0
  */
@@ -18,14 +18,23 @@ extern "C" {
 
 /*
  * Answers a completion request of a shell, for the command in the tree file `tree`. Call it before your
- * program does anything else, with the arguments of main.
+ * program does anything else, with the arguments of main. If _COMPLGEN_VALUES is `stdin`, it reads the
+ * standard input, which has what a command printed. Only the lines in the first 16 MiB count.
  *
- * Returns LAGVTSUNE_NOT_REQUESTED if the variable COMPLETE requests nothing, and LAGVTSUNE_MADE after it
- * wrote the registration or the reply to stdout. Your program should then end with status 0. Otherwise
- * it writes a message to stderr and returns LAGVTSUNE_FAILED. Your program should then end with another
- * status.
+ * Returns LAGVTSUNE_NOT_REQUESTED if the variable COMPLETE requests nothing. Otherwise your program should
+ * then end with the status that lagvtsune_exit_status returns. The function returns
+ *
+ * - LAGVTSUNE_MADE after it wrote the registration or the reply to stdout;
+ * - LAGVTSUNE_RUN after it wrote the words of a command there, which the shell then runs;
+ * - LAGVTSUNE_FAILED after it wrote a message to stderr.
  */
 int lagvtsune_complete(const char *tree, int argc, char *const argv[]);
+
+/*
+ * Returns the exit status after one of these results: 0 after LAGVTSUNE_MADE, 3 after LAGVTSUNE_RUN, and
+ * otherwise 2. The shell runs a command only after the status 3.
+ */
+int lagvtsune_exit_status(int result);
 
 /*
  * Writes the script for the shell with the name `shell`, of the command in the tree file `tree`, under

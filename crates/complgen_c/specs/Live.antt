@@ -1,20 +1,23 @@
 -- The outcomes of a live request.
-use Rattle.std.specs.Prelude.{◌≡◌, ◌≢◌, ℕ, List, Option, None, Some, Result, Ok, Err, codes}
+use Rattle.std.specs.Prelude.{◌≡◌, ◌≢◌, ℕ, true, List, Option, None, Some, Result, Ok, Err, codes}
+use Rattle.cc_asking.specs.Answers.{Told}
+use Rattle.cc_asking.specs.Answers as told
+use Rattle.cc_asking.specs.Given.{passed_lines}
+use Rattle.cc_asking.specs.RunWords.{written_words}
 use Rattle.cc_base.specs.declared.error.Error.TheVariants.{Memory}
 use Rattle.cc_engine.specs.Paths.{PathsOf}
 use Rattle.cc_paths.specs.Folders.{FolderFacts}
 use Rattle.cc_replies.specs.Environment.{value_of}
 use Rattle.cc_replies.specs.declared.environment.EnvValues.{EnvValues}
-use Rattle.complgen_commands.specs.Refusals.{IsOutOfMemory, IsRefusal}
+use Rattle.complgen_commands.specs.Refusals.{IsOutOfMemory, IsRefusal, Reports}
 use Rattle.complgen_commands.specs.declared.refusals.Refusal.{Refusal}
-use Rattle.complgen_live.specs.Replies.{MakesReply as ReplyMade}
+use Rattle.complgen_live.specs.Answers.{AnswersRequest, Parts}
 use Rattle.complgen_live.specs.declared.reply_errors.ReplyError.{ReplyError}
 use Rattle.complgen_live.specs.declared.reply_errors.ReplyError.TheVariants.{Library, Tree}
-use Rattle.complgen_commands.specs.Refusals.{Reports}
 use Rattle.complgen_c.specs.Listings.{Listing, facts_of}
 use Rattle.complgen_c.specs.Requests.{HoldsVariables, NotUtf8Texts}
 use Rattle.complgen_c.specs.declared.outcome.Outcome.{Outcome}
-use Rattle.complgen_c.specs.declared.outcome.Outcome.TheVariants.{Failed, Made, NotRequested, NotUtf8, WantsFolder}
+use Rattle.complgen_c.specs.declared.outcome.Outcome.TheVariants.{Failed, Made, NotRequested, NotUtf8, Run, WantsFolder}
 
 -- the variable with the user's home directory
 abbrev pub home_name : List ℕ
@@ -28,40 +31,67 @@ current_dir env = value_of (codes "PWD") env
 abbrev pub no_command_line : List ℕ
 no_command_line = codes "tree: describes no command\n"
 
--- the refusal for an error of the reply
+-- the refusal for an error of the answer
 abbrev pub ReportsReply : ReplyError → Refusal → Type 0
 ReportsReply (Tree problem) refusal = IsRefusal no_command_line refusal
 ReportsReply (Library error) refusal = Reports error refusal
 
--- The outcomes of the call, by the path of the directory that the caller passed and by the reply.
--- The text is made, nothing is requested, or a message explains why there is no text. Only after
--- the error `Memory`, the call may request another directory instead. No clause can state which
--- one.
-abbrev pub EndsBy : List ℕ → Result (Option (List ℕ)) ReplyError → Outcome → Type 0
-EndsBy listed (Ok (Some text)) outcome = outcome ≡ Made text
+-- The outcome after the words of a command. They are the text, each followed by a vertical tab, if
+-- there is memory for it.
+abbrev pub RunsWords : List (List ℕ) → Outcome → Type 0
+RunsWords command (Run text) = text ≡ written_words command
+RunsWords command (Failed refusal) = IsOutOfMemory refusal
+RunsWords command _ = ⊥
+
+-- the outcome after an answer
+abbrev pub Tells : Told → Outcome → Type 0
+Tells (told.text made) outcome = outcome ≡ Made made
+Tells (told.words command) outcome = RunsWords command outcome
+
+-- The outcomes of the call, by the path of the directory that the caller passed and by the answer.
+-- The text is made, a command is to run, nothing is requested, or a message explains why there is
+-- no text. Only after the error `Memory`, the call may request another directory instead. No clause
+-- can state which one.
+abbrev pub EndsBy : List ℕ → Result (Option Told) ReplyError → Outcome → Type 0
+EndsBy listed (Ok (Some answer)) outcome = Tells answer outcome
 EndsBy listed (Ok None) outcome = outcome ≡ NotRequested
 EndsBy listed (Err error) (Failed refusal) = ReportsReply error refusal
 EndsBy listed (Err (Library Memory)) (WantsFolder path) = path ≢ listed
 EndsBy listed (Err error) _ = ⊥
 
--- the outcome after a reply that `complgen` may make, over these facts about paths
-pub record RepliesOver (tree : List ℕ) (words : List (List ℕ)) (env : EnvValues)
-    (facts : FolderFacts) (listed : List ℕ) (outcome : Outcome) : Type 0 where
-  pub result : Result (Option (List ℕ)) ReplyError
-  pub replies : ReplyMade env (current_dir env) (PathsOf facts (current_dir env)) words (Some tree)
-      result
-  pub ends : EndsBy listed result outcome
+-- What the answer depends on, for a tree file, words, variables, facts about paths, and the
+-- directory where relative paths begin. The tree is the program's own, so its commands may be run.
+abbrev pub parts_over : List ℕ → List (List ℕ) → EnvValues → FolderFacts → Option (List ℕ) → Parts
+parts_over tree words env facts current = record {
+  env = env;
+  words = words;
+  trusted = true;
+  file = Some tree;
+  current = current;
+  Finds = PathsOf facts current;
+}
 
--- the outcomes of the call, for a tree file, words, variables and a listing
-pub data MakesReply (tree : List ℕ) (words variables : List (List ℕ)) (listing : Listing)
-    : Outcome → Type 0 where
+-- The outcome after an answer that `complgen` may give, over these facts about paths. An argument
+-- whose values come from a command has the output as its lines, and other arguments have none.
+pub record AnswersOver (tree : List ℕ) (words : List (List ℕ)) (env : EnvValues)
+    (output : List ℕ) (facts : FolderFacts) (listed : List ℕ) (outcome : Outcome) : Type 0 where
+  pub answer : Result (Option Told) ReplyError
+  pub answers : AnswersRequest (parts_over tree words env facts (current_dir env))
+      (λ asked lines. lines ≡ passed_lines output asked) answer
+  pub ends : EndsBy listed answer outcome
+
+-- the outcomes of the call, for a tree file, words, variables, the output of a command, and a
+-- listing
+pub data MakesReply (tree : List ℕ) (words variables : List (List ℕ)) (output : List ℕ)
+    (listing : Listing) : Outcome → Type 0 where
   -- a word, a variable or a name is not UTF-8
   not_utf8 : NotUtf8Texts words variables listing.names
-      → MakesReply tree words variables listing NotUtf8
+      → MakesReply tree words variables output listing NotUtf8
   -- out of memory before there is a request
   out_of_memory : (refusal : Refusal) → IsOutOfMemory refusal
-      → MakesReply tree words variables listing (Failed refusal)
-  -- the reply, over the directory that the caller passed and no other
-  replied : (env : EnvValues) (outcome : Outcome) → HoldsVariables variables env
-      → RepliesOver tree words env (facts_of listing (value_of home_name env)) listing.path outcome
-      → MakesReply tree words variables listing outcome
+      → MakesReply tree words variables output listing (Failed refusal)
+  -- the answer, over the directory that the caller passed and no other
+  answered : (env : EnvValues) (outcome : Outcome) → HoldsVariables variables env
+      → AnswersOver tree words env output (facts_of listing (value_of home_name env)) listing.path
+      outcome
+      → MakesReply tree words variables output listing outcome

@@ -4,7 +4,7 @@ use Rattle.std.specs.declared.alloc.Global.{Global}
 use Rattle.std.specs.List.{All}
 use Rattle.std.specs.Str.{IsUtf8}
 use Rattle.cc_replies.specs.declared.environment.EnvValues.{EnvValues}
-use Rattle.complgen_c.specs.declared.requests.Request.{Request}
+use Rattle.complgen_c.specs.declared.requests.RequestTexts.{RequestTexts}
 
 -- the bytes of two texts
 abbrev pub both_bytes : String Global × String Global → List ℕ × List ℕ
@@ -26,7 +26,7 @@ AreTexts slices None = All IsUtf8 slices → ⊥
 AreTexts slices (Some texts) = map string_bytes texts.items ≡ slices
 
 -- the request has these words, variables and names
-pub record HasParts (words variables names : List (List ℕ)) (request : Request) : Type 0 where
+pub record HasParts (words variables names : List (List ℕ)) (request : RequestTexts) : Type 0 where
   pub words_same : map string_bytes request.words.items ≡ words
   pub variables_same : HoldsVariables variables request.env
   pub names_same : map string_bytes request.names.items ≡ names
@@ -36,6 +36,6 @@ abbrev pub NotUtf8Texts : List (List ℕ) → List (List ℕ) → List (List ℕ
 NotUtf8Texts words variables names = All IsUtf8 words → All IsUtf8 variables → All IsUtf8 names → ⊥
 
 -- the request with these words, variables and names, or none if not all are UTF-8
-abbrev pub IsRead : List (List ℕ) → List (List ℕ) → List (List ℕ) → Option Request → Type 0
+abbrev pub IsRead : List (List ℕ) → List (List ℕ) → List (List ℕ) → Option RequestTexts → Type 0
 IsRead words variables names None = NotUtf8Texts words variables names
 IsRead words variables names (Some request) = HasParts words variables names request

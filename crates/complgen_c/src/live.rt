@@ -2,21 +2,24 @@
 
 ghost use Rattle.std.specs.Prelude.{Err, map, string_bytes};
 ghost use Rattle.std.specs.Option.{option_copied};
+ghost use Rattle.cc_asking.specs.Answers.{seen};
 ghost use Rattle.cc_base.specs.declared.error.Error.TheVariants.{Memory};
 ghost use Rattle.cc_replies.specs.Environment.{value_of};
-ghost use Rattle.complgen_live.specs.Replies.{made_text};
+ghost use Rattle.complgen_live.specs.Answers.{seen_request};
 ghost use Rattle.complgen_live.specs.declared.reply_errors.ReplyError.TheVariants.{Library};
 ghost use Rattle.complgen_c.specs.Listings.{facts_of, handed, listing_of};
-ghost use Rattle.complgen_c.specs.Live.{EndsBy, MakesReply, RepliesOver, ReportsReply, home_name};
+ghost use Rattle.complgen_c.specs.Live.{AnswersOver, EndsBy, MakesReply, ReportsReply, RunsWords};
+ghost use Rattle.complgen_c.specs.Live.{Tells, home_name};
 ghost use Rattle.complgen_c.specs.Outcomes.{EndsAs};
 
 use crate::listed::Listed;
 use crate::outcome::Outcome;
-use crate::requests::{Request, read_request};
+use crate::requests::{RequestTexts, read_request};
+use cc_asking::{Answer, PassedLines, write_run_words};
 use cc_base::{Collected, Error, Items, Text};
 use cc_replies::EnvValues;
 use complgen_commands::{Refusal, error_refusal};
-use complgen_live::{ReplyError, reply_text};
+use complgen_live::{Origin, ReplyError, Request, answer_request};
 use std::alloc::{AllocError, Global};
 
 // The variable with the path of the user's home directory.
@@ -28,10 +31,19 @@ const CURRENT_DIR: &str = "PWD";
 // The message for a tree file that describes no command.
 const NO_COMMAND: &str = "tree: describes no command\n";
 
-/// Answers the request of a shell to the program that the tree file `tree` describes, with the
-/// registration or with the candidates. Returns the length of the text, and copies the text to the
-/// start of `room` if it fits there. Otherwise `room` stays unchanged, and you can call again with
-/// more room. You may pass any bytes.
+// What the caller passes for an answer, besides the request and the directory.
+#[derive(Drop)]
+struct Passed<'p> {
+    // the tree file
+    tree: &'p [u8],
+    // what a command printed
+    output: &'p [u8],
+}
+
+/// Answers the request of a shell to the program that the tree file `tree` describes: with the
+/// registration, with the candidates, or with a command that lists values. Returns the length of
+/// the text, and copies the text to the start of `room` if it fits there. Otherwise `room` stays
+/// unchanged, and you can call again with more room. You may pass any bytes.
 ///
 /// `words` are the program's arguments, starting with its name. `variables` are names and values,
 /// alternating:
@@ -40,7 +52,14 @@ const NO_COMMAND: &str = "tree: describes no command\n";
 /// - `_COMPLGEN_VALUES`, `_COMPLGEN_KEPT` and `_COMPLGEN_QUOTE` have the values that the
 ///   registration sets. A registration of the original's form sets `_CLAP_COMPLETE_INDEX` and
 ///   `_CLAP_IFS` instead.
+/// - `COMPLGEN_COMMANDS` turns off the commands of `values_from` if it is `0`.
 /// - `HOME` is the user's home directory, and `PWD` the directory where relative paths begin.
+///
+/// `output` is what the command of an argument with `values_from` printed. It counts only if
+/// `_COMPLGEN_VALUES` is `stdin`. In that case, your program reads it from the standard input.
+/// Otherwise, pass no bytes. Pass only the tree of your own program, because the user's shell runs
+/// the commands that it names. This function offers no values for `values_file` and for the hints
+/// `Username`, `Hostname` and `CommandName`.
 ///
 /// `names` are the names in the directory at the path `listed`, or none if it can't be read.
 /// `folders` and `files` are the paths of directories and of files, among these: that directory
@@ -53,12 +72,16 @@ const NO_COMMAND: &str = "tree: describes no command\n";
 /// - 2: a word, a variable or a name is not UTF-8, and there is no text.
 /// - 3: nothing is requested, and there is no text.
 /// - 4: the text is the path of another directory. Call again with the names in that one.
+/// - 5: the text is the words of a command, each with a vertical tab after it. Write the text to
+///   the standard output, and end your program with exit status 3. The shell then runs the command,
+///   and makes the request again. In that request, `_COMPLGEN_VALUES` is `stdin`.
 #[unsafe(no_mangle)]
 pub extern "C" fn lagvtsune_live(
     alloc: Global,
     tree: &[u8],
     words: &[&[u8]],
     variables: &[&[u8]],
+    output: &[u8],
     listed: &[u8],
     names: &[&[u8]],
     folders: &[&[u8]],
@@ -66,16 +89,18 @@ pub extern "C" fn lagvtsune_live(
     room: &mut [u8],
     status: &mut u8,
 ) -> usize
-    ensures { EndsAs (MakesReply tree.now (handed words.now) (handed variables.now) (record {
-      path = listed.now;
-      names = handed names.now;
-      folders = handed folders.now;
-      files = handed files.now;
-    })) room.old room.new status.new result }
+    ensures { EndsAs (MakesReply tree.now (handed words.now) (handed variables.now) output.now
+        (record {
+          path = listed.now;
+          names = handed names.now;
+          folders = handed folders.now;
+          files = handed files.now;
+        })) room.old room.new status.new result }
 {
+    let passed = Passed { tree, output };
     match read_request(alloc, words, variables, names) {
         Ok(Some(request)) => {
-            reply_to(alloc, tree, request, listed, folders, files).put(room, status)
+            answer_to(alloc, &passed, request, listed, folders, files).put(room, status)
         }
         Ok(None) => Outcome::NotUtf8.put(room, status),
         Err(failed) => Outcome::Failed(Refusal::from(failed)).put(room, status),
@@ -83,62 +108,93 @@ pub extern "C" fn lagvtsune_live(
 }
 
 // Returns the outcome of a request, over the directory that was passed with its names.
-fn reply_to<'r>(
+fn answer_to<'r>(
     alloc: Global,
-    tree: &[u8],
-    request: Request,
+    passed: &Passed<'_>,
+    request: RequestTexts,
     listed: &'r [u8],
     folders: &[&'r [u8]],
     files: &[&'r [u8]],
 ) -> Outcome
-    ensures { RepliesOver tree.now (map string_bytes request.words.items) request.env
-        (facts_of (record {
+    ensures { AnswersOver passed.now.tree.now (map string_bytes request.words.items) request.env
+        passed.now.output.now (facts_of (record {
           path = listed.now;
           names = map string_bytes request.names.items;
           folders = handed folders.now;
           files = handed files.now;
         }) (value_of home_name request.env)) listed.now result }
 {
-    let Request { words, env, names } = request;
+    let RequestTexts { words, env, names } = request;
     match Listed::new(alloc, listed, names, folders, files, env.get(HOME)) {
-        Ok(folder) => reply_in(alloc, tree, words, &env, folder),
+        Ok(folder) => answer_in(alloc, passed, words.as_slice(), &env, folder),
         Err(failed) => Outcome::Failed(Refusal::from(failed)),
     }
 }
 
 // Returns the outcome of a request in a directory.
-fn reply_in(
+fn answer_in(
     alloc: Global,
-    tree: &[u8],
-    words: Vec<String>,
+    passed: &Passed<'_>,
+    words: &[String],
     env: &EnvValues,
     folder: Listed<'_, '_>,
 ) -> Outcome
-    ensures { RepliesOver tree.now (map string_bytes words.items) env.now
-        (facts_of (listing_of folder.entry) (option_copied folder.entry.home))
+    ensures { AnswersOver passed.now.tree.now (map string_bytes words.now) env.now
+        passed.now.output.now (facts_of (listing_of folder.entry) (option_copied folder.entry.home))
         folder.entry.path.now result }
 {
-    let current_dir = env.get(CURRENT_DIR);
-    let replied = reply_text(alloc, env, words, Some(tree), current_dir, &folder);
+    let request = Request {
+        env,
+        words,
+        origin: Origin::Program,
+        file: Some(passed.tree),
+        current_dir: env.get(CURRENT_DIR),
+        folder: &folder,
+    };
+    let lines = PassedLines {
+        bytes: passed.output,
+    };
+    let answered = answer_request(alloc, &request, &lines);
     let path = folder.path();
-    outcome(alloc, replied, path, folder.into_wanted())
+    outcome(alloc, answered, path, folder.into_wanted())
 }
 
-// Returns the outcome of a reply. `listed` is the path of the directory that was passed, and
-// `wanted` the path of the directory whose names the reply needs instead.
+// Returns the outcome of a request by its answer. `listed` is the path of the directory that was
+// passed, and `wanted` the path of the directory whose names the answer needs instead.
 fn outcome(
     alloc: Global,
-    replied: Result<Option<Collected>, ReplyError>,
+    answered: Result<Option<Answer>, ReplyError>,
     listed: &[u8],
     wanted: Option<Text>,
 ) -> Outcome
-    ensures { EndsBy listed.now (made_text replied) result }
+    ensures { EndsBy listed.now (seen_request answered) result }
 {
-    match replied {
-        Ok(Some(text)) => Outcome::Made(Items::from(text.into_vec())),
+    match answered {
+        Ok(Some(answer)) => answer_outcome(alloc, answer),
         Ok(None) => Outcome::NotRequested,
         Err(ReplyError::Library(Error::Memory)) => out_of_memory(listed, wanted),
         Err(error) => Outcome::Failed(reply_refusal(alloc, &error)),
+    }
+}
+
+// Returns the outcome of an answer.
+fn answer_outcome(alloc: Global, answer: Answer) -> Outcome
+    ensures { Tells (seen answer) result }
+{
+    match answer {
+        Answer::Text(text) => Outcome::Made(Items::from(text.into_vec())),
+        Answer::Run(words) => run_outcome(alloc, words.as_slice()),
+    }
+}
+
+// Returns the outcome of the words of a command.
+fn run_outcome(alloc: Global, words: &[Text]) -> Outcome
+    ensures { RunsWords words.now result }
+{
+    let mut sink = Collected::new(alloc);
+    match write_run_words(words, &mut sink) {
+        Ok(()) => Outcome::Run(Items::from(sink.into_vec())),
+        Err(_) => Outcome::Failed(Refusal::from(AllocError)),
     }
 }
 
@@ -155,7 +211,7 @@ fn out_of_memory(listed: &[u8], wanted: Option<Text>) -> Outcome
     Outcome::WantsFolder(path)
 }
 
-// Returns the refusal for an error of the reply. The tree file has no path that a message could
+// Returns the refusal for an error of the answer. The tree file has no path that a message could
 // name.
 fn reply_refusal(alloc: Global, error: &ReplyError) -> Refusal
     ensures { ReportsReply error.now result }

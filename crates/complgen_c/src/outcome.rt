@@ -19,6 +19,8 @@ pub enum Outcome {
     NotRequested,
     /// 4: the call needs the names in the directory with this path. The text is the path.
     WantsFolder(Text),
+    /// 5: the shell is to run a command. The text is its words, each with a vertical tab after it.
+    Run(Items<u8>),
 }
 
 impl Outcome {
@@ -40,6 +42,7 @@ impl Outcome {
             Outcome::NotUtf8 => 2,
             Outcome::NotRequested => 3,
             Outcome::WantsFolder(_) => 4,
+            Outcome::Run(_) => 5,
         }
     }
 
@@ -47,7 +50,7 @@ impl Outcome {
         ensures { result.now ≡ text_of self.now }
     {
         match self {
-            Outcome::Made(text) => text.as_slice(),
+            Outcome::Made(text) | Outcome::Run(text) => text.as_slice(),
             Outcome::Failed(refusal) => refusal.text.as_str().as_bytes(),
             Outcome::NotUtf8 | Outcome::NotRequested => b"",
             Outcome::WantsFolder(path) => path.as_str().as_bytes(),

@@ -7,9 +7,9 @@ ghost use Rattle.complgen_c.specs.Requests.{AreTexts, IsRead, both_bytes, in_pai
 use cc_replies::EnvValues;
 use std::alloc::{AllocError, Global};
 
-/// A request, as texts.
+/// The texts of a request.
 #[derive(Drop)]
-pub struct Request {
+pub struct RequestTexts {
     pub(crate) words: Vec<String>,
     pub(crate) env: EnvValues,
     pub(crate) names: Vec<String>,
@@ -26,7 +26,7 @@ pub(crate) fn read_request(
     words: &[&[u8]],
     variables: &[&[u8]],
     names: &[&[u8]],
-) -> Result<Option<Request>, AllocError>
+) -> Result<Option<RequestTexts>, AllocError>
     ensures { IfOk result (IsRead (handed words.now) (handed variables.now) (handed names.now)) }
 {
     let Some(words) = texts(alloc, words)? else {
@@ -39,7 +39,7 @@ pub(crate) fn read_request(
         return Ok(None);
     };
     let env = EnvValues::new(pairs(alloc, variables)?);
-    Ok(Some(Request { words, env, names }))
+    Ok(Some(RequestTexts { words, env, names }))
 }
 
 // Returns copies of the slices as texts, or `None` if one of them is not UTF-8.

@@ -39,6 +39,7 @@ fn asked(
         TREE,
         &words,
         &variables,
+        &[],
         listed,
         names,
         folders,
@@ -84,5 +85,87 @@ fn what_is_not_utf8_is_refused(rt: HostRuntime) -> Result<(), Fail> {
 fn nothing_is_requested(rt: HostRuntime) -> Result<(), Fail> {
     let (length, status, _) = asked(&rt, b"", b"", &[], &[]);
     same(&rt, (length, status), (0, 3));
+    Ok(())
+}
+
+// Two arguments with a command each, and one whose values are in a file.
+const COMMANDS: &[u8] = b"{\"name\": \"app\", \"disable_help_flag\": true, \"args\": [
+    {\"id\": \"branch\", \"values_from\": [\"git\", \"branch\"]},
+    {\"id\": \"remote\", \"long\": \"remote\", \"values_from\": [\"git\", \"remote\"]},
+    {\"id\": \"user\", \"long\": \"user\", \"values_file\": \"/etc/passwd\"}]}";
+
+// Requests the value after `before` from fish, with `output` as what the command printed, and
+// returns the length, the status and the room.
+fn valued(
+    rt: &HostRuntime,
+    mode: &[u8],
+    commands: &[u8],
+    before: &[u8],
+    output: &[u8],
+) -> (usize, u8, [u8; 96]) {
+    let words: [&[u8]; 5] = [b"app", b"--", b"app", before, b""];
+    let variables: [&[u8]; 6] = [
+        b"COMPLETE",
+        b"fish",
+        b"_COMPLGEN_VALUES",
+        mode,
+        b"COMPLGEN_COMMANDS",
+        commands,
+    ];
+    let mut room = [0; 96];
+    let mut status = u8::MAX;
+    let length = lagvtsune_live(
+        rt.alloc(),
+        COMMANDS,
+        &words,
+        &variables,
+        output,
+        b"",
+        &[],
+        &[],
+        &[],
+        &mut room,
+        &mut status,
+    );
+    (length, status, room)
+}
+
+#[test]
+fn a_command_is_asked_for(rt: HostRuntime) -> Result<(), Fail> {
+    let (length, status, room) = valued(&rt, b"ask", b"", b"--", b"");
+    same(&rt, (length, status), (11, 5));
+    assert!(rt; room.starts_with(b"git\x0bbranch\x0b"));
+    Ok(())
+}
+
+#[test]
+fn the_command_of_the_open_option_is_asked_for(rt: HostRuntime) -> Result<(), Fail> {
+    let (length, status, room) = valued(&rt, b"ask", b"1", b"--remote", b"origin\n");
+    same(&rt, (length, status), (11, 5));
+    assert!(rt; room.starts_with(b"git\x0bremote\x0b"));
+    Ok(())
+}
+
+#[test]
+fn output_of_the_command_is_offered(rt: HostRuntime) -> Result<(), Fail> {
+    let (length, status, room) = valued(&rt, b"stdin", b"", b"--", b"main\tthe branch\ndev\n");
+    same(&rt, (length, status), (20, 0));
+    assert!(rt; room.starts_with(b"main\tthe branch\ndev\n"));
+    Ok(())
+}
+
+#[test]
+fn no_values_where_commands_are_off(rt: HostRuntime) -> Result<(), Fail> {
+    let (length, status, _) = valued(&rt, b"ask", b"0", b"--", b"");
+    same(&rt, (length, status), (0, 0));
+    let (length, status, _) = valued(&rt, b"stdin", b"0", b"--", b"main\n");
+    same(&rt, (length, status), (0, 0));
+    Ok(())
+}
+
+#[test]
+fn output_of_a_command_is_not_offered_for_a_file(rt: HostRuntime) -> Result<(), Fail> {
+    let (length, status, _) = valued(&rt, b"stdin", b"", b"--user", b"main\n");
+    same(&rt, (length, status), (0, 0));
     Ok(())
 }

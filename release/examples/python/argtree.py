@@ -35,12 +35,18 @@ def argument(action, prog):
 
 
 def values(action):
-    """Returns the keys for the values of an argument. A metavar with FILE in it stands for a path."""
+    """Returns the keys for the values of an argument.
+
+    A metavar with FILE in it stands for a path. An action may have an attribute `values_from`: the words of a
+    command that prints the values.
+    """
     if action.nargs == 0:
         return {"action": "SetTrue"}
     number = action.nargs or 1
     least, most = {"*": (0, None), "+": (1, None), "?": (0, 1)}.get(number, (number, number))
     made = {"num_args": [least, most], "value_hint": "AnyPath" if "FILE" in str(action.metavar) else "Unknown"}
-    if action.choices:
+    if hasattr(action, "values_from"):
+        made["values_from"] = action.values_from
+    elif action.choices:
         made["possible_values"] = [{"name": str(it)} for it in action.choices]
     return made

@@ -34,6 +34,8 @@ pub(crate) struct LiveRequest {
     pub(crate) words: Vec<Vec<u8>>,
     /// Names and values, alternating.
     pub(crate) variables: Vec<Vec<u8>>,
+    /// What the command of an argument printed.
+    pub(crate) output: Vec<u8>,
     /// The directory whose names the library may use.
     pub(crate) listing: Listing,
 }
@@ -42,6 +44,8 @@ pub(crate) struct LiveRequest {
 pub(crate) enum Answer {
     /// The registration or the reply.
     Text(Vec<u8>),
+    /// The words of a command, as the registration reads them. The shell runs it.
+    Run(Vec<u8>),
     /// The variables request nothing.
     NotRequested,
     /// The library needs the names in the directory with this path, which the request does not
@@ -59,6 +63,7 @@ pub(crate) fn live(request: &LiveRequest) -> io::Result<Answer> {
         tree: request.tree.as_bytes(),
         words: slices(&request.words),
         variables: slices(&request.variables),
+        output: &request.output,
         listed: request.listing.path.as_bytes(),
         names: slices(&request.listing.names),
         folders: slices(&request.listing.folders),
@@ -69,6 +74,7 @@ pub(crate) fn live(request: &LiveRequest) -> io::Result<Answer> {
         0 => Ok(Answer::Text(text)),
         3 => Ok(Answer::NotRequested),
         4 => Ok(Answer::WantsFolder(String::from_utf8_lossy(&text).into_owned())),
+        5 => Ok(Answer::Run(text)),
         other => Err(refusal(other, text)),
     }
 }

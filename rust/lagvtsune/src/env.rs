@@ -2,11 +2,11 @@
 
 use crate::calls::{self, Answer, LiveRequest};
 use crate::folder::{self, Listing};
-use crate::tree_file::{names_file, tree_file_of};
+use crate::tree_file::{names_file, tree_file_of, ValuesFrom};
 use clap::error::Result;
 use clap::Command;
 use std::ffi::OsString;
-use std::io::{self, Write};
+use std::io::{self, Read, Write};
 use std::os::unix::ffi::OsStringExt;
 use std::path::Path;
 use std::{env, process, str};
@@ -14,15 +14,16 @@ use std::{env, process, str};
 /// The variable with which a shell requests a registration or a reply.
 const REQUEST: &str = "COMPLETE";
 
+/// The variable by which a registration says whether it can run a command, or has run one.
+const VALUES: &str = "_COMPLGEN_VALUES";
+
+/// The variable with which a user turns commands off.
+const COMMANDS: &str = "COMPLGEN_COMMANDS";
+
 /// Other variables that a registration sets. The last two are those of `clap_complete`'s
 /// registrations.
-const SET_BESIDES: [&str; 5] = [
-    "_COMPLGEN_VALUES",
-    "_COMPLGEN_KEPT",
-    "_COMPLGEN_QUOTE",
-    "_CLAP_COMPLETE_INDEX",
-    "_CLAP_IFS",
-];
+const SET_BESIDES: [&str; 5] =
+    [VALUES, "_COMPLGEN_KEPT", "_COMPLGEN_QUOTE", "_CLAP_COMPLETE_INDEX", "_CLAP_IFS"];
 
 /// The user's home directory.
 const HOME: &str = "HOME";
@@ -30,27 +31,61 @@ const HOME: &str = "HOME";
 /// The variable in which the library expects the current directory.
 const CURRENT_DIR: &str = "PWD";
 
+/// The exit status after the words of a command, which the shell then runs.
+const RUN: u8 = 3;
+
+/// The most bytes of a command's output that count.
+const MOST_OUTPUT: usize = 16 << 20;
+
 /// Answers the completion requests of shells. Call it before the program does anything else.
 ///
 /// To enable completion, a user makes the shell load the program's output for the variable
 /// `COMPLETE`, such as by `source <(COMPLETE=bash app)` in bash.
 pub struct CompleteEnv<F> {
     factory: F,
+    sources: Vec<Source>,
+}
+
+/// The place of an argument, and the words of the command that prints its values.
+struct Source {
+    path: Vec<String>,
+    id: String,
+    words: Vec<String>,
 }
 
 impl<F: Fn() -> Command> CompleteEnv<F> {
     /// Completes the command that `factory` returns. The command must not be built yet.
     pub fn with_factory(factory: F) -> CompleteEnv<F> {
-        CompleteEnv { factory }
+        CompleteEnv { factory, sources: Vec::new() }
     }
 
-    /// If a shell requests it, writes the registration or the reply to stdout and ends the process.
-    /// The exit status is 0, or 2 after an error message. Otherwise does nothing.
+    /// Offers what a command prints as the values of an argument: each line is a value, and the
+    /// text after a tab its description. `path` has the names of the subcommands that lead to the
+    /// argument with this `id`. `words` are the program that the shell runs at a Tab, and its
+    /// arguments. They count instead of possible values.
+    ///
+    /// ```no_run
+    /// # use clap::{Arg, Command};
+    /// # use lagvtsune::CompleteEnv;
+    /// let topic = Arg::new("topic");
+    /// let app = || Command::new("app").subcommand(Command::new("switch").arg(topic.clone()));
+    /// let list = ["git", "for-each-ref", "--format=%(refname:short)", "refs/heads"];
+    /// CompleteEnv::with_factory(app).values_from(&["switch"], "topic", &list).complete();
+    /// ```
+    pub fn values_from(mut self, path: &[&str], id: &str, words: &[&str]) -> CompleteEnv<F> {
+        let owned = |texts: &[&str]| texts.iter().map(|text| String::from(*text)).collect();
+        self.sources.push(Source { path: owned(path), id: id.to_owned(), words: owned(words) });
+        self
+    }
+
+    /// If a shell requests it, writes the registration, the reply or the words of a command to
+    /// stdout, and ends the process. The exit status is 0, 3 after the words of a command, or 2
+    /// after an error message. Otherwise does nothing.
     pub fn complete(self) {
         let current_dir = env::current_dir().ok();
-        match self.try_complete(env::args_os(), current_dir.as_deref()) {
-            Ok(true) => process::exit(0),
-            Ok(false) => {}
+        match self.try_complete_asking(env::args_os(), current_dir.as_deref()) {
+            Ok(Some(status)) => process::exit(status.into()),
+            Ok(None) => {}
             Err(error) => error.exit(),
         }
     }
@@ -59,53 +94,139 @@ impl<F: Fn() -> Command> CompleteEnv<F> {
     /// of `args` is the program's name, and relative paths refer to `current_dir`. Returns whether
     /// a shell requested it.
     ///
+    /// The reply has no values from commands. [`CompleteEnv::try_complete_asking`] offers them.
+    ///
     /// # Errors
     ///
     /// - The error of stdout, if writing fails.
     /// - The library's message, before anything is written, such as for an unknown shell.
     /// - An error before anything is written, if an argument is not UTF-8.
+    /// - An error before anything is written, if the command has no argument that `values_from`
+    ///   names.
     pub fn try_complete(
         self,
         args: impl IntoIterator<Item = impl Into<OsString>>,
         current_dir: Option<&Path>,
     ) -> Result<bool> {
+        Ok(self.answer(words(args), current_dir, false)?.is_some())
+    }
+
+    /// Does the same as [`CompleteEnv::try_complete`], but may also write the words of a command.
+    /// If the shell has run that command, reads its output from stdin. Returns the exit status with
+    /// which the program must end: 0, or 3 after the words of a command. Returns `None` if no shell
+    /// requested anything.
+    ///
+    /// # Errors
+    ///
+    /// Those of [`CompleteEnv::try_complete`].
+    pub fn try_complete_asking(
+        self,
+        args: impl IntoIterator<Item = impl Into<OsString>>,
+        current_dir: Option<&Path>,
+    ) -> Result<Option<u8>> {
+        self.answer(words(args), current_dir, true)
+    }
+
+    /// Writes what is requested, and returns the exit status. Without `may_run`, commands are
+    /// turned off.
+    fn answer(
+        self,
+        words: Vec<Vec<u8>>,
+        current_dir: Option<&Path>,
+        may_run: bool,
+    ) -> Result<Option<u8>> {
         // The library decides this too, but without a request no tree should be made.
         if env::var_os(REQUEST).is_none_or(|value| value.is_empty() || value == "0") {
-            return Ok(false);
+            return Ok(None);
         }
         let home = env::var(HOME).ok().filter(|path| !path.is_empty());
         let current_dir = current_dir.and_then(Path::to_str);
-        let words: Vec<_> = args.into_iter().map(|arg| arg.into().into_vec()).collect();
-        let command = (self.factory)();
         let typed = typed_word(&words);
         let likely = typed
             .and_then(|word| str::from_utf8(word).ok())
             .and_then(|word| folder::likely_folder(word, home.as_deref(), current_dir));
-        let tree = match typed {
-            Some(_) => tree_file_of(command),
-            None => names_file(&command),
-        };
-        let mut request = LiveRequest {
-            tree,
-            variables: variables(home.as_deref(), current_dir),
+        let request = LiveRequest {
+            tree: self.tree(typed.is_some())?,
+            variables: variables(home.as_deref(), current_dir, may_run),
+            output: if may_run { output() } else { Vec::new() },
             words,
             listing: likely.map(Listing::of).unwrap_or_default(),
         };
-        let mut answer = calls::live(&request)?;
-        if let Answer::WantsFolder(path) = answer {
-            request.listing = Listing::of(path);
-            answer = calls::live(&request)?;
-        }
-        match answer {
-            Answer::Text(text) => io::stdout().write_all(&text)?,
-            Answer::NotRequested => return Ok(false),
-            // No request needs the names of two directories.
-            Answer::WantsFolder(path) => {
-                return Err(io::Error::other(format!("wanted besides: {path}")).into())
-            }
-        }
-        Ok(true)
+        write_answer(request)
     }
+
+    /// Returns the tree file: the whole one for a reply, and otherwise the names alone.
+    fn tree(&self, is_reply: bool) -> io::Result<String> {
+        let command = (self.factory)();
+        if let Some(source) = self.sources.iter().find(|it| !it.is_in(&command)) {
+            let Source { path, id, .. } = source;
+            return Err(io::Error::other(format!("values_from: no argument {id:?} at {path:?}")));
+        }
+        let sources: Vec<_> = self.sources.iter().map(Source::as_values_from).collect();
+        Ok(if is_reply { tree_file_of(command, &sources) } else { names_file(&command) })
+    }
+}
+
+impl Source {
+    /// Returns whether a command has the argument.
+    fn is_in(&self, command: &Command) -> bool {
+        let found = self.path.iter().try_fold(command, |command, name| child(command, name));
+        found.is_some_and(|command| command.get_arguments().any(|arg| arg.get_id() == &self.id))
+    }
+
+    fn as_values_from(&self) -> ValuesFrom<'_> {
+        ValuesFrom { path: &self.path, id: &self.id, words: &self.words }
+    }
+}
+
+/// Returns the subcommand with this name.
+fn child<'c>(command: &'c Command, name: &str) -> Option<&'c Command> {
+    command.get_subcommands().find(|child| child.get_name() == name)
+}
+
+/// Writes the library's answer to stdout, and returns the exit status.
+fn write_answer(mut request: LiveRequest) -> Result<Option<u8>> {
+    let mut answer = calls::live(&request)?;
+    if let Answer::WantsFolder(path) = answer {
+        request.listing = Listing::of(path);
+        answer = calls::live(&request)?;
+    }
+    let (status, text) = match answer {
+        Answer::Text(text) => (0, text),
+        Answer::Run(words) => (RUN, words),
+        Answer::NotRequested => return Ok(None),
+        // No request needs the names of two directories.
+        Answer::WantsFolder(path) => {
+            return Err(io::Error::other(format!("wanted besides: {path}")).into())
+        }
+    };
+    let mut stdout = io::stdout();
+    stdout.write_all(&text)?;
+    stdout.flush()?;
+    Ok(Some(status))
+}
+
+/// Returns what a command printed, if the registration passes it to stdin: the lines in the first
+/// 16 MiB. After an error, what was read before it counts.
+fn output() -> Vec<u8> {
+    let mut output = Vec::new();
+    if env::var_os(VALUES).is_some_and(|values| values == "stdin") {
+        let _ = io::stdin().take(MOST_OUTPUT as u64 + 1).read_to_end(&mut output);
+        cut_after_line(&mut output, MOST_OUTPUT);
+    }
+    output
+}
+
+/// Cuts bytes that exceed a limit after the last line that ends within it.
+pub(crate) fn cut_after_line(bytes: &mut Vec<u8>, limit: usize) {
+    if bytes.len() > limit {
+        let end = bytes[..limit].iter().rposition(|byte| *byte == b'\n');
+        bytes.truncate(end.map_or(0, |end| end + 1));
+    }
+}
+
+fn words(args: impl IntoIterator<Item = impl Into<OsString>>) -> Vec<Vec<u8>> {
+    args.into_iter().map(|arg| arg.into().into_vec()).collect()
 }
 
 /// Returns the last of the words after the first `--`, which is usually the one to complete. A
@@ -117,12 +238,13 @@ fn typed_word(words: &[Vec<u8>]) -> Option<&[u8]> {
 }
 
 /// Returns names and values, alternating, of the variables that are set. A directory whose path is
-/// empty or not UTF-8 is left out.
-fn variables(home: Option<&str>, current_dir: Option<&str>) -> Vec<Vec<u8>> {
-    let folders = [(HOME, home), (CURRENT_DIR, current_dir)];
-    let folders = folders.map(|(name, path)| (name, path.map(OsString::from)));
+/// empty or not UTF-8 is left out. Without `may_run`, commands are turned off.
+fn variables(home: Option<&str>, current_dir: Option<&str>, may_run: bool) -> Vec<Vec<u8>> {
+    let commands = if may_run { env::var(COMMANDS).ok() } else { Some("0".to_owned()) };
+    let others = [(HOME, home), (CURRENT_DIR, current_dir), (COMMANDS, commands.as_deref())];
+    let others = others.map(|(name, value)| (name, value.map(OsString::from)));
     let names = [REQUEST].into_iter().chain(SET_BESIDES);
     let requested = names.map(|name| (name, env::var_os(name)));
-    let set = requested.chain(folders).filter_map(|(name, value)| Some((name, value?)));
+    let set = requested.chain(others).filter_map(|(name, value)| Some((name, value?)));
     set.flat_map(|(name, value)| [name.as_bytes().to_vec(), value.into_vec()]).collect()
 }

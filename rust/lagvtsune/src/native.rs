@@ -40,10 +40,10 @@ extern "C" {
         status: *mut u8,
     ) -> usize;
 
-    /// Answers the request of a shell to the program that the tree file `tree` describes, with the
-    /// registration or with the candidates. Returns the length of the text, and copies the text to
-    /// the start of `room` if it fits there. Otherwise `room` stays unchanged, and you can call
-    /// again with more room. You may pass any bytes.
+    /// Answers the request of a shell to the program that the tree file `tree` describes: with the
+    /// registration, with the candidates, or with a command that lists values. Returns the length
+    /// of the text, and copies the text to the start of `room` if it fits there. Otherwise `room`
+    /// stays unchanged, and you can call again with more room. You may pass any bytes.
     ///
     /// `words` are the program's arguments, starting with its name. `variables` are names and
     /// values, alternating:
@@ -52,7 +52,14 @@ extern "C" {
     /// - `_COMPLGEN_VALUES`, `_COMPLGEN_KEPT` and `_COMPLGEN_QUOTE` have the values that the
     ///   registration sets. A registration of the original's form sets `_CLAP_COMPLETE_INDEX` and
     ///   `_CLAP_IFS` instead.
+    /// - `COMPLGEN_COMMANDS` turns off the commands of `values_from` if it is `0`.
     /// - `HOME` is the user's home directory, and `PWD` the directory where relative paths begin.
+    ///
+    /// `output` is what the command of an argument with `values_from` printed. It counts only if
+    /// `_COMPLGEN_VALUES` is `stdin`. In that case, your program reads it from the standard input.
+    /// Otherwise, pass no bytes. Pass only the tree of your own program, because the user's shell
+    /// runs the commands that it names. This function offers no values for `values_file` and for
+    /// the hints `Username`, `Hostname` and `CommandName`.
     ///
     /// `names` are the names in the directory at the path `listed`, or none if it can't be read.
     /// `folders` and `files` are the paths of directories and of files, among these: that directory
@@ -66,12 +73,15 @@ extern "C" {
     /// - 2: a word, a variable or a name is not UTF-8, and there is no text.
     /// - 3: nothing is requested, and there is no text.
     /// - 4: the text is the path of another directory. Call again with the names in that one.
+    /// - 5: the text is the words of a command, each with a vertical tab after it. Write the text
+    ///   to the standard output, and end your program with exit status 3. The shell then runs the
+    ///   command, and makes the request again. In that request, `_COMPLGEN_VALUES` is `stdin`.
     ///
     /// Proved (`crates/complgen_c/src/live.rt`):
     ///
     /// ```text
-    /// EndsAs (MakesReply tree.now (handed words.now) (handed variables.now) (record { path =
-    /// listed.now; names = handed names.now; folders = handed folders.now; files = handed
+    /// EndsAs (MakesReply tree.now (handed words.now) (handed variables.now) output.now (record {
+    /// path = listed.now; names = handed names.now; folders = handed folders.now; files = handed
     /// files.now; })) room.old room.new status.new result
     /// ```
     fn lagvtsune_live(
@@ -81,6 +91,8 @@ extern "C" {
         words_length: usize,
         variables: *const Bytes<'_>,
         variables_length: usize,
+        output: *const u8,
+        output_length: usize,
         listed: *const u8,
         listed_length: usize,
         names: *const Bytes<'_>,
@@ -112,8 +124,8 @@ impl<'b> From<&'b [u8]> for Bytes<'b> {
 /// The result of a function of the library.
 pub(crate) struct Returned {
     /// The end of the call: 0 with the text, 1 with an error message instead, 2 with neither,
-    /// because a name or a word is not UTF-8. `live` also returns 3 if nothing is requested, and 4
-    /// with the path of a directory whose names it needs.
+    /// because a name or a word is not UTF-8. `live` also returns 3 if nothing is requested, 4 with
+    /// the path of a directory whose names it needs, and 5 with the words of a command.
     pub(crate) status: u8,
     /// The length of the text in bytes. If the text fits, it is at the start of the room. Otherwise
     /// the room is unchanged.
@@ -149,6 +161,8 @@ pub(crate) struct Request<'r> {
     pub(crate) words: Vec<Bytes<'r>>,
     /// Names and values, alternating.
     pub(crate) variables: Vec<Bytes<'r>>,
+    /// What the command of an argument printed.
+    pub(crate) output: &'r [u8],
     /// The path of the directory with these names.
     pub(crate) listed: &'r [u8],
     pub(crate) names: Vec<Bytes<'r>>,
@@ -158,7 +172,7 @@ pub(crate) struct Request<'r> {
     pub(crate) files: Vec<Bytes<'r>>,
 }
 
-/// Writes the registration or the reply that is requested to `room`. All bytes are allowed.
+/// Writes the registration, the reply or the command that is requested to `room`. All bytes are allowed.
 /// Allocates only the memory that the library requests.
 pub(crate) fn live(request: &Request<'_>, room: &mut [u8]) -> Returned {
     let mut status = u8::MAX;
@@ -171,6 +185,8 @@ pub(crate) fn live(request: &Request<'_>, room: &mut [u8]) -> Returned {
             request.words.len(),
             request.variables.as_ptr(),
             request.variables.len(),
+            request.output.as_ptr(),
+            request.output.len(),
             request.listed.as_ptr(),
             request.listed.len(),
             request.names.as_ptr(),

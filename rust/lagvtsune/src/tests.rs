@@ -1,10 +1,11 @@
 //! Tests the library's functions with arbitrary bytes, and with allocations that are refused.
 
 use crate::calls::slices;
+use crate::env::cut_after_line;
 use crate::folder::likely_folder;
 use crate::native::refusing::refused;
 use crate::native::{self, Request, Returned};
-use crate::tree_file::{names_file, tree_file};
+use crate::tree_file::{names_file, tree_file, tree_file_of, ValuesFrom};
 use clap::{value_parser, Arg, ArgAction, ArgGroup, Command};
 use std::collections::hash_map::DefaultHasher;
 use std::hash::{Hash, Hasher};
@@ -19,6 +20,11 @@ const TREE: &str = r#"{"name": "app", "version": "1", "args": [
      "possible_values": [{"name": "auto"}, {"name": "never", "help": "None"}]}],
     "subcommands": [{"name": "run", "visible_aliases": ["r"], "about": "Run it",
      "args": [{"id": "file", "long": "file", "value_hint": "AnyPath"}]}]}"#;
+
+/// A tree with an argument whose values come from a command, and one whose values are in a file.
+const ASKING: &str = r#"{"name": "app", "disable_help_flag": true, "args": [
+    {"id": "branch", "long": "branch", "values_from": ["git", "branch"]},
+    {"id": "user", "long": "user", "values_file": "/etc/passwd"}]}"#;
 
 #[test]
 fn a_tree_file_has_what_only_a_built_command_says() {
@@ -47,6 +53,46 @@ fn a_tree_file_has_what_only_a_built_command_says() {
         assert!(!text.contains(added), "{added} is in {text}");
     }
     assert_eq!(text, tree_file(&command));
+}
+
+#[test]
+fn a_tree_file_has_the_words_of_commands() {
+    let level = Arg::new("level").long("level").value_parser(["fast", "best"]);
+    let add = Command::new("add").visible_alias("a").arg(level.clone());
+    let command = Command::new("app").arg(level).subcommands([add, Command::new("list")]);
+    let texts = |texts: &[&str]| texts.iter().map(|text| String::from(*text)).collect();
+    let (path, words): (Vec<_>, Vec<_>) = (texts(&["add"]), texts(&["print \"it\"", ""]));
+    let source = ValuesFrom { path: &path, id: "level", words: &words };
+    let text = tree_file_of(command.clone(), &[source]);
+    let (root, below) = text.split_once("\"subcommands\"").unwrap();
+    assert!(root.contains(r#""possible_values""#) && !root.contains("values_from"), "{text}");
+    assert!(below.contains("\"values_from\": [\"print \\\"it\\\"\",\n\"\"]"), "{text}");
+    assert!(!below.contains("possible_values"), "{text}");
+    // An alias or another id leads to no argument.
+    for (path, id) in
+        [(texts(&["a"]), "level"), (texts(&["add"]), "speed"), (texts(&["add", "add"]), "level")]
+    {
+        let other: Vec<String> = path;
+        let source = ValuesFrom { path: &other, id, words: &words };
+        assert_eq!(tree_file_of(command.clone(), &[source]), tree_file(&command));
+    }
+}
+
+#[test]
+fn an_output_that_is_too_long_is_cut_after_a_line() {
+    let cases: [(&[u8], &[u8]); 6] = [
+        (b"", b""),
+        (b"a\nbcd", b"a\nbcd"),
+        (b"a\nbc\nd", b"a\nbc\n"),
+        (b"a\nb\ncd", b"a\nb\n"),
+        (b"abcdefgh", b""),
+        (b"abcde\n", b""),
+    ];
+    for (bytes, expected) in cases {
+        let mut cut = bytes.to_vec();
+        cut_after_line(&mut cut, 5);
+        assert_eq!(cut, expected, "{bytes:?}");
+    }
 }
 
 /// Makes a call with this much room. Returns its status, its length, and the content of the room.
@@ -80,20 +126,20 @@ fn each_status_has_its_text() {
     assert_eq!(text_of("fish", b"\xff", b"{}"), (2, String::new()));
 }
 
-/// Makes a call that returns this text once for each of its allocations, which is refused, and
-/// again after each. Returns the number of allocations.
-fn refuse_each(text: &[u8], call: impl Fn(&mut [u8]) -> Returned) -> usize {
+/// Makes a call that returns this status and text once for each of its allocations, which is
+/// refused, and again after each. Returns the number of allocations.
+fn refuse_each(end: u8, text: &[u8], call: impl Fn(&mut [u8]) -> Returned) -> usize {
     let mut room = vec![0; 1 << 16];
     for number in 1.. {
         let (Returned { status, length }, left) = refused(number, || call(&mut room));
         assert_eq!(left, 0, "blocks that were not freed where allocation {number} is refused");
-        if status == 0 {
+        if status == end {
             assert_eq!(&room[..length], text);
             return number - 1;
         }
         assert_eq!((status, &room[..length]), (1, &b"out of memory\n"[..]));
         let Returned { status, length } = call(&mut room);
-        assert_eq!((status, &room[..length]), (0, text));
+        assert_eq!((status, &room[..length]), (end, text));
     }
     unreachable!("each call has so many allocations")
 }
@@ -103,7 +149,7 @@ fn a_refused_allocation_of_a_script_is_an_error_that_loses_nothing() {
     for shell in SHELLS {
         let (status, whole) = text_of(shell, b"app", TREE.as_bytes());
         assert_eq!(status, 0, "{whole}");
-        let count = refuse_each(whole.as_bytes(), |room| {
+        let count = refuse_each(0, whole.as_bytes(), |room| {
             native::script(shell.as_bytes(), b"app", TREE.as_bytes(), room)
         });
         assert!(count > 20, "{shell}: only {count} allocations");
@@ -123,6 +169,7 @@ fn request(names: Option<&'static [&'static str]>) -> Request<'static> {
         tree: TREE.as_bytes(),
         words: slices(&WORDS),
         variables: slices(&REQUEST),
+        output: b"",
         listed: if names.is_some() { b"/w/" } else { b"" },
         names: slices(names.unwrap_or(&[])),
         folders: slices(&["/w/", "/w/src"]),
@@ -173,8 +220,54 @@ fn a_word_without_a_slash_has_no_likely_folder() {
 #[test]
 fn a_refused_allocation_of_a_reply_is_an_error_that_loses_nothing() {
     let known = request(Some(&["src", "a.txt"]));
-    let count = refuse_each(b".,a.txt,src/", |room| native::live(&known, room));
+    let count = refuse_each(0, b".,a.txt,src/", |room| native::live(&known, room));
     assert!(count > 20, "only {count} allocations");
+}
+
+/// A request of fish for a value of this option, in this mode, with the output of a command.
+fn asking<'r>(words: &'r [&str], variables: &'r [&str], output: &'r [u8]) -> Request<'r> {
+    Request {
+        tree: ASKING.as_bytes(),
+        words: slices(words),
+        variables: slices(variables),
+        output,
+        ..request(Some(&[]))
+    }
+}
+
+/// Returns the status and the text of such a request.
+fn asked(option: &str, mode: &str, commands: &str, output: &[u8]) -> (u8, String) {
+    let words = ["app", "--", "app", option, ""];
+    let variables = ["COMPLETE", "fish", "_COMPLGEN_VALUES", mode, "COMPLGEN_COMMANDS", commands];
+    let mut room = vec![0; 1 << 10];
+    let Returned { status, length } = native::live(&asking(&words, &variables, output), &mut room);
+    (status, String::from_utf8(room[..length].to_vec()).unwrap())
+}
+
+#[test]
+fn a_command_is_asked_for_and_its_lines_are_offered() {
+    let output = b"main\tthe branch\nnext\n";
+    let nothing = (0, String::new());
+    assert_eq!(asked("--branch", "ask", "", b""), (5, "git\x0bbranch\x0b".to_owned()));
+    assert_eq!(asked("--branch", "ask", "1", output), (5, "git\x0bbranch\x0b".to_owned()));
+    assert_eq!(asked("--branch", "stdin", "", output).1, "main\tthe branch\nnext\n");
+    assert_eq!(asked("--branch", "stdin", "", b""), nothing);
+    assert_eq!(asked("--branch", "other", "", output), nothing);
+    for mode in ["ask", "stdin"] {
+        assert_eq!(asked("--branch", mode, "0", output), nothing, "{mode}");
+        assert_eq!(asked("--user", mode, "", output), nothing, "{mode}");
+    }
+}
+
+#[test]
+fn a_refused_allocation_of_words_and_lines_is_an_error_that_loses_nothing() {
+    let words = ["app", "--", "app", "--branch", ""];
+    for (mode, end, text) in [("ask", 5, &b"git\x0bbranch\x0b"[..]), ("stdin", 0, b"main\n")] {
+        let variables = ["COMPLETE", "fish", "_COMPLGEN_VALUES", mode];
+        let made = asking(&words, &variables, b"main\n");
+        let count = refuse_each(end, text, |room| native::live(&made, room));
+        assert!(count > 20, "{mode}: only {count} allocations");
+    }
 }
 
 /// Requests for a registration, for words with these beginnings, and for a path.
@@ -280,9 +373,9 @@ impl Numbers {
     }
 
     /// Returns a tree file in which some bytes may be replaced or left out.
-    fn changed_tree(&mut self) -> Vec<u8> {
+    fn changed_tree(&mut self, tree: &str) -> Vec<u8> {
         const OTHERS: &[u8] = b"{}[]\",:\\0 a\xff";
-        let mut tree = TREE.as_bytes().to_vec();
+        let mut tree = tree.as_bytes().to_vec();
         for _ in 0..self.below(4) {
             let at = self.below(tree.len());
             if self.next() % 2 == 0 {
@@ -308,7 +401,7 @@ fn any_bytes_end_with_a_status() {
         let bin = if numbers.below(4) == 0 { numbers.bytes(20) } else { b"app".to_vec() };
         let tree = match numbers.below(4) {
             0 => numbers.bytes(200),
-            _ => numbers.changed_tree(),
+            _ => numbers.changed_tree(TREE),
         };
         let size = numbers.below(room.len());
         ends[native::script(&shell, &bin, &tree, &mut room[..size]).status as usize] += 1;
@@ -339,7 +432,7 @@ fn any_request_ends_with_a_status() {
     for _ in 0..20_000 {
         let tree = match numbers.below(4) {
             0 => numbers.bytes(200),
-            _ => numbers.changed_tree(),
+            _ => numbers.changed_tree(TREE),
         };
         let [further, variables, names, folders, files] = [(); 5].map(|()| words(&mut numbers));
         let line = &WORDS[..numbers.below(WORDS.len())];
@@ -348,6 +441,7 @@ fn any_request_ends_with_a_status() {
             tree: &tree,
             words: slices(line).into_iter().chain(slices(&further)).collect(),
             variables: slices(shell).into_iter().chain(slices(&variables)).collect(),
+            output: b"a\tb\nc",
             listed: names.first().map_or(b"", |name| name),
             names: slices(&names),
             folders: slices(&folders),
@@ -357,4 +451,24 @@ fn any_request_ends_with_a_status() {
         ends[native::live(&made, &mut room[..size]).status as usize] += 1;
     }
     assert!(ends.iter().all(|count| *count > 50), "{ends:?}");
+}
+
+#[test]
+fn any_output_ends_with_a_status() {
+    const MODES: [&str; 4] = ["ask", "stdin", "stdin", "other"];
+    let mut numbers = Numbers(3);
+    let mut ends = [0; 6];
+    let mut room = vec![0; 1 << 12];
+    for _ in 0..20_000 {
+        let tree = numbers.changed_tree(ASKING);
+        let output = numbers.bytes(300);
+        let variables = ["COMPLETE", "fish", "_COMPLGEN_VALUES", MODES[numbers.below(4)]];
+        let typed = ["", "a", "--", "\u{e9}"][numbers.below(4)];
+        let words = ["app", "--", "app", "--branch", typed];
+        let made = Request { tree: &tree, ..asking(&words, &variables, &output) };
+        let size = numbers.below(room.len());
+        ends[native::live(&made, &mut room[..size]).status as usize] += 1;
+    }
+    let [made, failed, .., runs] = ends;
+    assert!(made > 500 && failed > 500 && runs > 500, "{ends:?}");
 }

@@ -25,16 +25,37 @@ trait LaterGetters {
 impl LaterGetters for Arg {}
 impl LaterGetters for Command {}
 
-/// Returns the tree file of a command that is not built yet.
-pub fn tree_file(command: &Command) -> String {
-    tree_file_of(command.clone())
+/// A command that prints the values of an argument.
+#[derive(Clone, Copy)]
+pub struct ValuesFrom<'v> {
+    /// The names of the subcommands that lead to the argument.
+    pub path: &'v [String],
+    /// The id of the argument.
+    pub id: &'v str,
+    /// The words of the command: a program and its arguments.
+    pub words: &'v [String],
 }
 
-/// Returns the same as [`tree_file`], but consumes the command.
-pub fn tree_file_of(mut command: Command) -> String {
+impl<'v> ValuesFrom<'v> {
+    /// Returns the same, as seen from the subcommand with this name. Returns `None` if the argument
+    /// is not below that subcommand.
+    fn below(self, name: &str) -> Option<ValuesFrom<'v>> {
+        let (first, path) = self.path.split_first()?;
+        (first == name).then_some(ValuesFrom { path, ..self })
+    }
+}
+
+/// Returns the tree file of a command that is not built yet.
+pub fn tree_file(command: &Command) -> String {
+    tree_file_of(command.clone(), &[])
+}
+
+/// Returns the same as [`tree_file`], but consumes the command, and adds the words of commands that
+/// print values. These count instead of possible values.
+pub fn tree_file_of(mut command: Command, sources: &[ValuesFrom<'_>]) -> String {
     let declared = command.get_arguments().count();
     let mut out = String::with_capacity(LEAST_ROOM);
-    command_object(&mut out, &mut command, declared);
+    command_object(&mut out, &mut command, declared, sources);
     out.push('\n');
     out
 }
@@ -69,7 +90,12 @@ fn build_alone(command: &mut Command) {
 }
 
 /// Writes a command with its first `arg_count` arguments, which it declares, and what it inherits.
-fn command_object(out: &mut String, command: &mut Command, arg_count: usize) {
+fn command_object(
+    out: &mut String,
+    command: &mut Command,
+    arg_count: usize,
+    sources: &[ValuesFrom<'_>],
+) {
     // Only a built command has what it inherits, and the conflicts of its arguments.
     let args: Vec<Declared> = command.get_arguments().take(arg_count).map(Declared::of).collect();
     let children = declared_children(command);
@@ -78,10 +104,21 @@ fn command_object(out: &mut String, command: &mut Command, arg_count: usize) {
     command_texts(&mut object, command);
     command_flags(&mut object, command, !children.is_empty());
     let args = command.get_arguments().zip(&args);
-    object.list("args", args, |out, (arg, declared)| arg_object(out, arg, declared, command));
+    object.list("args", args, |out, (arg, declared)| {
+        arg_object(out, arg, declared, command, words_for(arg, sources));
+    });
     let children = command.get_subcommands_mut().zip(children);
-    object.list("subcommands", children, |out, (child, count)| command_object(out, child, count));
+    object.list("subcommands", children, |out, (child, count)| {
+        let sources: Vec<_> = sources.iter().filter_map(|it| it.below(child.get_name())).collect();
+        command_object(out, child, count, &sources);
+    });
     object.end()
+}
+
+/// Returns the words of the command that prints the values of an argument; none without a command.
+fn words_for<'v>(arg: &Arg, sources: &[ValuesFrom<'v>]) -> &'v [String] {
+    let found = sources.iter().find(|it| it.path.is_empty() && arg.get_id() == it.id);
+    found.map_or(&[], |it| it.words)
 }
 
 fn command_texts(object: &mut Object<'_>, command: &Command) {
@@ -134,8 +171,15 @@ impl Declared {
     }
 }
 
-/// Writes an argument of a built command as it was declared.
-fn arg_object(out: &mut String, arg: &Arg, declared: &Declared, command: &Command) {
+/// Writes an argument of a built command as it was declared, with the words of the command that
+/// prints its values, if there are any.
+fn arg_object(
+    out: &mut String,
+    arg: &Arg,
+    declared: &Declared,
+    command: &Command,
+    words: &[String],
+) {
     let mut object = Object::new(out);
     object.text("id", Some(arg.get_id().as_str()));
     arg_names(&mut object, arg);
@@ -145,7 +189,10 @@ fn arg_object(out: &mut String, arg: &Arg, declared: &Declared, command: &Comman
         value_range(object.key("num_args"), range);
     }
     object.list("value_names", arg.get_value_names().unwrap_or(&[]), |out, it| quote(out, it));
-    object.list("possible_values", &arg.get_possible_values(), value_object);
+    if words.is_empty() {
+        object.list("possible_values", &arg.get_possible_values(), value_object);
+    }
+    object.list("values_from", words, |out, it| quote(out, it));
     let hint = arg.get_value_hint();
     if hint != ValueHint::Unknown {
         object.word("value_hint", hint);

@@ -3,14 +3,22 @@
 
 use clap::{Arg, Command, ValueHint};
 use lagvtsune::CompleteEnv;
+use std::io::Write;
 use std::path::{Path, PathBuf};
-use std::process::{self, Output};
+use std::process::{self, Output, Stdio};
 use std::{env, fs, str};
 
 fn main() {
     // The name of the tree that this process completes.
     match env::var("APP").as_deref() {
         Ok("paths") => CompleteEnv::with_factory(paths).complete(),
+        Ok("values") => values().complete(),
+        Ok("no status") => {
+            let args = env::args_os();
+            assert!(values().try_complete(args, None).unwrap(), "nothing is requested");
+            return;
+        }
+        Ok("no argument") => values().values_from(&["add", "s"], "level", &["x"]).complete(),
         _ => CompleteEnv::with_factory(app).complete(),
     }
     if env::var_os("APP").is_some() {
@@ -22,6 +30,7 @@ fn main() {
     refusals();
     nothing_is_requested();
     paths_of_a_folder();
+    values_of_a_command();
     println!("requests: passed");
 }
 
@@ -36,11 +45,29 @@ fn paths() -> Command {
     Command::new("app").disable_help_flag(true).arg(file)
 }
 
+/// A completion of a command with a value from a command, below a child.
+fn values() -> CompleteEnv<fn() -> Command> {
+    let app: fn() -> Command = || {
+        let app = Command::new("app").disable_help_flag(true);
+        app.subcommand(Command::new("switch").arg(Arg::new("topic")))
+    };
+    CompleteEnv::with_factory(app).values_from(&["switch"], "topic", &["git", "branch"])
+}
+
 /// Runs this program with these words, and with variables that request a completion of a tree.
 fn run(tree: &str, variables: &[(&str, &str)], words: &[&str]) -> Output {
-    let program = env::current_exe().unwrap();
-    let mut child = process::Command::new(program);
-    child.env("APP", tree).envs(variables.iter().copied()).args(words).output().unwrap()
+    run_with(tree, variables, words, b"")
+}
+
+/// Does the same with bytes on stdin.
+fn run_with(tree: &str, variables: &[(&str, &str)], words: &[&str], input: &[u8]) -> Output {
+    let mut command = process::Command::new(env::current_exe().unwrap());
+    command.env("APP", tree).envs(variables.iter().copied()).args(words);
+    command.stdin(Stdio::piped()).stdout(Stdio::piped()).stderr(Stdio::piped());
+    let mut child = command.spawn().unwrap();
+    // A program that reads nothing may have ended already.
+    let _ = child.stdin.take().unwrap().write_all(input);
+    child.wait_with_output().unwrap()
 }
 
 /// Returns the output of a request that must end with status 0 and without a message.
@@ -113,4 +140,32 @@ fn paths_of_a_folder() {
         .unwrap();
     assert_eq!(str::from_utf8(&inside.stdout).unwrap().trim_end(), "a.txt");
     fs::remove_dir_all(&folder).unwrap();
+}
+
+fn values_of_a_command() {
+    let words = ["--", "app", "switch", ""];
+    let request = |tree, mode, commands, input: &[u8]| {
+        let fish = ("COMPLETE", "fish");
+        let variables = [fish, ("_COMPLGEN_VALUES", mode), ("COMPLGEN_COMMANDS", commands)];
+        let Output { status, stdout, stderr } = run_with(tree, &variables, &words, input);
+        assert!(stderr.is_empty(), "{}", String::from_utf8_lossy(&stderr));
+        (status.code().unwrap(), String::from_utf8(stdout).unwrap())
+    };
+    let lines = "main\tthe branch\nnext\n";
+    let nothing = (0, String::new());
+    assert_eq!(request("values", "ask", "", b""), (3, "git\x0bbranch\x0b".to_owned()));
+    assert_eq!(request("values", "stdin", "", lines.as_bytes()), (0, lines.to_owned()));
+    for tree in ["values", "no status"] {
+        assert_eq!(request(tree, "ask", "0", b""), nothing);
+        assert_eq!(request(tree, "stdin", "0", lines.as_bytes()), nothing);
+    }
+    assert_eq!(request("no status", "ask", "1", b""), nothing);
+    // Only whole lines within 16 MiB count.
+    let mut long = lines.as_bytes().to_vec();
+    long.resize((16 << 20) + 1, b'x');
+    assert_eq!(request("values", "stdin", "", &long), (0, lines.to_owned()));
+    let wrong = run("no argument", &[("COMPLETE", "fish")], &words);
+    assert_eq!(wrong.status.code(), Some(2));
+    let message = str::from_utf8(&wrong.stderr).unwrap();
+    assert!(message.contains("no argument \"level\" at [\"add\", \"s\"]"), "{message}");
 }

@@ -1,12 +1,12 @@
 use Rattle.complgen_c.specs.Live.{not_utf8, out_of_memory}
-use Rattle.complgen_c.proofs.ReplyLemmas.{request_replied}
+use Rattle.complgen_c.proofs.ReplyLemmas.{request_answered}
 use Rattle.complgen_c.proofs.live.lagvtsune_live.Goals as goal
 
 pub returns-in-Ok-Some : goal.returns-in-Ok-Some
 returns-in-Ok-Some c = record {
-  outcome = c.reply_to.result;
-  may_end = request_replied c.args.tree.now _ _ _ _ _ _ _ _
-      (rw c.in-Ok-Some.field-0-is at c.in-Ok-Some.ensures) c.reply_to.ensures;
+  outcome = c.answer_to.result;
+  may_end = request_answered c.args.tree.now _ _ _ _ _ _ _ _ _
+      (rw c.in-Ok-Some.field-0-is at c.in-Ok-Some.ensures) c.answer_to.ensures;
   returns = c.put.ensures;
 }
 
