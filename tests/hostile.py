@@ -3,18 +3,21 @@
 
     tests/hostile.py [--seed N] [--runs N] [--only N]
 
-Four of seven runs are of `complgen` over a changed tree file of examples/, one of these with `check`.
+Four of eight runs are of `complgen` over a changed tree file of examples/, one of these with `check`.
 The changes are these: bytes flipped, cut out or doubled, keys exchanged, numbers out of range, values
 of another kind, and objects nested as deep as a file may nest and deeper. One run is `complgen
 candidates` with random words and a random index. One is `larder`, and one is `complgen` as a shell runs
 it, both with random words and environment values. For `complgen` the directories of tree files then
-have changed files and odd names, or do not exist. The input need not be UTF-8.
+have changed files and odd names, or do not exist. The last run is `complgen` as a shell runs it over a
+tree file, changed or not, whose arguments have values from commands, files and hints, with random lines
+on the standard input. The input need not be UTF-8.
 
-Each run has to end within a second, by no signal, with status 0, 1 or 2. With status 0, it prints
-nothing to the standard error, except how many tree files it skipped. With another status, it
-prints nothing to the standard output. To the standard error it prints one of the texts that
-docs/TEXTS.md lists, or the command line's own text, or nothing if a program has no tree file. Only
-`check` prints findings to the standard output, at least one if the status is 1.
+Each run has to end within a second, by no signal, with status 0, 1 or 2, or with 3 if a shell requests
+something. With status 0, it prints nothing to the standard error, except how many tree files it skipped.
+With status 3, it prints words to the standard output, each with a vertical tab after it, and nothing
+else. With another status, it prints nothing to the standard output. To the standard error it prints one
+of the texts that docs/TEXTS.md lists, or the command line's own text, or nothing if a program has no
+tree file. Only `check` prints findings to the standard output, at least one if the status is 1.
 
 The script prints each run that fails with its number, which --only repeats. Then it prints how many
 runs ended with which text. The status is 0 if no run failed.
@@ -69,7 +72,8 @@ PASSED_OVER = r"complgen: tree files skipped because their names are not plain: 
 # A line of `complgen check`.
 FINDING = r"[0-9]+:[0-9]+: (error|warning|note): .*: .*"
 
-Case = collections.namedtuple("Case", "kind words environment")
+# A run: the program, its words, the environment, and the standard input.
+Case = collections.namedtuple("Case", "kind words environment given", defaults=[b""])
 
 
 def main():
@@ -128,7 +132,7 @@ def run(case, program, folder):
     environment = {"PATH": os.environ["PATH"], "HOME": folder, **case.environment}
     try:
         done = subprocess.run(
-            [program, *case.words], env=environment, cwd=folder, stdin=subprocess.DEVNULL,
+            [program, *case.words], env=environment, cwd=folder, input=case.given,
             capture_output=True, timeout=SECONDS,
         )
     except subprocess.TimeoutExpired:
@@ -142,6 +146,9 @@ def judged(kind, status, written, printed):
     if status == 0:
         known = not printed or kind == "complgen" and re.fullmatch(PASSED_OVER, printed)
         return "status 0", None if known else f"prints {printed!r}"
+    if status == 3 and kind == "complgen":
+        whole = written.endswith(b"\v") and b"\0" not in written and not printed
+        return "status 3", None if whole else f"prints {written!r} and {printed!r}"
     if status == 1 and kind == "complgen" and not printed:
         return "status 1, no tree file", f"wrote {len(written)} bytes" if written else None
     for text in REFUSALS[kind].get(status, []):
@@ -162,9 +169,11 @@ def fault_of_check(status, written, printed):
 
 
 def case_of(chance, number, trees, path):
-    kind = number % 7
+    kind = number % 8
     if kind == 5:
         return requested(chance, trees, path)
+    if kind == 7:
+        return with_lines(chance, path)
     if kind < 3 or kind == 6:
         with open(path, "wb") as file:
             file.write(changed_tree(chance, trees))
@@ -208,6 +217,53 @@ def requested(chance, trees, path):
             "XDG_DATA_DIRS": chance.choice([folder, b"", b":", b"relative:" + folder]),
         }
     return Case("complgen", words, variables)
+
+
+# A tree whose arguments have values from outside the tree.
+SOURCES = json.dumps({
+    "name": "app", "disable_help_flag": True,
+    "args": [
+        {"id": "onto", "long": "onto", "short": "o", "values_from": ["git", "branch"]},
+        {"id": "image", "long": "image", "values_from": ["docker", "images", ""], "values_split": " "},
+        {"id": "package", "long": "package", "values_file": "lines"},
+        {"id": "user", "long": "user", "value_hint": "Username"},
+        {"id": "host", "long": "host", "value_hint": "Hostname"},
+        {"id": "program", "long": "program", "value_hint": "CommandName"},
+        {"id": "branch", "num_args": [0, None], "values_from": ["git", "branch"], "values_split": ":"},
+    ],
+}).encode()
+
+LINE_PIECES = [
+    b"main", b"-x", b"--exec=touch hit", b"$(touch hit)", b"`hit`", b"a b", b"\t", b":", b" ", b"\r", b"\0",
+    b"\x1b[31m", b"\xff", b"\xc3", b"\xc3\xa9", b"'", b'"', b"", b"x" * 5000,
+]
+
+
+def with_lines(chance, path):
+    """Returns a run of `complgen` as a shell runs it, over a tree with values from outside it."""
+    folder = os.fsencode(path + ".d")
+    os.makedirs(folder, exist_ok=True)
+    tree = SOURCES if chance.randrange(2) else changed_tree(chance, {"sources": SOURCES})
+    with open(os.path.join(folder, b"app.json"), "wb") as file:
+        file.write(tree)
+    with open(os.path.join(folder, b"lines"), "wb") as file:
+        file.write(odd_lines(chance))
+    asked = chance.choice([b"--onto", b"-o", b"--image", b"--package", b"--user", b"--host", b"--program"])
+    before = chance.choice([[], [asked], [asked + b"="], odd_words(chance, 3)])
+    variables = asking(chance) | {
+        "COMPLETE": chance.choice(SHELLS), "COMPLGEN_PATH": folder,
+        "_COMPLGEN_VALUES": chance.choice(["ask", "stdin"]),
+    }
+    if not chance.randrange(6):
+        variables["COMPLGEN_COMMANDS"] = chance.choice(["0", "1", "", b"\xff"])
+    words = ["--", b"app", *before, chance.choice([b"", b"m", odd_word(chance)])]
+    return Case("complgen", words, variables, odd_lines(chance))
+
+
+def odd_lines(chance):
+    ends = [b"\n", b"\n", b"\n", b"\r\n", b""]
+    lines = (chance.choice(LINE_PIECES) + chance.choice(LINE_PIECES) + chance.choice(ends) for _ in range(40))
+    return b"".join(lines) if chance.randrange(8) else chance.randbytes(3000)
 
 
 def words_over(chance, path):

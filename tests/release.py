@@ -13,8 +13,9 @@ parts, all by default:
 - manuals: `man --warnings` and `mandoc -Tlint` find nothing in the man pages;
 - live: live completion in bash, zsh, fish and Elvish, by the lines of docs/LIVE.md and docs/INSTALL.md;
 - own: the completions of complgen itself in the same shells, by the lines of docs/INSTALL.md;
-- library: symbols, pkg-config, the C examples under valgrind, memory of a program's own, the Python example;
-- tab: a Tab in bash and fish, for the examples in C and Python;
+- library: symbols, pkg-config, the C examples under valgrind, memory of a program's own, the Python example,
+  values from a command;
+- tab: a Tab in bash and fish, for the examples in C and Python, also for a value from a command;
 - crate: a new cargo project builds offline with the Rust package, writes a script and answers a request.
 
 Prints a line for each part. A part whose tools are not installed is skipped. The status is 0 if none failed.
@@ -61,6 +62,13 @@ edition = "2021"
 clap = {{ version = "4", features = ["derive"] }}
 lagvtsune = {{ path = "{}" }}
 """
+
+
+# What the examples print if a shell asks for the users of the system, and lines that a command may have printed.
+USERS = "".join(f"{word}\v" for word in ("cut", "-d:", "-f1", "/etc/passwd"))
+LINES = "one\tthe first\ntwo\n"
+# The number of bytes of a command's output that count.
+LIMIT = 16 << 20
 
 
 # A Tab to try: a shell, its home directory and the line of its start file; the program to complete and the
@@ -140,7 +148,8 @@ class Files:
 
 def run(words, status=0, **how):
     """Runs a program in an empty environment and returns its output, with stderr. Checks its status."""
-    how = {"env": {"PATH": SYSTEM}, "stdin": subprocess.DEVNULL, "stderr": subprocess.STDOUT, "timeout": 300, **how}
+    how = {"env": {"PATH": SYSTEM}, "stderr": subprocess.STDOUT, "timeout": 300, **how}
+    how.update({} if "input" in how else {"stdin": subprocess.DEVNULL})
     ran = subprocess.run(words, stdout=subprocess.PIPE, **how)
     text = ran.stdout.decode(errors="replace")
     if ran.returncode != status:
@@ -243,7 +252,8 @@ def program(files):
         text = run([complgen, "script", "--shell", shell, "--bin", "app", tree], env={})
         check("dir" in text, f"the script for {shell} lacks the option")
     check(run([complgen, "check", tree], env={}) == "", "check reports something")
-    for name in ("LICENSES-THIRD-PARTY", "docs/tree.schema.json", "docs/INSTALL.md", "examples/tree.json", "NOTICE"):
+    for name in ("LICENSES-THIRD-PARTY", "docs/tree.schema.json", "docs/INSTALL.md", "examples/tree.json",
+                 "examples/values/docker.json", "NOTICE"):
         check(os.path.exists(os.path.join(prefix, "share/doc/complgen", name)), f"{name} is missing")
     return said.strip()
 
@@ -408,12 +418,32 @@ def library(files):
     reply = run([*quiet, greet, "--", "greet", f"{root}/include/lagv"], env=environment)
     check("lagvtsune.h" in reply and "lagvtsune_posix.h" in reply, f"greet replies {reply!r}")
     run([*quiet, greet, "--completions", "tcsh"], env={**environment, "COMPLETE": ""}, status=2)
+    values([greet, "--", "greet", "--user", ""], environment, quiet)
     numbers = own_memory(files, root, quiet)
     python = run_pack(root, ["--completions", "fish"], {})
     check("-l level" in python, "pack writes no script")
     reply = run_pack(root, ["--", "pack", "add", "--level", ""], {"COMPLETE": "fish", "_COMPLGEN_VALUES": "ask"})
     check("fast" in reply and "best" in reply, f"pack replies {reply!r}")
+    pack = [sys.executable, f"{root}/share/lagvtsune/examples/python/pack", "--", "pack", "add", "--owner", ""]
+    values(pack, {"PATH": SYSTEM, **python_environment(root), "COMPLETE": "fish"})
     return f"two exports, both C examples under valgrind, {numbers} refused allocations, Python"
+
+
+def values(command, environment, quiet=()):
+    """Requests a value from a command: its words, then its lines, and nothing if commands are turned off."""
+    asks, reads = ({**environment, "_COMPLGEN_VALUES": mode} for mode in ("ask", "stdin"))
+    said = run([*quiet, *command], env=asks, status=3)
+    check(said == USERS, f"asked for the users: {said!r}")
+    said = run([*quiet, *command], env=reads, input=LINES.encode())
+    check(said == LINES, f"offered of {LINES!r}: {said!r}")
+    for request in (asks, reads):
+        said = run([*quiet, *command], env={**request, "COMPLGEN_COMMANDS": "0"}, input=LINES.encode())
+        check(said == "", f"commands are off: {said!r}")
+    # A line of control characters, which is skipped, and one that begins right before the limit.
+    full = LINES.encode().ljust(LIMIT - len("\nlast"), b"\a") + b"\nlast"
+    for given, expected in ((full, LINES + "last\n"), (full + b"\n", LINES), (full + b"er\nx\n", LINES)):
+        said = run(command, env=reads, input=given)
+        check(said == expected, f"offered of {len(given):,} bytes: {said[:200]!r}")
 
 
 def pkg_config(root, *words):
@@ -463,19 +493,20 @@ def tab(files):
     greet = build_greet(files, root)
     pack = f"exec {sys.executable} {root}/share/lagvtsune/examples/python/pack"
     programs = {
-        "greet": (f'exec {greet}', "greet --lo", ["--loud"]),
-        "pack": (pack, "pack add --le", ["add", "--level"]),
+        "greet": (f"exec {greet}", [("greet --lo", ["--loud"]), ("greet --user roo", ["--user", "root"])]),
+        "pack": (pack, [("pack add --le", ["add", "--level"]), ("pack add --owner roo", ["add", "--owner", "root"])]),
     }
+    tried = [(name, real, *pair) for name, (real, pairs) in programs.items() for pair in pairs]
     extra = {**python_environment(root), "LD_LIBRARY_PATH": f"{root}/lib"}
     done = []
     for shell, line in (("bash", "source <(COMPLETE=bash {})"), ("fish", "COMPLETE=fish {} | source")):
-        for name, (real, typed, expected) in programs.items():
+        for name, real, typed, expected in tried:
             if common.is_installed(shell):
                 text = RECORDER.replace("\n", f'\n[ -z "${{COMPLETE-}}" ] || {real} "$@"\n', 1)
                 trial = Trial(shell, files.room(), line.format(name), name, typed, more=extra, program=text)
                 words = at_tab(files, trial)
                 check(words == expected, f"{shell}: {name} received {words}")
-                done.append(f"{name} in {shell}")
+                done.append(f"{typed} in {shell}")
     return ", ".join(done)
 
 
