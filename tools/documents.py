@@ -10,7 +10,6 @@ The documents are the pages at the top, those of docs/, and the README.md of ben
 - Each file, function and definition in the walks of docs/ARCHITECTURE.md exists.
 - Each link leads to a file. Each named source file exists, such as `quote/src/escape.rt` or `escape.rt`,
   and so does each named script of bench/, release/, tests/ and tools/.
-- A page has at most 4,000 words, except docs/TEXTS.md, docs/CALLS.md and docs/CLAUSES.md.
 
 The script prints how many sentences of each page have more than 30 words, and with --sentences these
 sentences. Then it prints what does not hold. The status is 0 if all of it holds, whatever the sentences are.
@@ -26,8 +25,7 @@ import common
 TOP = common.TOP
 WALKS = os.path.join("docs", "ARCHITECTURE.md")
 CALLS = os.path.join("docs", "CALLS.md")
-ANY_LENGTH = {CALLS, os.path.join("docs", "CLAUSES.md"), os.path.join("docs", "TEXTS.md")}
-MOST_WORDS = 4000
+GENERATED = {CALLS, os.path.join("docs", "CLAUSES.md"), os.path.join("docs", "TEXTS.md")}
 LONG_SENTENCE = 30
 
 
@@ -37,15 +35,12 @@ def main():
         lines = lines_of(page)
         found += [f"{page}:{at}: no such file: {link}" for at, link in broken_links(page, lines)]
         found += [f"{page}:{at}: no such file: {name}" for at, name in unknown_files(lines)]
-        if page not in ANY_LENGTH:
+        if page not in GENERATED:
             long[page] = [it for it in sentences(lines) if len(it.split()) > LONG_SENTENCE]
         if page != CALLS:
             found += [f"{page}:{at}: this code is in no source: {line}" for at, line in unknown_blocks(lines)]
         if page == WALKS:
             found += [f"{page}:{at}: there is no {name}" for at, name in unknown_names(lines)]
-        words = len(" ".join(lines).split())
-        if words > MOST_WORDS and page not in ANY_LENGTH:
-            found.append(f"{page}: {words} words of {MOST_WORDS}")
     print_long(long)
     print("\n".join(found + [f"{len(found)} faults in the documents"]))
     return 1 if found else 0
