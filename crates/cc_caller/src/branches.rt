@@ -35,7 +35,7 @@ pub fn write_answer_over<F, D>(
     alloc: Global,
     factory: F,
     called: &Called<'_>,
-    folder: &D,
+    sources: &Sources<'_, D, Completers>,
     output: &[u8],
     out: &mut Collected,
 ) -> Result<Option<u8>, Error>
@@ -45,12 +45,6 @@ where
     requires { F.IsAlwaysCallable factory }
 {
     let completion = CompleteEnv::safe(factory);
-    let completers = Completers::none(alloc);
-    let sources = Sources {
-        current_dir: None,
-        folder,
-        completers: &completers,
-    };
     let lines = PassedLines { bytes: output };
-    try_complete_asking(alloc, &completion, called, &sources, &lines, out)
+    try_complete_asking(alloc, &completion, called, sources, &lines, out)
 }

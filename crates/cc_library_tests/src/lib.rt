@@ -6,8 +6,6 @@
 #[cfg(test)]
 mod agreement;
 #[cfg(test)]
-mod branches;
-#[cfg(test)]
 mod caller;
 #[cfg(test)]
 mod checks;

@@ -78,12 +78,12 @@ fn print<R: Env + Files + Input + Print + Eprint + AllocGlobal, D: Folder>(
 }
 
 // Writes the registration, or the answer if words follow the `--`. Returns the exit status.
-fn write_requested<'r, R: Env + Files + Input + Eprint + AllocGlobal, D: Folder, W: Sink>(
+fn write_requested<R: Env + Files + Input + Eprint + AllocGlobal, D: Folder, W: Sink>(
     rt: &R,
-    env: &'r EnvValues,
-    words: &'r [String],
+    env: &EnvValues,
+    words: &[String],
     folders: &[String],
-    folder: &'r D,
+    folder: &D,
     out: &mut W,
 ) -> Result<u8, Refusal> {
     let current = env::current_dir(rt).ok();
@@ -97,32 +97,37 @@ fn write_requested<'r, R: Env + Files + Input + Eprint + AllocGlobal, D: Folder,
         };
     };
     let file = tree_file(rt, folders, word.as_str())?;
+    write_answer(rt, env, words, &file, current_dir, folder, out)
+}
+
+// Writes the answer to a request for candidates, over a tree file. Returns the exit status.
+fn write_answer<'r, R: Files + Input + AllocGlobal, D: Folder, W: Sink>(
+    rt: &'r R,
+    env: &'r EnvValues,
+    words: &'r [String],
+    tree: &'r TreeFile,
+    current_dir: Option<&'r str>,
+    folder: &'r D,
+    out: &mut W,
+) -> Result<u8, Refusal> {
+    let path = tree.path.as_str();
+    let origin = Origin::File(path);
+    let file = tree.bytes.as_ref().map(Vec::as_slice);
     let request = Request {
         env,
         words,
-        origin: Origin::File(file.path.as_str()),
-        file: file.bytes.as_ref().map(Vec::as_slice),
+        origin,
+        file,
         current_dir,
         folder,
     };
-    write_answer(rt, &request, file.path.as_str(), out)
-}
-
-// Writes the answer to a request for candidates, over the tree file at `path`. Returns the exit
-// status.
-fn write_answer<R: Files + Input + AllocGlobal, D: Folder, W: Sink>(
-    rt: &R,
-    request: &Request<'_, D>,
-    path: &str,
-    out: &mut W,
-) -> Result<u8, Refusal> {
     let lines = SystemLines {
         rt,
-        env: request.env,
-        current_dir: request.current_dir,
-        folder: request.folder,
+        env,
+        current_dir,
+        folder,
     };
-    match reply(rt.alloc(), request, &lines, out) {
+    match reply(rt.alloc(), &request, &lines, out) {
         Ok(status) => Ok(status),
         Err(error) => Err(reply_refusal(rt.alloc(), path, &error)),
     }
