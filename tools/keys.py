@@ -40,9 +40,9 @@ DEFINITIONS = {
 FIELDS = {"conflicts_with": "conflicts", "args": "arguments"}
 BY_HAND = {"id", "name", "subcommands"}
 
-# The keys that clap has nothing for: an argument of clap cannot name a command or a file that lists its values, so
-# the writer has nothing to write there.
-WITHOUT_CLAP = {"argument": {"values_from", "values_file", "values_split"}}
+# The keys that the writer never writes: an argument of clap cannot name a file that lists its values, or the text
+# that ends a value. The words of a command come from `CompleteEnv::values_from`.
+WITHOUT_CLAP = {"argument": {"values_file", "values_split"}}
 
 # The functions of the writer that write the keys of an object. The methods of `object`, such as `text` and `flag`,
 # take the key as their first argument, and `order` writes `display_order`.
