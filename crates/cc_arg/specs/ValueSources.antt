@@ -33,7 +33,8 @@ is_whole_word word = not (has_byte nul word || has_byte vertical_tab word)
 abbrev pub is_program : List ℕ → Bool
 is_program [] = false
 is_program (first ∷ rest) =
-    ((first == slash) || not (has_byte slash (first ∷ rest))) && not (has_byte equals (first ∷ rest))
+    ((first == slash) || not (has_byte slash (first ∷ rest)))
+    && not (has_byte equals (first ∷ rest))
 
 -- The words name a program and its arguments. `env` would take a program with an equals sign for a
 -- variable.

@@ -1,4 +1,4 @@
--- What is written of an answer, and the exit status after it.
+-- The text that is written for an answer, and the exit status after it.
 use Rattle.std.specs.Prelude.{ℕ, List}
 use Rattle.cc_asking.specs.Answers.{Told, text, words}
 use Rattle.cc_asking.specs.RunWords.{written_words}

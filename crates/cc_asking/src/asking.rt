@@ -22,7 +22,7 @@ const VALUES: &str = "_COMPLGEN_VALUES";
 // The variable by which a user turns commands off.
 const COMMANDS: &str = "COMPLGEN_COMMANDS";
 
-/// What answers a request.
+/// The way in which a request is answered.
 #[derive(Drop)]
 pub enum Step {
     /// The reply, without values from outside the tree.
@@ -104,7 +104,8 @@ fn asked_at_last(
     words: &[String],
 ) -> Result<Option<Arg>, Error>
     requires { built_tree command.old ≡ command.old }
-    ensures asks { IfOk result (λ asked. AsksAtLast command.old (map string_bytes words.now) asked) }
+    ensures asks { IfOk result
+        (λ asked. AsksAtLast command.old (map string_bytes words.now) asked) }
     ensures built { OnOk result (command.new ≡ command.old) }
     ensures errors { IfErr result (CannotAskAtLast command.old (map string_bytes words.now)) }
 {

@@ -1,4 +1,4 @@
-//! What reads the lines that are the values of an argument.
+//! Sources of the lines that are the values of an argument.
 
 ghost use Rattle.std.specs.Prelude.{◌≡◌, ℕ, IfErr, IfOk, List};
 ghost use Rattle.cc_arg.specs.declared.parts.ArgParts.{ArgParts as Arg};
@@ -25,7 +25,7 @@ pub trait LineSource {
 /// from the system has no lines.
 #[derive(Drop)]
 pub struct PassedLines<'l> {
-    /// What the command printed.
+    /// The output of the command.
     pub bytes: &'l [u8],
 }
 

@@ -20,7 +20,7 @@ use cc_paths::Folder;
 use cc_replies::EnvValues;
 use std::alloc::Global;
 
-/// What a program was called with.
+/// The arguments and the environment with which a program was started.
 #[derive(Drop)]
 pub struct Called<'r> {
     /// The arguments, the program's name first.

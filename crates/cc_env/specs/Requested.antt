@@ -14,7 +14,8 @@ found_shell (Err error) = Err error
 -- the result, if nothing, an unknown shell or a known shell is requested
 abbrev pub FindsAs : {C : Type 0} → List (List ℕ) → Wanted C → Result (Option C) Error → Type 0
 FindsAs names nothing result = result ≡ Ok None
-FindsAs names (unknown name) result = IfOk result (λ _. ⊥) × IfErr result (IsUnknownShell names name)
+FindsAs names (unknown name) result =
+    IfOk result (λ _. ⊥) × IfErr result (IsUnknownShell names name)
 FindsAs names (known shell) result = result ≡ Ok (Some shell)
 
 -- the same of these shells, for the name that is requested, if one is
