@@ -1,2 +1,4 @@
-mod Made
+mod ClapCases
+mod Ends
 mod Requested
+mod SeenEnds

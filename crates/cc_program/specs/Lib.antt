@@ -1,3 +1,7 @@
+pub mod ClapParses
 pub mod Described
+pub mod Messages
 pub mod Requests
+pub mod Running
+pub mod Seen
 pub mod Statuses

@@ -26,7 +26,7 @@ use std::rt::Files;
 
 // The variables by which a shell asks, by the safe registration or by one of the original's form;
 // the one by which a user turns commands off; and the one that lists the directories of programs.
-const VARIABLES: [&str; 8] = [
+pub(crate) const VARIABLES: [&str; 8] = [
     "COMPLETE",
     "_COMPLGEN_VALUES",
     "_COMPLGEN_KEPT",

@@ -1,62 +1,102 @@
-//! Parsing the words of a command line.
+//! Parsing the words of a command line, and what follows.
 
-ghost use Rattle.std.specs.Prelude.{◌≡◌, map, string_bytes};
+ghost use Rattle.std.specs.Prelude.{◌≡◌, IsTrue, map, string_bytes};
 ghost use Rattle.std.specs.Fn.{FnOnceReturnsAt};
 ghost use Rattle.clap.specs.Values.{kind_of};
-ghost use Rattle.clap.specs.Words.{app_of};
-ghost use Rattle.cc_program.specs.Statuses.{Carries, EndsParse, Explains, status_of};
+ghost use Rattle.cc_program.specs.Messages.{Explains, SaysText, is_out_of_memory, status_of};
+ghost use Rattle.cc_program.specs.Statuses.{Carries, EndsTree, parser_facts};
 
 use crate::failure::Failure;
+use crate::streams::{Streams, put_message};
+use crate::word_parser::WordParser;
+use bumpalo::Bump;
+use cc_base::{Error, Sink};
+use cc_command::Command;
 use clap::ArgMatches;
 use clap::error::ErrorKind;
+use std::alloc::Global;
+use std::io;
 use std::process::ExitCode;
 
-// Parses the words and carries out what they ask for, or prints a help, the version, or what is
-// wrong with them.
-pub(crate) fn parse<'a, R, C, E>(
-    rt: &R,
-    parser: clap::Command<'a>,
-    words: &'a [String],
+// Parses the words by a built tree and carries out what they ask for, or writes a help text, the
+// version, or what is wrong with them.
+pub(crate) fn parse_tree<P, C, E, O, X>(
+    alloc: Global,
+    parser: &P,
+    tree: &Command,
+    words: &[String],
     carry_out: C,
+    streams: &mut Streams<O, X>,
 ) -> Result<ExitCode, Failure<E>>
 where
-    R: Print + Eprint,
+    P: WordParser,
     C: FnOnce(&ArgMatches<'_>) -> Result<(), E> + Drop,
     E: Drop,
-    requires { C.IsAlwaysCallable carry_out }
-    ensures { EndsParse (λ found done. FnOnceReturnsAt C.FnOnce carry_out found done)
-        (app_of parser.entry) (map string_bytes words.entry.now) result }
+    O: Sink,
+    X: Sink,
+    requires tree { IsTrue tree.now.node.built }
+    requires work { C.IsAlwaysCallable carry_out }
+    ensures { EndsTree O.Sink X.Sink tree.now
+        (parser_facts P.WordParser parser.now (map string_bytes words.now))
+        (λ found done. FnOnceReturnsAt C.FnOnce carry_out found done)
+        streams.old streams.new result }
 {
-    match parser.try_get_matches_from(words) {
-        Ok(matches) => carried(carry_out, &matches),
-        Err(error) => explained(rt, &error),
+    let store = Bump::new(alloc);
+    match parser.parse(alloc, &store, tree, words) {
+        Ok(found) => carried(carry_out, &found),
+        Err(error) => explained(alloc, parser, &error, streams),
     }
 }
 
 // Does the work of the parsed words.
-pub(crate) fn carried<C, E>(carry_out: C, matches: &ArgMatches<'_>) -> Result<ExitCode, Failure<E>>
+fn carried<C, E>(carry_out: C, found: &ArgMatches<'_>) -> Result<ExitCode, Failure<E>>
 where
     C: FnOnce(&ArgMatches<'_>) -> Result<(), E>,
     requires { C.IsAlwaysCallable carry_out }
-    ensures { Carries (λ done. FnOnceReturnsAt C.FnOnce carry_out matches.now done) result }
+    ensures { Carries (λ done. FnOnceReturnsAt C.FnOnce carry_out found.now done) result }
 {
-    match carry_out(matches) {
+    match carry_out(found) {
         Ok(()) => Ok(ExitCode::SUCCESS),
         Err(error) => Err(Failure::Own(error)),
     }
 }
 
-// Prints a help text, the version, or a message about the words.
-pub(crate) fn explained<R: Print + Eprint, E>(
-    rt: &R,
+// Writes a help text, the version, or a message about the words.
+fn explained<P: WordParser, E, O: Sink, X: Sink>(
+    alloc: Global,
+    parser: &P,
     error: &clap::Error,
+    streams: &mut Streams<O, X>,
 ) -> Result<ExitCode, Failure<E>>
-    ensures { Explains (kind_of error.now) result }
+    ensures { Explains O.Sink X.Sink (kind_of error.now) (λ text. P.says parser.now error.now text)
+        streams.old streams.new result }
 {
-    match error.print(rt) {
-        Ok(()) => Ok(ExitCode::from(status_of(error.kind()))),
-        Err(failure) => Err(Failure::Print(failure)),
+    if is_out_of_memory(error.kind()) {
+        return Err(Failure::Library(Error::Memory));
     }
+    let text = parser.text(alloc, error)?;
+    say(text.as_str(), error.kind(), streams)
+}
+
+// Writes the text of a message of this kind, and returns the status after it.
+fn say<E, O: Sink, X: Sink>(
+    text: &str,
+    kind: ErrorKind,
+    streams: &mut Streams<O, X>,
+) -> Result<ExitCode, Failure<E>>
+    ensures { SaysText O.Sink X.Sink kind streams.old streams.new text.now result }
+{
+    match put_message(text, kind, streams) {
+        Ok(()) => Ok(ExitCode::from(status_of(kind))),
+        Err(failed) => Err(Failure::Print(io::Error::from(failed))),
+    }
+}
+
+// Returns whether there was no memory to parse the words.
+fn is_out_of_memory(kind: ErrorKind) -> bool
+    ensures { result ≡ is_out_of_memory kind }
+{
+    matches!(kind, ErrorKind::OutOfMemory)
 }
 
 // Returns the exit status for words that are not carried out: 0 for a help text or the version, and

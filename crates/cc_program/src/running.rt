@@ -1,38 +1,53 @@
 //! The whole program: it completes its words, or parses them by the same tree.
 
-ghost use Rattle.std.specs.Prelude.{IfErr, IsTrue, map, string_bytes};
+ghost use Rattle.std.specs.Prelude.{IfErr, map, string_bytes};
 ghost use Rattle.std.specs.Fn.{FnOnceReturnsAt};
-ghost use Rattle.cc_program.specs.Statuses.{IsOfWords, MakesBy, ParsesMade, ParsesTree, Runs};
+ghost use Rattle.std.specs.Option.{option_copied};
+ghost use Rattle.cc_engine.specs.Sources.{returned_from};
+ghost use Rattle.cc_program.specs.Requests.{system_facts};
+ghost use Rattle.cc_program.specs.Running.{EndsRun, Runs};
+ghost use Rattle.cc_program.specs.Seen.{Seen};
+ghost use Rattle.cc_program.specs.Statuses.{IsOfWords};
+ghost use Rattle.cc_program.specs.declared.streams.Streams.{Streams as StreamsOf};
 
-use crate::completing::completes;
+use crate::completing::VARIABLES;
 use crate::failure::Failure;
-use crate::parsing::parse;
-use bumpalo::Bump;
-use cc_base::{Counted, Error};
+use crate::over::{Program, run_over};
+use crate::streams::{ErrorWriter, Streams};
+use crate::word_parser::ClapParser;
+use cc_asking::Called;
+use cc_base::{CandidateSources, Counted, Error};
 use cc_candidates::Completers;
 use cc_command::Command;
-use cc_parser::parser;
-use cc_replies::words;
+use cc_engine::Sources;
+use cc_env::CompleteEnv;
+use cc_lines::SystemLines;
+use cc_paths::{Folder, RealFolder};
+use cc_replies::{home, variables, words};
 use clap::ArgMatches;
 use std::alloc::Global;
-use std::env::Env;
+use std::env::{self, Env};
 use std::io::{self, Input};
 use std::process::ExitCode;
 use std::rt::Files;
 
-/// Completes the words of the command line if a shell asks for it, as `completes` does. Otherwise
-/// `run` parses them by the tree that `factory` makes, and calls `carry_out` with the matches. If
-/// the words ask for a help text or the version, or are wrong, `run` prints a message instead: a
-/// help text and the version to standard output, a mistake to standard error.
+/// Runs a program over the words and the environment of the system, as `run_over` does, with the
+/// safe adapters, the variable `COMPLETE` and the parser of the crate `clap`. `factory` makes the
+/// tree, `completers` are those that its arguments name, and `carry_out` does the program's own
+/// work on the matches.
 ///
-/// Returns status 0 if the words were completed or carried out, or ask for a help text or the
-/// version, status 2 for a mistake, and status 3 if the words of a command were written for the
-/// shell to run.
+/// The words and the environment are read once. If the values of an argument come from a command, a
+/// file or a hint, `SystemLines` reads them. Replies, registrations, help texts and the version go
+/// to the standard output, and messages about mistakes to the standard error.
+///
+/// Returns status 0 after a completion, a help text, the version and the program's own work; status
+/// 2 after a mistake; and status 3 after the words of a command for the shell to run.
 ///
 /// # Errors
 ///
 /// `Words` if the words can't be read. `Library` with an error of `completes` or of `factory`, or
-/// if an allocation fails. `Print` if printing fails. `Own` with the error of `carry_out`.
+/// with `Memory` if an allocation fails. `Print` if a message can't be printed. `Own` with the
+/// error of `carry_out`.
 pub fn run<R, F, C, E>(
     rt: &R,
     factory: F,
@@ -46,54 +61,71 @@ where
     E: Drop,
     requires factory { F.IsAlwaysCallable factory }
     requires work { C.IsAlwaysCallable carry_out }
-    ensures { Runs (MakesBy (λ alloc made. F.post factory alloc made))
-        (λ found done. FnOnceReturnsAt C.FnOnce carry_out found done) result }
+    ensures { Runs factory (λ alloc words env current home made_by variable bin completer shells
+        new ended. EndsRun (λ made. F.post made_by alloc made)
+        (λ found done. FnOnceReturnsAt C.FnOnce carry_out found done)
+        (returned_from ⟦<Completers as CandidateSources>⟧ completers.now (system_facts home)
+        current) words env current variable bin completer shells new ended) result }
 {
-    let asked = read_words(rt)?;
-    let mut out = Counted::new(io::writer(rt));
-    if let Some(status) = completes(rt, asked.as_slice(), &factory, completers, &mut out)? {
-        return Ok(ExitCode::from(status));
-    }
-    parses(rt, factory, carry_out)
+    let words = read_words(rt)?;
+    let variables = variables(rt, &VARIABLES)?;
+    let folder = RealFolder::new(rt, home(rt)?);
+    let current = env::current_dir(rt).ok();
+    let current_dir = current.as_ref().map(|path| path.as_str());
+    let called = Called {
+        args: words.as_slice(),
+        env: &variables,
+    };
+    let sources = Sources {
+        current_dir,
+        folder: &folder,
+        completers,
+    };
+    let completion = CompleteEnv::safe(factory);
+    let program = Program {
+        completion,
+        parser: ClapParser,
+        carry_out,
+    };
+    run_here(rt, rt.alloc(), program, &called, &sources)
 }
 
-// Parses the words by the tree that the factory makes, and carries them out.
-fn parses<R, F, C, E>(rt: &R, factory: F, carry_out: C) -> Result<ExitCode, Failure<E>>
+// Runs a program with the lines, the standard output and the standard error of the system.
+fn run_here<R, F, C, E, D>(
+    rt: &R,
+    alloc: Global,
+    program: Program<'_, ClapParser, F, C>,
+    called: &Called<'_>,
+    sources: &Sources<'_, D, Completers>,
+) -> Result<ExitCode, Failure<E>>
 where
-    R: Env + Print + Eprint + AllocGlobal,
+    R: Files + Input + Print + Eprint,
     F: Fn(Global) -> Result<Command, Error> + Drop,
     C: FnOnce(&ArgMatches<'_>) -> Result<(), E> + Drop,
     E: Drop,
-    requires factory { F.IsAlwaysCallable factory }
-    requires work { C.IsAlwaysCallable carry_out }
-    ensures { ParsesMade (MakesBy (λ alloc made. F.post factory alloc made))
-        (λ found done. FnOnceReturnsAt C.FnOnce carry_out found done) result }
+    D: Folder,
+    requires factory { F.IsAlwaysCallable program.completion.factory }
+    requires work { C.IsAlwaysCallable program.carry_out }
+    ensures { (new : StreamsOf Seen Seen) × EndsRun
+        (λ made. F.post program.entry.completion.factory alloc made)
+        (λ found done. FnOnceReturnsAt C.FnOnce program.entry.carry_out found done)
+        (returned_from ⟦<Completers as CandidateSources>⟧ sources.now.completers.now
+        (D.facts sources.now.folder.now) (option_copied sources.now.current_dir))
+        (map string_bytes called.now.args.now) called.now.env.now
+        (option_copied sources.now.current_dir) program.entry.completion.variable.now
+        program.entry.completion.bin program.entry.completion.completer
+        program.entry.completion.shells.0.now new result }
 {
-    let words = read_words(rt)?;
-    let mut tree = factory(rt.alloc())?;
-    tree.build(rt.alloc())?;
-    parse_tree(rt, &tree, words.as_slice(), carry_out)
-}
-
-// Parses the words by a built tree, and carries them out.
-fn parse_tree<R, C, E>(
-    rt: &R,
-    tree: &Command,
-    words: &[String],
-    carry_out: C,
-) -> Result<ExitCode, Failure<E>>
-where
-    R: Print + Eprint + AllocGlobal,
-    C: FnOnce(&ArgMatches<'_>) -> Result<(), E> + Drop,
-    E: Drop,
-    requires tree { IsTrue tree.now.node.built }
-    requires work { C.IsAlwaysCallable carry_out }
-    ensures { ParsesTree (λ found done. FnOnceReturnsAt C.FnOnce carry_out found done) tree.now
-        (map string_bytes words.now) result }
-{
-    let store = Bump::new(rt.alloc());
-    let parser = parser(rt.alloc(), &store, tree)?;
-    parse(rt, parser, words, carry_out)
+    let lines = SystemLines {
+        rt,
+        env: called.env,
+        current_dir: sources.current_dir,
+        folder: sources.folder,
+    };
+    let out = Counted::new(io::writer(rt));
+    let err = Counted::new(ErrorWriter { to: rt });
+    let mut streams = Streams { out, err };
+    run_over(alloc, program, called, sources, &lines, &mut streams)
 }
 
 // Returns the words of the command line.

@@ -2,4 +2,5 @@
 //! both to complete a command line and to parse it.
 
 pub use cc_agreement::candidates_and_parser;
+pub use cc_covered::{has_globals, is_parsed_exactly};
 pub use cc_parser::{fits_parser, parser};

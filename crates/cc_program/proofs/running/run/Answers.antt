@@ -1,23 +1,24 @@
-use Rattle.std.proofs.Common.{◌∙◌}
 use Rattle.std.proofs.lemmas.Result.{err_from_is_err_and}
-use Rattle.cc_program.specs.Statuses.{completed, not_completed, unread, words_parsed}
-use Rattle.cc_program.proofs.Requested.{status_answered}
+use Rattle.cc_program.specs.Running.{no_environment, unread}
+use Rattle.cc_program.proofs.Requested.{runs_some}
 use Rattle.cc_program.proofs.running.run.Goals as goal
 
-pub returns-in_err-asked : goal.returns-in_err-asked
-returns-in_err-asked g c =
+pub returns-in_err-words : goal.returns-in_err-words
+returns-in_err-words g c =
     let p = err_from_is_err_and c.from_residual.result c.from_residual.ensures.1 in
-    rw (p.1, p.2) (unread _ c.in_err-asked.ensures)
+    rw (p.1, p.2) (unread _ c.in_err-words.ensures)
 
-pub returns-in_err-status : goal.returns-in_err-status
-returns-in_err-status g c =
-    let p = err_from_is_err_and c.from_residual-in_err-status.result c.from_residual-in_err-status.ensures.1 in
-    rw (p.1, p.2) (not_completed _)
+pub returns-in_err-variables : goal.returns-in_err-variables
+returns-in_err-variables g c =
+    let p = err_from_is_err_and c.from_residual-in_err-variables.result c.from_residual-in_err-variables.ensures.1 in
+    rw (p.1, p.2) no_environment
 
-pub returns-in-Some : goal.returns-in-Some
-returns-in-Some g c =
-    let s = status_answered _ _ _ _ _ _ c.in_ok-status.field-0 c.in-Some.status c.in-Some.is c.in_ok-status.ensures in
-    completed _ s.0 (c.from.ensures ∙ s.1)
+pub returns-in_err-home : goal.returns-in_err-home
+returns-in_err-home g c =
+    let p = err_from_is_err_and c.from_residual-in_err-home.result c.from_residual-in_err-home.ensures.1 in
+    rw (p.1, p.2) no_environment
 
 pub returns : goal.returns
-returns g c = words_parsed _ c.parses.ensures
+returns g c =
+    runs_some _ _ _ _ _ _ _ c.new-folder.result.home _ _ _ _ _ c.run_here.ensures.0 c.safe-completion.ensures.factory c.safe-completion.ensures.variable
+    c.safe-completion.ensures.names.0 c.safe-completion.ensures.names.1 c.safe-completion.ensures.shells c.run_here.ensures.1

@@ -1,0 +1,133 @@
+//! A program over values: what it does, apart from where its words and its environment come from.
+
+ghost use Rattle.std.specs.Prelude.{map, string_bytes};
+ghost use Rattle.std.specs.Fn.{FnOnceReturnsAt};
+ghost use Rattle.std.specs.Option.{option_copied};
+ghost use Rattle.cc_asking.specs.OwnAnswers.{AnswersBy, own_parts, requested_of};
+ghost use Rattle.cc_asking.specs.OwnEnds.{EndsOwn};
+ghost use Rattle.cc_engine.specs.Sources.{returned_from};
+ghost use Rattle.cc_env.specs.Steps.{names_of};
+ghost use Rattle.cc_program.specs.Statuses.{EndsParse, EndsProgram, parser_facts};
+ghost use Rattle.cc_replies.specs.Environment.{value_of};
+
+use crate::failure::Failure;
+use crate::parsing::parse_tree;
+use crate::streams::Streams;
+use crate::word_parser::WordParser;
+use cc_asking::{Called, LineSource, try_complete_asking};
+use cc_base::{CandidateSources, Error, Sink};
+use cc_candidates::CompletionCandidate;
+use cc_command::Command;
+use cc_engine::Sources;
+use cc_env::{CompleteEnv, SafeShell};
+use cc_paths::Folder;
+use clap::ArgMatches;
+use std::alloc::Global;
+use std::process::ExitCode;
+
+/// What a program does with its words: how it completes and parses them, and its own work on the
+/// matches.
+#[derive(Drop)]
+pub struct Program<'s, P, F, C> {
+    /// Completes the command that its factory makes, which is also the command that is parsed.
+    pub completion: CompleteEnv<'s, F, SafeShell>,
+    /// Parses the words.
+    pub parser: P,
+    /// Does the program's own work on the matches.
+    pub carry_out: C,
+}
+
+/// Runs `program` over the words and the environment variables in `called`.
+///
+/// If the environment requests a completion, writes the answer to `streams.out`, as
+/// `try_complete_asking` does. Otherwise makes the tree, builds it, and parses the same words with
+/// `program.parser`:
+///
+/// - if they have matches, calls `program.carry_out` with them, and writes nothing;
+/// - if they ask for a help text or the version, writes it to `streams.out`;
+/// - if they are wrong, writes the parser's message to `streams.err`.
+///
+/// Returns status 0 after a completion, a help text, the version and the program's own work; status
+/// 2 after a mistake; and status 3 after the words of a command for the shell to run.
+///
+/// # Errors
+///
+/// `Library` with an error of `try_complete_asking` or of the factory, or with `Memory` if an
+/// allocation fails. `Print` with the kind of the write that failed, if a message can't be written.
+/// `Own` with the error of `carry_out`.
+pub fn run_over<P, F, C, E, D, K, S, O, X>(
+    alloc: Global,
+    program: Program<'_, P, F, C>,
+    called: &Called<'_>,
+    sources: &Sources<'_, D, K>,
+    lines: &S,
+    streams: &mut Streams<O, X>,
+) -> Result<ExitCode, Failure<E>>
+where
+    P: WordParser + Drop,
+    F: Fn(Global) -> Result<Command, Error> + Drop,
+    C: FnOnce(&ArgMatches<'_>) -> Result<(), E> + Drop,
+    E: Drop,
+    D: Folder,
+    K: CandidateSources<Candidate = CompletionCandidate>,
+    S: LineSource,
+    O: Sink,
+    X: Sink,
+    requires factory { F.IsAlwaysCallable program.completion.factory }
+    requires work { C.IsAlwaysCallable program.carry_out }
+    ensures { EndsProgram (requested_of program.entry.completion.shells.0.now
+        (value_of program.entry.completion.variable.now called.now.env.now))
+        (λ ended. EndsOwn O.taken O.failed (AnswersBy program.entry.completion.shells.0.now
+        (λ made. F.post program.entry.completion.factory alloc made) (own_parts
+        (names_of program.entry.completion.variable.now program.entry.completion.bin
+        program.entry.completion.completer (option_copied sources.now.current_dir))
+        called.now.env.now (map string_bytes called.now.args.now)
+        (returned_from K.CandidateSources sources.now.completers.now
+        (D.facts sources.now.folder.now) (option_copied sources.now.current_dir)))
+        (S.gives lines.now) (value_of program.entry.completion.variable.now called.now.env.now))
+        streams.old.out streams.new.out ended)
+        (EndsParse O.Sink X.Sink (λ made. F.post program.entry.completion.factory alloc made)
+        (parser_facts P.WordParser program.entry.parser (map string_bytes called.now.args.now))
+        (λ found done. FnOnceReturnsAt C.FnOnce program.entry.carry_out found done)
+        streams.old streams.new) streams.old.err streams.new.err result }
+{
+    let Program {
+        completion,
+        parser,
+        carry_out,
+    } = program;
+    let out = &mut streams.out;
+    let ended = try_complete_asking(alloc, &completion, called, sources, lines, out)?;
+    match ended {
+        Some(status) => Ok(ExitCode::from(status)),
+        None => parse_made(alloc, &completion, &parser, called.args, carry_out, streams),
+    }
+}
+
+// Makes the tree, builds it, parses the words by it, and carries out what they ask for.
+fn parse_made<P, F, C, E, O, X>(
+    alloc: Global,
+    completion: &CompleteEnv<'_, F, SafeShell>,
+    parser: &P,
+    words: &[String],
+    carry_out: C,
+    streams: &mut Streams<O, X>,
+) -> Result<ExitCode, Failure<E>>
+where
+    P: WordParser,
+    F: Fn(Global) -> Result<Command, Error> + Drop,
+    C: FnOnce(&ArgMatches<'_>) -> Result<(), E> + Drop,
+    E: Drop,
+    O: Sink,
+    X: Sink,
+    requires factory { F.IsAlwaysCallable completion.now.factory }
+    requires work { C.IsAlwaysCallable carry_out }
+    ensures { EndsParse O.Sink X.Sink (λ made. F.post completion.now.factory alloc made)
+        (parser_facts P.WordParser parser.now (map string_bytes words.now))
+        (λ found done. FnOnceReturnsAt C.FnOnce carry_out found done)
+        streams.old streams.new result }
+{
+    let mut tree = completion.command(alloc)?;
+    tree.build(alloc)?;
+    parse_tree(alloc, parser, &tree, words, carry_out, streams)
+}
