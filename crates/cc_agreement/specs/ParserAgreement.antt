@@ -12,38 +12,44 @@ use Rattle.cc_gather.specs.Children.{external}
 use Rattle.cc_gather.specs.declared.options.OptionMatch.{OptionMatch}
 use Rattle.cc_gather.specs.declared.options.OptionMatch.TheVariants.{Listed, ValuesOf}
 use Rattle.cc_parser.specs.Parsers.{IsAppOf, has_globals}
-use Rattle.cc_parser.specs.Taken.{KnowsChild, KnowsLong, KnowsShort, TakesOffered, fits_parser}
+use Rattle.cc_parser.specs.Taken.{KnowsChild, KnowsLong, KnowsShort, TakesOffered, answers_long, answers_short, fits_parser, id_of_long, id_of_short, parsed_long, parsed_short}
 use Rattle.cc_gather.specs.Values.{MayReturn}
 use Rattle.cc_walk.specs.Destination.{WordsLeadTo, WordsLeadOnlyTo}
 use Rattle.cc_walk.specs.Lookup.{positional_at}
 use Rattle.cc_walk.specs.declared.state.State.{State}
 use Rattle.clap.specs.Simple.{App}
 
--- the candidate is a long of an argument of the tree, whose id it has, and the parser finds an
--- argument by that long
+-- The candidate is a long of an argument of the tree, with its id. By this long the parser finds an
+-- argument: the one with the id of the first argument of the tree that has it.
 pub record IsLongTaken (tree : Tree) (app : App) (candidate : CompletionCandidate) : Type 0 where
   pub argument : Arg
   pub there : Contains tree.node.arguments argument
   pub id : candidate.id ≡ Some (codes "arg::" ++ argument.id)
   pub name : List ℕ
   pub value : candidate.value ≡ codes "--" ++ name
+  pub own : answers_long name argument ≡ true
   pub known : KnowsLong app name
+  pub found : parsed_long app name ≡ id_of_long name tree.node.arguments
 
--- the same for a short, after a dash or after the word
-pub record IsShortTaken (tree : Tree) (app : App) (candidate : CompletionCandidate) : Type 0 where
+-- the same for a short, after a dash or after this word
+pub record IsShortTaken (tree : Tree) (app : App) (word : List ℕ) (candidate : CompletionCandidate)
+    : Type 0 where
   pub argument : Arg
   pub there : Contains tree.node.arguments argument
   pub id : candidate.id ≡ Some (codes "arg::" ++ argument.id)
   pub before : List ℕ
+  pub place : (before ≡ codes "-") ⊎ (before ≡ word)
   pub short : ℕ
   pub value : candidate.value ≡ before ++ encode_utf8 short
+  pub own : answers_short short argument ≡ true
   pub known : KnowsShort app short
+  pub found : parsed_short app short ≡ id_of_short short tree.node.arguments
 
--- the candidate is a name that the parser accepts, or one of the values
-abbrev pub IsTaken : Tree → App → List CompletionCandidate → CompletionCandidate → Type 0
-IsTaken tree app values candidate =
+-- the candidate for this word is a name that the parser accepts, or one of the values
+abbrev pub IsTaken : Tree → App → List ℕ → List CompletionCandidate → CompletionCandidate → Type 0
+IsTaken tree app word values candidate =
     (KnowsChild app candidate.value ⊎ IsLongTaken tree app candidate)
-    ⊎ (IsShortTaken tree app candidate ⊎ Contains values candidate)
+    ⊎ (IsShortTaken tree app word candidate ⊎ Contains values candidate)
 
 -- the values among the matches of the word
 abbrev pub match_values : OptionMatch → List CompletionCandidate → List CompletionCandidate
@@ -71,7 +77,7 @@ pub record AgreesWithParser (sources : MayReturn) (root : Tree) (app : App) (wor
   pub leads : WordsLeadTo root (words_before root.node words index) tree state
   pub only : WordsLeadOnlyTo root (words_before root.node words index) tree state
   pub offers : Offers sources tree state (get_or words index []) found
-  pub taken : tree ≡ root → AllByRecursion (IsTaken root app
+  pub taken : tree ≡ root → AllByRecursion (IsTaken root app (get_or words index [])
       (values_among tree state (get_or words index []) offers.0)) found
 
 -- The parser with this reading is the parser of the tree, if the tree has no global arguments.
