@@ -5,14 +5,14 @@ use Rattle.std.specs.List.{flat_map}
 use Rattle.std.specs.Option.{option_or, option_and_then, option_map}
 use Rattle.std.proofs.lemmas.Bool.{eqb-true}
 use Rattle.std.proofs.Common.{◌≡◌, subst, ◌==◌, ◌⊎◌, inl, inr, ℕ, Bool, true, false, List, [], ◌∷◌, ◌++◌, Option, Some, None, refl, sym, ◌∙◌, ap, append_assoc}
-use Rattle.cc_base.specs.Found.{after}
+use Rattle.cc_base.specs.Found.{after, before_ending}
 use Rattle.cc_base.specs.PlainName.{is_joined}
 use Rattle.complgen_import.specs.declared.class.Class.{Class}
 use Rattle.complgen_import.specs.declared.class.Class.TheVariants.{NameByte, ValueByte, Capital, CapitalByte, Small, SmallByte, InAngles, InCurlies, InSquares}
 use Rattle.complgen_import.specs.declared.form.Mark.{Mark}
 use Rattle.complgen_import.specs.declared.form.Mark.TheVariants.{Word, Angle, Curly}
 use Rattle.complgen_import.specs.declared.form.Name.{Name}
-use Rattle.complgen_import.specs.declared.form.Name.TheVariants.{Short, Long, Negatable}
+use Rattle.complgen_import.specs.declared.form.Name.TheVariants.{Short, Long, Negatable, RepeatedShort, RepeatedLong}
 use Rattle.complgen_import.specs.declared.form.Piece.{Piece}
 use Rattle.complgen_import.specs.declared.form.Piece.TheVariants.{First, Next, Joined, Optional, Spaced, Group, Lower}
 use Rattle.complgen_import.specs.declared.form.Separator.{Separator}
@@ -23,8 +23,9 @@ use Rattle.complgen_import.specs.declared.form.Value.{Value}
 use Rattle.complgen_import.specs.Classes.{in_class, begins, run, past}
 use Rattle.complgen_import.specs.Form.{AreIn, IsHead, IsRun, IsName, IsMark, HasNoDots, IsJoinedValue, IsSpacedValue, IsPiece, dots, is_tail, mark_text, may_end, may_follow, may_separate, name_text, piece_text, separator_text, stage_after, value_text}
 use Rattle.complgen_import.specs.Words.{is_word, is_word_with}
-use Rattle.complgen_import.specs.Reading.{Read, read_as, word_at, negatable_at, long_at, only_letter, letter_at, short_at, name_at, run_at, held_at, angle_at, curly_at, bare_at, mark_at, with_dots, value_at, joined_at, closed_at, optional_at, spaced_at, group_at, ends_lower, before_end, lower_at, separator_among, separators, separated, next_at, more_at, argument_at, piece_at, ReadsAs}
+use Rattle.complgen_import.specs.Reading.{Read, read_as, word_at, negatable_at, long_at, only_letter, letter_at, short_at, once_name_at, dotted_at, dotted_word_at, dotted_letter_at, if_word, if_letter, repeated_long_at, repeated_short_at, name_at, run_at, held_at, angle_at, curly_at, bare_at, mark_at, with_dots, value_at, joined_at, closed_at, optional_at, spaced_at, group_at, ends_lower, before_end, lower_at, separator_among, separators, separated, next_at, more_at, argument_at, piece_at, ReadsAs}
 use Rattle.complgen_import.proofs.ClassFacts.{alnum_name, alnum_not, begins_not, capital_value, clear_within, small_begins_not, small_not_capital, small_value, word_in}
+use Rattle.complgen_import.proofs.DotsRead.{dots_no_word, ending-found}
 use Rattle.complgen_import.proofs.FrontsRead.{after-found, run-cons, past-cons}
 use Rattle.complgen_import.proofs.Options.{or_first, or_none, or_second, none_not_some, some_same}
 use Rattle.complgen_import.proofs.Sound.{ClearOf, dots_clear}
@@ -68,25 +69,126 @@ letter_full letter rest is clear =
     ∙ ap (λ p. before (only_letter (letter ∷ [])) p) r.1
     ∙ ap (λ b. before (when b letter) rest) is
 
-pub name_full : (name : Name) (rest : List ℕ) → IsName name → begins NameByte rest ≡ false → name_at (name_text name ++ rest) ≡ Some (name, rest)
-unfolding name_at negatable_at long_at short_at name_text IsName after is_word_with is_joined in_class
-name_full (Short letter) rest is clear =
+-- a name without dots
+abbrev IsOnce : Name → Type 0
+IsOnce (RepeatedShort letter) = ⊥
+IsOnce (RepeatedLong word) = ⊥
+IsOnce name = Unit {0}
+
+once_full : (name : Name) (rest : List ℕ) → IsOnce name → IsName name → begins NameByte rest ≡ false → once_name_at (name_text name ++ rest) ≡ Some (name, rest)
+unfolding once_name_at negatable_at long_at short_at name_text IsName after is_word_with is_joined in_class
+once_full (Short letter) rest once is clear =
     or_second (option_or (negatable_at (45 ∷ letter ∷ rest)) (long_at (45 ∷ letter ∷ rest))) (short_at (45 ∷ letter ∷ rest)) (Short letter, rest)
     (or_none (negatable_at (45 ∷ letter ∷ rest)) (long_at (45 ∷ letter ∷ rest))
     (ap (λ o. read_as Negatable (option_and_then word_at o)) (alnum_not 45 letter (codes "[no-]") rest is refl))
     (ap (λ o. read_as Long (option_and_then word_at o)) (alnum_not 45 letter [] rest is refl)))
     (ap (read_as Short) (letter_full letter rest is clear))
-name_full (Long []) rest is clear = absurd (let both : false ≡ true = is in cc)
-name_full (Long (byte ∷ word)) rest is clear =
+once_full (Long []) rest once is clear = absurd (let both : false ≡ true = is in cc)
+once_full (Long (byte ∷ word)) rest once is clear =
     let text = codes "--" ++ (byte ∷ word ++ rest) in
     or_first (option_or (negatable_at text) (long_at text)) (short_at text) (Long (byte ∷ word), rest)
     (or_second (negatable_at text) (long_at text) (Long (byte ∷ word), rest)
     (ap (λ o. read_as Negatable (option_and_then word_at o)) (begins_not NameByte 91 byte (codes "no-]") (word ++ rest) (word_in (byte ∷ word) is).0 refl))
     (ap (read_as Long) (word_full (byte ∷ word) rest is clear)))
-name_full (Negatable word) rest is clear =
+once_full (Negatable word) rest once is clear =
     let text = codes "--[no-]" ++ (word ++ rest) in
     or_first (option_or (negatable_at text) (long_at text)) (short_at text) (Negatable word, rest)
     (or_first (negatable_at text) (long_at text) (Negatable word, rest) (ap (read_as Negatable) (word_full word rest is clear)))
+once_full (RepeatedShort letter) rest once is clear = absurd once
+once_full (RepeatedLong word) rest once is clear = absurd once
+
+once_name : (name : Name) (rest : List ℕ) → IsOnce name → IsName name → begins NameByte rest ≡ false → name_at (name_text name ++ rest) ≡ Some (name, rest)
+unfolding name_at
+once_name name rest once is clear =
+    let text = name_text name ++ rest in
+    or_first (option_or (once_name_at text) (repeated_long_at text)) (repeated_short_at text) (name, rest)
+    (or_first (once_name_at text) (repeated_long_at text) (name, rest) (once_full name rest once is clear))
+
+-- ---- names with dots
+
+dots_in : AreIn NameByte (codes "...")
+unfolding in_class
+dots_in = (refl, (refl, (refl, tt)))
+
+in_both : (class : Class) (front text : List ℕ) → AreIn class front → AreIn class text → AreIn class (front ++ text)
+in_both class [] text h k = k
+in_both class (byte ∷ front) text h k = (h.0, in_both class front text h.1 k)
+
+dotted_run : (word rest : List ℕ) → AreIn NameByte word → begins NameByte rest ≡ false → (run NameByte ((word ++ codes "...") ++ rest) ≡ word ++ codes "...") × (past NameByte ((word ++ codes "...") ++ rest) ≡ rest)
+dotted_run word rest each clear = run_all NameByte (word ++ codes "...") rest (in_both NameByte word (codes "...") each dots_in) clear
+
+dotted_full_run : (word rest : List ℕ) → AreIn NameByte word → begins NameByte rest ≡ false → dotted_at ((word ++ codes "...") ++ rest) ≡ Some (word, rest)
+unfolding dotted_at
+dotted_full_run word rest each clear =
+    let r = dotted_run word rest each clear in
+    let text = (word ++ codes "...") ++ rest in
+    ap (λ t. option_map (λ (w : List ℕ). (w, past NameByte text)) (before_ending (codes "...") t)) r.0
+    ∙ ap (λ p. option_map (λ (w : List ℕ). (w, p)) (before_ending (codes "...") (word ++ codes "..."))) r.1
+    ∙ ap (option_map (λ (w : List ℕ). (w, rest))) (ending-found (codes "...") word)
+
+dotted_word_full : (word rest : List ℕ) → is_word word ≡ true → begins NameByte rest ≡ false → dotted_word_at ((word ++ codes "...") ++ rest) ≡ Some (word, rest)
+unfolding dotted_word_at if_word
+dotted_word_full word rest is clear =
+    ap (option_and_then if_word) (dotted_full_run word rest (word_in word is) clear) ∙ ap (λ b. when b (word, rest)) is
+
+dotted_letter_full : (letter : ℕ) (rest : List ℕ) → is_ascii_alphanumeric letter ≡ true → begins NameByte rest ≡ false → dotted_letter_at ((letter ∷ codes "...") ++ rest) ≡ Some (letter, rest)
+unfolding dotted_letter_at if_letter only_letter
+dotted_letter_full letter rest is clear =
+    ap (option_and_then if_letter) (dotted_full_run (letter ∷ []) rest (alnum_name letter is, tt) clear) ∙ ap (λ b. before (when b letter) rest) is
+
+dotted_no_word : (word rest : List ℕ) → is_word word ≡ true → begins NameByte rest ≡ false → word_at ((word ++ codes "...") ++ rest) ≡ None
+unfolding word_at
+dotted_no_word word rest is clear =
+    let r = dotted_run word rest (word_in word is) clear in
+    let text = (word ++ codes "...") ++ rest in
+    ap (λ w. when (is_word w) (w, past NameByte text)) r.0 ∙ ap (λ b. when b (word ++ codes "...", past NameByte text)) (dots_no_word word)
+
+-- two name bytes or more are no letter
+long_no_letter : (first second : ℕ) (word rest : List ℕ) → AreIn NameByte (first ∷ second ∷ word) → begins NameByte rest ≡ false → letter_at ((first ∷ second ∷ word) ++ rest) ≡ None
+unfolding letter_at only_letter
+long_no_letter first second word rest each clear =
+    let r = run_all NameByte (first ∷ second ∷ word) rest each clear in
+    ap (λ w. before (only_letter w) (past NameByte ((first ∷ second ∷ word) ++ rest))) r.0
+
+repeated_short_full : (letter : ℕ) (rest : List ℕ) → is_ascii_alphanumeric letter ≡ true → begins NameByte rest ≡ false → name_at (name_text (RepeatedShort letter) ++ rest) ≡ Some (RepeatedShort letter, rest)
+unfolding name_at once_name_at negatable_at long_at short_at repeated_long_at repeated_short_at name_text after
+repeated_short_full letter rest is clear =
+    let behind = codes "..." ++ rest in
+    let text = 45 ∷ letter ∷ behind in
+    let each : AreIn NameByte (letter ∷ codes "...") = (alnum_name letter is, dots_in) in
+    or_second (option_or (once_name_at text) (repeated_long_at text)) (repeated_short_at text) (RepeatedShort letter, rest)
+    (or_none (once_name_at text) (repeated_long_at text)
+    (or_none (option_or (negatable_at text) (long_at text)) (short_at text)
+    (or_none (negatable_at text) (long_at text)
+    (ap (λ o. read_as Negatable (option_and_then word_at o)) (alnum_not 45 letter (codes "[no-]") behind is refl))
+    (ap (λ o. read_as Long (option_and_then word_at o)) (alnum_not 45 letter [] behind is refl)))
+    (ap (read_as Short) (long_no_letter letter 46 (codes "..") rest each clear)))
+    (ap (λ o. read_as RepeatedLong (option_and_then dotted_word_at o)) (alnum_not 45 letter [] behind is refl)))
+    (ap (read_as RepeatedShort) (dotted_letter_full letter rest is clear))
+
+repeated_long_full : (word rest : List ℕ) → is_word word ≡ true → begins NameByte rest ≡ false → name_at (name_text (RepeatedLong word) ++ rest) ≡ Some (RepeatedLong word, rest)
+unfolding name_at once_name_at negatable_at long_at short_at repeated_long_at name_text after is_word_with is_joined in_class
+repeated_long_full [] rest is clear = absurd (let both : false ≡ true = is in cc)
+repeated_long_full (byte ∷ word) rest is clear =
+    let whole = (byte ∷ word) ++ codes "..." in
+    let text = codes "--" ++ (whole ++ rest) in
+    let each : AreIn NameByte (45 ∷ whole) = (refl, in_both NameByte (byte ∷ word) (codes "...") (word_in (byte ∷ word) is) dots_in) in
+    or_first (option_or (once_name_at text) (repeated_long_at text)) (repeated_short_at text) (RepeatedLong (byte ∷ word), rest)
+    (or_second (once_name_at text) (repeated_long_at text) (RepeatedLong (byte ∷ word), rest)
+    (or_none (option_or (negatable_at text) (long_at text)) (short_at text)
+    (or_none (negatable_at text) (long_at text)
+    (ap (λ o. read_as Negatable (option_and_then word_at o)) (begins_not NameByte 91 byte (codes "no-]") ((word ++ codes "...") ++ rest) (word_in (byte ∷ word) is).0 refl))
+    (ap (read_as Long) (dotted_no_word (byte ∷ word) rest is clear)))
+    (ap (read_as Short) (long_no_letter 45 byte (word ++ codes "...") rest each clear)))
+    (ap (read_as RepeatedLong) (dotted_word_full (byte ∷ word) rest is clear)))
+
+pub name_full : (name : Name) (rest : List ℕ) → IsName name → begins NameByte rest ≡ false → name_at (name_text name ++ rest) ≡ Some (name, rest)
+unfolding IsName
+name_full (Short letter) rest is clear = once_name (Short letter) rest tt is clear
+name_full (Long word) rest is clear = once_name (Long word) rest tt is clear
+name_full (Negatable word) rest is clear = once_name (Negatable word) rest tt is clear
+name_full (RepeatedShort letter) rest is clear = repeated_short_full letter rest is clear
+name_full (RepeatedLong word) rest is clear = repeated_long_full word rest is clear
 
 -- ---- values
 
@@ -190,6 +292,8 @@ unfolding name_text
 name_begins (Short letter) rest = (letter ∷ rest, refl)
 name_begins (Long word) rest = (codes "-" ++ (word ++ rest), refl)
 name_begins (Negatable word) rest = (codes "-[no-]" ++ (word ++ rest), refl)
+name_begins (RepeatedShort letter) rest = (letter ∷ (codes "..." ++ rest), refl)
+name_begins (RepeatedLong word) rest = (codes "-" ++ ((word ++ codes "...") ++ rest), refl)
 
 -- a separator before a hyphen
 among_full : (separator : Separator) (text : List ℕ) → separator_among separators (separator_text separator ++ (45 ∷ text)) ≡ Some (separator, 45 ∷ text)
@@ -385,7 +489,7 @@ no_piece_of_none Closed may = refl
 no_piece_of_none Lowered may = refl
 
 no_piece_of_blanks : (stage : Stage) (text : List ℕ) → may_end stage ≡ true → piece_at stage (32 ∷ 32 ∷ text) ≡ None
-unfolding may_end piece_at argument_at joined_at optional_at more_at spaced_at group_at lower_at value_at mark_at angle_at curly_at bare_at run_at begins in_class next_at separator_among separator_text separated may_separate name_at negatable_at long_at short_at after
+unfolding may_end piece_at argument_at joined_at optional_at more_at spaced_at group_at lower_at value_at mark_at angle_at curly_at bare_at run_at begins in_class next_at separator_among separator_text separated may_separate name_at once_name_at negatable_at long_at short_at repeated_long_at repeated_short_at after
 no_piece_of_blanks Start text may = cc
 no_piece_of_blanks Named text may = refl
 no_piece_of_blanks Valued text may = refl
@@ -453,6 +557,8 @@ next_clear Closed Blank name rest may = refl
 next_clear Lowered CommaBlank (Short letter) rest may = (refl, refl)
 next_clear Lowered CommaBlank (Long word) rest may = (refl, refl)
 next_clear Lowered CommaBlank (Negatable word) rest may = (refl, refl)
+next_clear Lowered CommaBlank (RepeatedShort letter) rest may = (refl, refl)
+next_clear Lowered CommaBlank (RepeatedLong word) rest may = (refl, refl)
 next_clear Lowered separator name rest may = cc
 
 piece_clear : (stage : Stage) (piece : Piece) (rest : List ℕ) → may_follow stage piece ≡ true → Clear stage (piece_text piece ++ rest)

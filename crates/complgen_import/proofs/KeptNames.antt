@@ -19,7 +19,7 @@ among_split x (y ∷ front) rest (inr later) = elim (among_split x front rest la
 ]
 
 -- a property of each member
-all_among : {A : Type 0} (P : A → Type 0) (xs : List A) → ((x : A) → IsAmong x xs → P x) → AllByRecursion P xs
+pub all_among : {A : Type 0} (P : A → Type 0) (xs : List A) → ((x : A) → IsAmong x xs → P x) → AllByRecursion P xs
 unfolding IsAmong
 all_among P [] each = tt
 all_among P (x ∷ xs) each = (each x (inl refl), all_among P xs (λ y h. each y (inr h)))
@@ -36,7 +36,7 @@ neither false y h = (refl, h)
 
 -- ---- only names of lines
 
-new_among : (said names : List (List ℕ)) (name : List ℕ) → IsAmong name (new_names said names) → IsAmong name names
+pub new_among : (said names : List (List ℕ)) (name : List ℕ) → IsAmong name (new_names said names) → IsAmong name names
 unfolding IsAmong new_names
 new_among said [] name h = absurd h
 new_among said (other ∷ names) name h = elim (among_split name (if_new (is_said said other) other) (new_names (other ∷ said) names) h) [
@@ -47,7 +47,7 @@ new_among said (other ∷ names) name h = elim (among_split name (if_new (is_sai
 abbrev all_of : List (List (List ℕ)) → List (List ℕ)
 all_of kept = flat_map (λ names. names) kept
 
-kept_among : (said : List (List ℕ)) (lines : List (List (List ℕ))) (name : List ℕ) → IsAmong name (all_of (kept_names said lines)) →
+pub kept_among : (said : List (List ℕ)) (lines : List (List (List ℕ))) (name : List ℕ) → IsAmong name (all_of (kept_names said lines)) →
     (names : List (List ℕ)) × IsAmong names lines × IsAmong name names
 unfolding IsAmong kept_names
 kept_among said [] name h = absurd h
@@ -87,7 +87,7 @@ new_unsaid said (other ∷ names) name h = elim (among_split name (if_new (is_sa
 ]
 
 -- a name that is not among more earlier names is not among fewer
-unsaid_before : (said names : List (List ℕ)) (name : List ℕ) → is_said (said_after said names) name ≡ false → is_said said name ≡ false
+pub unsaid_before : (said names : List (List ℕ)) (name : List ℕ) → is_said (said_after said names) name ≡ false → is_said said name ≡ false
 unfolding said_after is_said
 unsaid_before said [] name h = h
 unsaid_before said (other ∷ names) name h = (neither (bytes_eq other name) (is_said said name) (unsaid_before (other ∷ said) names name h)).1
@@ -96,7 +96,7 @@ abbrev pub Differ : List (List ℕ) → Type 0
 Differ names = AllDifferBy (λ name. name) names
 
 -- a name differs from one that is not among the names with it
-is_none_of : (said : List (List ℕ)) (name other : List ℕ) → is_said (name ∷ said) other ≡ false → name ≢ other
+pub is_none_of : (said : List (List ℕ)) (name other : List ℕ) → is_said (name ∷ said) other ≡ false → name ≢ other
 unfolding is_said
 is_none_of said name other unsaid = λ same.
     let differ = (neither (bytes_eq name other) (is_said said other) unsaid).0 in

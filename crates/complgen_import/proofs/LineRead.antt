@@ -4,7 +4,7 @@ use Rattle.std.proofs.lemmas.Bool.{eqb-true}
 use Rattle.std.proofs.lemmas.List.{nil_from_length}
 use Rattle.std.proofs.Common.{◌≡◌, ◌≢◌, ◌==◌, ◌<◌, ◌+◌, ℕ, Bool, true, false, List, [], ◌∷◌, ◌++◌, length, Some, None, refl, sym, ◌∙◌, ap, subst, append_assoc, append-nil, arith, length-append}
 use Rattle.complgen_import.specs.declared.class.Class.TheVariants.{Blank as BlankByte}
-use Rattle.complgen_import.specs.declared.form.Name.TheVariants.{Short, Long, Negatable}
+use Rattle.complgen_import.specs.declared.form.Name.TheVariants.{Short, Long, Negatable, RepeatedShort, RepeatedLong}
 use Rattle.complgen_import.specs.declared.form.OptionLine.{OptionLine}
 use Rattle.complgen_import.specs.declared.form.Piece.{Piece}
 use Rattle.complgen_import.specs.declared.form.Piece.TheVariants.{First, Next, Joined, Optional, Spaced, Group, Lower}
@@ -44,6 +44,8 @@ unfolding piece_text name_text separator_text
 piece_begins (First (Short letter)) = (_, _, refl)
 piece_begins (First (Long word)) = (_, _, refl)
 piece_begins (First (Negatable word)) = (_, _, refl)
+piece_begins (First (RepeatedShort letter)) = (_, _, refl)
+piece_begins (First (RepeatedLong word)) = (_, _, refl)
 piece_begins (Next CommaBlank name) = (_, _, refl)
 piece_begins (Next Comma name) = (_, _, refl)
 piece_begins (Next SpacedBar name) = (_, _, refl)
@@ -114,6 +116,8 @@ head_dash [] tail h = absurd (let both : false ≡ true = h.0 in cc)
 head_dash (First (Short letter) ∷ pieces) tail h = refl
 head_dash (First (Long word) ∷ pieces) tail h = refl
 head_dash (First (Negatable word) ∷ pieces) tail h = refl
+head_dash (First (RepeatedShort letter) ∷ pieces) tail h = refl
+head_dash (First (RepeatedLong word) ∷ pieces) tail h = refl
 head_dash (piece ∷ pieces) tail h = absurd (let both : false ≡ true = h.0 in cc)
 
 head_some : (pieces : List Piece) (tail : List ℕ) → IsHead Start pieces tail → pieces ≢ []

@@ -16,11 +16,11 @@ use Rattle.complgen_import.proofs.FrontsRead.{after_cons, past-cons, run-cons}
 
 -- ---- the first line
 
-lines-end : (byte : ℕ) (text : List ℕ) → (byte == 10) ≡ true → lines_of (byte ∷ text) ≡ [] ∷ lines_of text
+pub lines-end : (byte : ℕ) (text : List ℕ) → (byte == 10) ≡ true → lines_of (byte ∷ text) ≡ [] ∷ lines_of text
 unfolding lines_of
 lines-end byte text e = rw (lines_of, e) refl
 
-lines-more : (byte : ℕ) (text : List ℕ) → (byte == 10) ≡ false → lines_of (byte ∷ text) ≡ with_byte byte (lines_of text)
+pub lines-more : (byte : ℕ) (text : List ℕ) → (byte == 10) ≡ false → lines_of (byte ∷ text) ≡ with_byte byte (lines_of text)
 unfolding lines_of
 lines-more byte text e = rw (lines_of, e) refl
 
@@ -33,7 +33,7 @@ unfolding with_byte
 longer byte line lines = refl
 
 -- a text is its first line, and the lines after the first line feed
-split : (text : List ℕ) → lines_of text ≡ run InLine text ∷ lines_of_some (after (codes "\n") (past InLine text))
+pub split : (text : List ℕ) → lines_of text ≡ run InLine text ∷ lines_of_some (after (codes "\n") (past InLine text))
 unfolding lines_of lines_of_some run past after
 split [] = refl
 split (byte ∷ text) = elim (eqb_tells byte 10) [

@@ -217,7 +217,7 @@ first_kept said first lines name h = elim (new_or_said said first name h) [
   | inr new ↦ inr (among_front name (new_names said first) (all_of (kept_names (said_after said first) lines)) new)
 ]
 
-kept_or_said : (said : List (List ℕ)) (lines : List (List (List ℕ))) (names : List (List ℕ)) (name : List ℕ) → IsAmong names lines → IsAmong name names →
+pub kept_or_said : (said : List (List ℕ)) (lines : List (List (List ℕ))) (names : List (List ℕ)) (name : List ℕ) → IsAmong names lines → IsAmong name names →
     IsAmong name said ⊎ IsAmong name (all_of (kept_names said lines))
 unfolding IsAmong kept_names
 kept_or_said said [] names name h k = absurd h

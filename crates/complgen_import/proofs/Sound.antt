@@ -5,13 +5,13 @@ use Rattle.std.proofs.lemmas.Bool.{cases_Bool}
 use Rattle.std.proofs.Common.{◌≡◌, ℕ, true, false, IsTrue, List, [], ◌∷◌, ◌++◌, Option, Some, None, inl, inr, refl, sym, ◌∙◌, ap, subst, append_assoc}
 use Rattle.std.proofs.lemmas.Bool.Decides.{eqb_tells}
 use Rattle.cc_base.proofs.Cases.{option_cases}
-use Rattle.cc_base.specs.Found.{after}
+use Rattle.cc_base.specs.Found.{after, before_ending}
 use Rattle.complgen_import.specs.declared.class.Class.{Class}
 use Rattle.complgen_import.specs.declared.class.Class.TheVariants.{NameByte, ValueByte, Capital, CapitalByte, Small, SmallByte, InAngles, InCurlies, InSquares}
 use Rattle.complgen_import.specs.declared.form.Mark.{Mark}
 use Rattle.complgen_import.specs.declared.form.Mark.TheVariants.{Word, Angle, Curly}
 use Rattle.complgen_import.specs.declared.form.Name.{Name}
-use Rattle.complgen_import.specs.declared.form.Name.TheVariants.{Short, Long, Negatable}
+use Rattle.complgen_import.specs.declared.form.Name.TheVariants.{Short, Long, Negatable, RepeatedShort, RepeatedLong}
 use Rattle.complgen_import.specs.declared.form.Piece.{Piece}
 use Rattle.complgen_import.specs.declared.form.Piece.TheVariants.{First, Next, Joined, Optional, Spaced, Group, Lower}
 use Rattle.complgen_import.specs.declared.form.Separator.{Separator}
@@ -21,9 +21,10 @@ use Rattle.complgen_import.specs.declared.form.Value.{Value}
 use Rattle.complgen_import.specs.Classes.{in_class, begins, run, past}
 use Rattle.complgen_import.specs.Form.{AreIn, IsRun, IsName, IsMark, HasNoDots, IsJoinedValue, IsSpacedValue, IsPiece, dots, mark_text, may_follow, may_separate, name_text, piece_text, separator_text, value_text}
 use Rattle.complgen_import.specs.Words.{is_word}
-use Rattle.complgen_import.specs.Reading.{Read, read_as, word_at, negatable_at, long_at, only_letter, letter_at, short_at, name_at, run_at, held_at, angle_at, curly_at, bare_at, mark_at, with_dots, value_at, joined_at, closed_at, optional_at, spaced_at, group_at, ends_lower, before_end, lower_at, separator_among, separators, separated, next_at, more_at, argument_at, piece_at}
+use Rattle.complgen_import.specs.Reading.{Read, read_as, word_at, negatable_at, long_at, only_letter, letter_at, short_at, once_name_at, dotted_at, dotted_word_at, dotted_letter_at, if_word, if_letter, repeated_long_at, repeated_short_at, name_at, run_at, held_at, angle_at, curly_at, bare_at, mark_at, with_dots, value_at, joined_at, closed_at, optional_at, spaced_at, group_at, ends_lower, before_end, lower_at, separator_among, separators, separated, next_at, more_at, argument_at, piece_at}
 use Rattle.std.specs.Char.{is_ascii_alphanumeric}
 use Rattle.complgen_import.proofs.ClassFacts.{capital_in, small_in}
+use Rattle.complgen_import.proofs.DotsRead.{ending-text}
 use Rattle.complgen_import.proofs.FrontsRead.{after-text, after_cons, past-cons, run-cons}
 use Rattle.complgen_import.proofs.Options.{and_then-some, map-some, or-some, read_as-some, some_same, when-some, when_read}
 use Rattle.complgen_import.proofs.SeparatorsRead.{among-some, among-later}
@@ -113,14 +114,52 @@ sound_letter : Sound letter_at (λ letter. letter ∷ []) (λ letter. IsTrue (is
 unfolding letter_at
 sound_letter text read h = letter_of text (only_letter (run NameByte text)) read refl h
 
-sound_name : Sound name_at name_text IsName
-unfolding name_at negatable_at long_at short_at name_text IsName
-sound_name =
+sound_once_name : Sound once_name_at name_text IsName
+unfolding once_name_at negatable_at long_at short_at name_text IsName
+sound_once_name =
     either (λ text. option_or (negatable_at text) (long_at text)) short_at name_text IsName
     (either negatable_at long_at name_text IsName
     (behind (codes "--[no-]") word_at (λ word. word) (λ word. IsTrue (is_word word)) Negatable name_text IsName sound_word (λ word is. is) (λ word. refl))
     (behind (codes "--") word_at (λ word. word) (λ word. IsTrue (is_word word)) Long name_text IsName sound_word (λ word is. is) (λ word. refl)))
     (behind (codes "-") letter_at (λ letter. letter ∷ []) (λ letter. IsTrue (is_ascii_alphanumeric letter)) Short name_text IsName sound_letter (λ letter is. is) (λ letter. refl))
+
+sound_dotted : (text : List ℕ) (read : List ℕ × List ℕ) → dotted_at text ≡ Some read → text ≡ (read.0 ++ codes "...") ++ read.1
+unfolding dotted_at
+sound_dotted text read h =
+    let m = map-some (λ (word : List ℕ). (word, past NameByte text)) (before_ending (codes "...") (run NameByte text)) read h in
+    let P : List ℕ × List ℕ → Type 0 = λ p. text ≡ (p.0 ++ codes "...") ++ p.1 in
+    subst P m.2 (run_past NameByte text ∙ ap (λ t. t ++ past NameByte text) (ending-text (codes "...") (run NameByte text) m.0 m.1))
+
+sound_dotted_word : Sound dotted_word_at (λ word. word ++ codes "...") (λ word. IsTrue (is_word word))
+unfolding dotted_word_at if_word
+sound_dotted_word text read h =
+    let a = and_then-some if_word (dotted_at text) read h in
+    let w = when-some (is_word a.0.0) a.0 read a.2 in
+    let P : List ℕ × List ℕ → Type 0 = λ p. IsTrue (is_word p.0) × (text ≡ (p.0 ++ codes "...") ++ p.1) in
+    subst P w.1 (w.0, sound_dotted text a.0 a.1)
+
+letter_before : (text : List ℕ) (dotted : List ℕ × List ℕ) (found : Option ℕ) (read : ℕ × List ℕ) → text ≡ (dotted.0 ++ codes "...") ++ dotted.1 → only_letter dotted.0 ≡ found →
+    elim found [ Some letter ↦ Some (letter, dotted.1) | None ↦ None ] ≡ Some read →
+    IsTrue (is_ascii_alphanumeric read.0) × (text ≡ (read.0 ∷ codes "...") ++ read.1)
+letter_before text dotted None read spelled e h = cc
+letter_before text dotted (Some letter) read spelled e h =
+    let only = only_letter-some dotted.0 letter e in
+    let P : ℕ × List ℕ → Type 0 = λ p. IsTrue (is_ascii_alphanumeric p.0) × (text ≡ (p.0 ∷ codes "...") ++ p.1) in
+    subst P (some_same h) (only.0, spelled ∙ ap (λ t. (t ++ codes "...") ++ dotted.1) only.1)
+
+sound_dotted_letter : Sound dotted_letter_at (λ letter. letter ∷ codes "...") (λ letter. IsTrue (is_ascii_alphanumeric letter))
+unfolding dotted_letter_at if_letter
+sound_dotted_letter text read h =
+    let a = and_then-some if_letter (dotted_at text) read h in
+    letter_before text a.0 (only_letter a.0.0) read (sound_dotted text a.0 a.1) refl a.2
+
+sound_name : Sound name_at name_text IsName
+unfolding name_at repeated_long_at repeated_short_at name_text IsName
+sound_name =
+    either (λ text. option_or (once_name_at text) (repeated_long_at text)) repeated_short_at name_text IsName
+    (either once_name_at repeated_long_at name_text IsName sound_once_name
+    (behind (codes "--") dotted_word_at (λ word. word ++ codes "...") (λ word. IsTrue (is_word word)) RepeatedLong name_text IsName sound_dotted_word (λ word is. is) (λ word. refl)))
+    (behind (codes "-") dotted_letter_at (λ letter. letter ∷ codes "...") (λ letter. IsTrue (is_ascii_alphanumeric letter)) RepeatedShort name_text IsName sound_dotted_letter (λ letter is. is) (λ letter. refl))
 
 -- ---- values
 

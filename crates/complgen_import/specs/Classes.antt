@@ -1,8 +1,9 @@
 -- Classes of bytes, and the longest beginning of a text that is in a class.
-use Rattle.std.specs.Prelude.{ℕ, Bool, true, false, not, ◌||◌, ◌==◌, List, [], ◌∷◌}
-use Rattle.std.specs.Char.{is_ascii_alphanumeric, is_ascii_digit, is_ascii_lowercase, is_ascii_uppercase}
+use Rattle.std.specs.Prelude.{ℕ, Bool, true, false, not, ◌||◌, ◌==◌, List, [], ◌∷◌, codes}
+use Rattle.std.specs.List.{list_any}
+use Rattle.std.specs.Char.{is_ascii_alphabetic, is_ascii_alphanumeric, is_ascii_digit, is_ascii_lowercase, is_ascii_uppercase}
 use Rattle.complgen_import.specs.declared.class.Class.{Class}
-use Rattle.complgen_import.specs.declared.class.Class.TheVariants.{Blank, NameByte, ValueByte, Capital, CapitalByte, Small, SmallByte, InLine, InAngles, InCurlies, InSquares, PlainByte, Opening, HeadingByte, BeforeNote}
+use Rattle.complgen_import.specs.declared.class.Class.TheVariants.{Blank, NameByte, ValueByte, Capital, CapitalByte, Small, SmallByte, InLine, InAngles, InCurlies, InSquares, PlainByte, Opening, HeadingByte, BeforeNote, InParentheses, Letter, QuietByte, Padding, BeforeBar, InChoice, WordByte, ListMark, ListByte, LabelByte}
 
 -- a letter, a digit, or one of `_.:+-`
 abbrev pub is_name_byte : ℕ → Bool
@@ -29,6 +30,26 @@ is_plain_byte byte = is_ascii_alphanumeric byte || (byte == 45 || byte == 95)
 abbrev pub is_opening : ℕ → Bool
 is_opening byte = byte == 60 || byte == 91 || byte == 123
 
+-- A letter, a digit, or one of `+-./:@_,=`. A value of such bytes is quiet: `complgen check` reports
+-- any other.
+abbrev pub is_quiet_byte : ℕ → Bool
+is_quiet_byte byte = is_ascii_alphanumeric byte || list_any (λ sign. byte == sign) (codes "+-./:@_,=")
+
+-- A letter, a digit, a space, or one of `-_./=,|`. The name of a positional consists of such bytes,
+-- because scripts show them as they are.
+abbrev pub is_label_byte : ℕ → Bool
+is_label_byte byte =
+    is_plain_byte byte
+    || (byte == 32 || byte == 46 || byte == 47 || byte == 61 || byte == 44 || byte == 124)
+
+-- a space or a quote
+abbrev pub is_padding : ℕ → Bool
+is_padding byte = byte == 32 || byte == 39 || byte == 34 || byte == 96
+
+-- a comma or a bar
+abbrev pub is_list_mark : ℕ → Bool
+is_list_mark byte = byte == 44 || byte == 124
+
 -- the byte is in the class
 unfoldable pub in_class : Class → ℕ → Bool
 in_class Blank byte = byte == 32
@@ -46,6 +67,16 @@ in_class PlainByte byte = is_plain_byte byte
 in_class Opening byte = is_opening byte
 in_class HeadingByte byte = not (byte == 45 || is_opening byte)
 in_class BeforeNote byte = not (byte == 40)
+in_class InParentheses byte = not (byte == 40 || byte == 41)
+in_class Letter byte = is_ascii_alphabetic byte
+in_class QuietByte byte = is_quiet_byte byte
+in_class Padding byte = is_padding byte
+in_class BeforeBar byte = not (byte == 124)
+in_class InChoice byte = not (byte == 124 || byte == 44)
+in_class WordByte byte = not (byte == 32)
+in_class ListMark byte = is_list_mark byte
+in_class ListByte byte = is_plain_byte byte || byte == 32 || is_list_mark byte
+in_class LabelByte byte = is_label_byte byte
 
 -- the text begins with a byte of the class
 unfoldable pub begins : Class → List ℕ → Bool

@@ -1,64 +1,116 @@
 -- The commands in a help text.
-use Rattle.std.specs.Prelude.{◌≡◌, ℕ, Bool, true, false, List, [], ◌∷◌, ◌++◌, if◌then◌else◌, map}
+use Rattle.std.specs.Prelude.{◌≡◌, ℕ, true, List, [], ◌∷◌, ◌++◌, ◌==◌, if◌then◌else◌, length, map}
+use Rattle.std.specs.List.{flat_map}
 use Rattle.cc_base.specs.Differ.{AllDifferBy}
 use Rattle.cc_base.specs.PlainName.{is_plain_name}
 use Rattle.complgen_import.specs.declared.commands.Command.{Command}
+use Rattle.complgen_import.specs.declared.commands.Entry.{Entry}
 use Rattle.complgen_import.specs.declared.sections.Section.{Section}
 use Rattle.complgen_import.specs.declared.sections.Section.TheVariants.{Other}
-use Rattle.complgen_import.specs.Entries.{entry_help, entry_name}
+use Rattle.complgen_import.specs.Aliases.{names_after, note_in, noted_names, without_note}
+use Rattle.complgen_import.specs.Braces.{brace_names}
+use Rattle.complgen_import.specs.Entries.{entry_help, entry_name, entry_rest, indent_of}
 use Rattle.complgen_import.specs.Lines.{IsAmong, lines_of}
-use Rattle.complgen_import.specs.Names.{is_said}
-use Rattle.complgen_import.specs.Sections.{is_entry_of, section_after}
+use Rattle.complgen_import.specs.NameLists.{listed_names, section_next}
+use Rattle.complgen_import.specs.Names.{new_names, said_after}
+use Rattle.complgen_import.specs.Sections.{is_entry_of}
+use Rattle.complgen_import.specs.TreeArguments.{singled}
+use Rattle.complgen_import.specs.Unfolded.{help_of}
 
--- the command of a line that is an entry
-abbrev pub command_of : List ℕ → List (List ℕ) → Command
-command_of line lines = record { name = entry_name line; about = entry_help line lines }
+-- the names of an entry: its own, those after it, and those in its help text
+abbrev pub entry_names : List ℕ → List ℕ → List ℕ → List (List ℕ)
+entry_names program line help =
+    entry_name program line ∷ (names_after (entry_rest program line) ++ noted_names (note_in help))
 
--- the command of a line
-abbrev pub command_at : Section → List ℕ → List (List ℕ) → List Command
-command_at section line lines =
-    if is_entry_of section line lines then command_of line lines ∷ [] else []
+-- a help text on one line, without a note of other names
+abbrev pub about_of : List ℕ → List ℕ
+about_of help = singled true (without_note help (note_in help))
 
--- the commands of all lines, from a section on
-unfoldable pub entries_of : Section → List (List ℕ) → List Command
-entries_of section [] = []
-entries_of section (line ∷ lines) =
-    command_at section line lines ++ entries_of (section_after section line lines) lines
+abbrev pub entry_with : List ℕ → List ℕ → List ℕ → Entry
+entry_with program line help =
+    record { names = entry_names program line help; about = about_of help }
 
--- a command, unless its name is among the earlier ones
-unfoldable pub if_first : Bool → Command → List Command
-if_first true command = []
-if_first false command = command ∷ []
+-- the entry in a line
+abbrev pub entry_of : List ℕ → List ℕ → List (List ℕ) → Entry
+entry_of program line lines = entry_with program line (entry_help program line lines)
 
--- the commands whose names are not among the earlier ones
-unfoldable pub first_of_each : List (List ℕ) → List Command → List Command
-first_of_each said [] = []
-first_of_each said (command ∷ commands) =
-    if_first (is_said said command.name) command ++ first_of_each (command.name ∷ said) commands
+-- the entry of a line, if it is one
+abbrev pub entry_at : List ℕ → Section → List ℕ → List (List ℕ) → List Entry
+entry_at program section line lines =
+    if is_entry_of program section line lines then entry_of program line lines ∷ [] else []
 
--- the commands of a text
-abbrev pub commands_of : List ℕ → List Command
-commands_of text = first_of_each [] (entries_of Other (lines_of text))
+-- an entry with this name alone
+abbrev pub alone : List ℕ → Entry
+alone name = record { names = name ∷ []; about = [] }
+
+-- the entries of a line: one for each name in a list, or one
+abbrev pub line_entries : List ℕ → Section → List ℕ → List (List ℕ) → List Entry
+line_entries program section line lines =
+    if length (listed_names section line lines) == 0 then entry_at program section line lines
+    else map alone (listed_names section line lines)
+
+-- the entries of all lines, from a section on
+unfoldable pub entries_of : List ℕ → Section → List (List ℕ) → List Entry
+entries_of program section [] = []
+entries_of program section (line ∷ lines) =
+    line_entries program section line lines
+    ++ entries_of program (section_next program section line lines) lines
+
+-- the command with these names, if there are any
+unfoldable pub named : List (List ℕ) → List ℕ → List Command
+named [] about = []
+named (name ∷ aliases) about = record { name = name; aliases = aliases; about = about } ∷ []
+
+-- for each entry, a command with its names that are not among the earlier ones
+unfoldable pub commands_from : List (List ℕ) → List Entry → List Command
+commands_from said [] = []
+commands_from said (entry ∷ entries) =
+    named (new_names said entry.names) entry.about
+    ++ commands_from (said_after said entry.names) entries
+
+-- The entries of a text, and then the names in the braces of usage lines. They have no help text,
+-- so an entry with the same name comes first.
+abbrev pub text_entries : List ℕ → List ℕ → List Entry
+text_entries program text =
+    entries_of program Other (lines_of text) ++ map alone (flat_map brace_names (lines_of text))
+
+-- the commands of a text that a program prints
+abbrev pub commands_of : List ℕ → List ℕ → List Command
+commands_of program text = commands_from [] (text_entries program text)
 
 -- ---- what holds for them
 
--- the name is plain, and is a piece of a line of the text
+-- all names of the commands
+abbrev pub command_names : List Command → List (List ℕ)
+command_names commands = flat_map (λ command. command.name ∷ command.aliases) commands
+
+-- a name is a name of one of the entries
+abbrev pub IsEntryName : List ℕ → List ℕ → List ℕ → Type 0
+IsEntryName program text name =
+    (entry : Entry) × IsAmong entry (text_entries program text)
+    × IsAmong name entry.names
+
+-- a piece of a text
+abbrev pub IsPiece : List ℕ → List ℕ → Type 0
+IsPiece piece text = (before : List ℕ) × (behind : List ℕ) × (text ≡ before ++ (piece ++ behind))
+
+-- the name is plain, and is a piece of a line, with the help text in the lines after it
 abbrev pub IsNameIn : List ℕ → List ℕ → Type 0
 IsNameIn text name =
-    (line : List ℕ) × (before : List ℕ) × (behind : List ℕ) × IsAmong line (lines_of text)
-    × (line ≡ before ++ (name ++ behind)) × (is_plain_name name ≡ true)
+    (before : List (List ℕ)) × (line : List ℕ) × (behind : List (List ℕ))
+    × (lines_of text ≡ before ++ line ∷ behind)
+    × IsPiece name (line ++ help_of (indent_of line) behind) × (is_plain_name name ≡ true)
 
 -- each name is
 abbrev pub HasNamesOf : List ℕ → List Command → Type 0
 HasNamesOf text commands =
-    (command : Command) → IsAmong command commands → IsNameIn text command.name
+    (name : List ℕ) → IsAmong name (command_names commands) → IsNameIn text name
 
--- each entry has the name of one of them
-abbrev pub HasEachEntry : List ℕ → List Command → Type 0
-HasEachEntry text commands =
-    (entry : Command) → IsAmong entry (entries_of Other (lines_of text)) →
-    IsAmong entry.name (map (λ command. command.name) commands)
+-- each name of each entry is a name of one of the commands
+abbrev pub HasEachEntry : List ℕ → List ℕ → List Command → Type 0
+HasEachEntry program text commands =
+    (name : List ℕ) → IsEntryName program text name → IsAmong name (command_names commands)
 
 -- no name appears twice
 abbrev pub HasCommandsOnce : List Command → Type 0
-HasCommandsOnce commands = AllDifferBy (λ command. command.name) commands
+HasCommandsOnce commands = AllDifferBy (λ name. name) (command_names commands)

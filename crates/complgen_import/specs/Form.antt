@@ -7,7 +7,7 @@ use Rattle.complgen_import.specs.declared.class.Class.TheVariants.{Blank as Blan
 use Rattle.complgen_import.specs.declared.form.Mark.{Mark}
 use Rattle.complgen_import.specs.declared.form.Mark.TheVariants.{Word, Angle, Curly}
 use Rattle.complgen_import.specs.declared.form.Name.{Name}
-use Rattle.complgen_import.specs.declared.form.Name.TheVariants.{Short, Long, Negatable}
+use Rattle.complgen_import.specs.declared.form.Name.TheVariants.{Short, Long, Negatable, RepeatedShort, RepeatedLong}
 use Rattle.complgen_import.specs.declared.form.OptionLine.{OptionLine}
 use Rattle.complgen_import.specs.declared.form.Piece.{Piece}
 use Rattle.complgen_import.specs.declared.form.Piece.TheVariants.{First, Next, Joined, Optional, Spaced, Group, Lower}
@@ -25,6 +25,8 @@ unfoldable pub name_text : Name → List ℕ
 name_text (Short letter) = 45 ∷ letter ∷ []
 name_text (Long word) = codes "--" ++ word
 name_text (Negatable word) = codes "--[no-]" ++ word
+name_text (RepeatedShort letter) = 45 ∷ letter ∷ codes "..."
+name_text (RepeatedLong word) = codes "--" ++ (word ++ codes "...")
 
 unfoldable pub mark_text : Mark → List ℕ
 mark_text (Word word) = word
@@ -76,6 +78,8 @@ unfoldable pub IsName : Name → Type 0
 IsName (Short letter) = IsTrue (is_ascii_alphanumeric letter)
 IsName (Long word) = IsTrue (is_word word)
 IsName (Negatable word) = IsTrue (is_word word)
+IsName (RepeatedShort letter) = IsTrue (is_ascii_alphanumeric letter)
+IsName (RepeatedLong word) = IsTrue (is_word word)
 
 -- the text between brackets contains none of them
 unfoldable pub IsMark : Class → Class → Mark → Type 0

@@ -7,7 +7,7 @@ use Rattle.std.specs.Ordering.{nat_cmp}
 use Rattle.cc_base.specs.Differ.{AllDifferBy}
 use Rattle.cc_base.specs.PlainName.{is_plain_name}
 use Rattle.complgen_import.specs.declared.form.Name.{Name}
-use Rattle.complgen_import.specs.declared.form.Name.TheVariants.{Short, Long, Negatable}
+use Rattle.complgen_import.specs.declared.form.Name.TheVariants.{Short, Long, Negatable, RepeatedShort, RepeatedLong}
 use Rattle.complgen_import.specs.declared.form.OptionLine.{OptionLine}
 use Rattle.complgen_import.specs.declared.form.Piece.{Piece}
 use Rattle.complgen_import.specs.declared.form.Piece.TheVariants.{First, Next}
@@ -27,6 +27,8 @@ unfoldable pub plain_names : Name → List (List ℕ)
 plain_names (Short letter) = (codes "-" ++ letter ∷ []) ∷ []
 plain_names (Long word) = long_names word
 plain_names (Negatable word) = negatable_names word
+plain_names (RepeatedShort letter) = (codes "-" ++ letter ∷ []) ∷ []
+plain_names (RepeatedLong word) = long_names word
 
 unfoldable pub piece_names : Piece → List (List ℕ)
 piece_names (First name) = plain_names name

@@ -2,13 +2,13 @@
 use Rattle.std.specs.Prelude.{◌≡◌, ℕ, Bool, true, false, List, [], ◌∷◌, codes, Option, Some, None, ◌||◌, is_some}
 use Rattle.std.specs.Char.{is_ascii_alphanumeric}
 use Rattle.std.specs.Option.{option_or, option_and_then, option_map}
-use Rattle.cc_base.specs.Found.{after}
+use Rattle.cc_base.specs.Found.{after, before_ending}
 use Rattle.complgen_import.specs.declared.class.Class.{Class}
 use Rattle.complgen_import.specs.declared.class.Class.TheVariants.{NameByte, ValueByte, Capital, CapitalByte, Small, SmallByte, InAngles, InCurlies, InSquares}
 use Rattle.complgen_import.specs.declared.form.Mark.{Mark}
 use Rattle.complgen_import.specs.declared.form.Mark.TheVariants.{Word, Angle, Curly}
 use Rattle.complgen_import.specs.declared.form.Name.{Name}
-use Rattle.complgen_import.specs.declared.form.Name.TheVariants.{Short, Long, Negatable}
+use Rattle.complgen_import.specs.declared.form.Name.TheVariants.{Short, Long, Negatable, RepeatedShort, RepeatedLong}
 use Rattle.complgen_import.specs.declared.form.Piece.{Piece}
 use Rattle.complgen_import.specs.declared.form.Piece.TheVariants.{First, Next, Joined, Optional, Spaced, Group, Lower}
 use Rattle.complgen_import.specs.declared.form.Separator.{Separator}
@@ -60,8 +60,40 @@ letter_at text = elim (only_letter (run NameByte text)) [
 unfoldable pub short_at : List ℕ → Read Name
 short_at text = read_as Short (option_and_then letter_at (after (codes "-") text))
 
+unfoldable pub once_name_at : List ℕ → Read Name
+once_name_at text = option_or (option_or (negatable_at text) (long_at text)) (short_at text)
+
+-- a whole run of name bytes that ends in dots, without the dots
+unfoldable pub dotted_at : List ℕ → Read (List ℕ)
+dotted_at text = option_map (λ word. (word, past NameByte text))
+    (before_ending (codes "...") (run NameByte text))
+
+unfoldable pub if_word : List ℕ × List ℕ → Read (List ℕ)
+if_word read = elim (is_word read.0) [ true ↦ Some read | false ↦ None ]
+
+unfoldable pub dotted_word_at : List ℕ → Read (List ℕ)
+dotted_word_at text = option_and_then if_word (dotted_at text)
+
+unfoldable pub repeated_long_at : List ℕ → Read Name
+repeated_long_at text =
+    read_as RepeatedLong (option_and_then dotted_word_at (after (codes "--") text))
+
+unfoldable pub if_letter : List ℕ × List ℕ → Read ℕ
+if_letter read = elim (only_letter read.0) [
+  | Some letter ↦ Some (letter, read.1)
+  | None ↦ None
+]
+
+unfoldable pub dotted_letter_at : List ℕ → Read ℕ
+dotted_letter_at text = option_and_then if_letter (dotted_at text)
+
+unfoldable pub repeated_short_at : List ℕ → Read Name
+repeated_short_at text =
+    read_as RepeatedShort (option_and_then dotted_letter_at (after (codes "-") text))
+
 unfoldable pub name_at : List ℕ → Read Name
-name_at text = option_or (option_or (negatable_at text) (long_at text)) (short_at text)
+name_at text =
+    option_or (option_or (once_name_at text) (repeated_long_at text)) (repeated_short_at text)
 
 -- ---- values
 

@@ -1,5 +1,5 @@
 -- Headings, and the sections of commands that they begin.
-use Rattle.std.specs.Prelude.{ℕ, Bool, true, false, not, ◌||◌, ◌&&◌, ◌==◌, List, [], ◌∷◌, codes, if◌then◌else◌, is_some, length, nat_lt}
+use Rattle.std.specs.Prelude.{ℕ, Bool, true, false, not, ◌||◌, ◌&&◌, ◌==◌, List, [], ◌∷◌, bytes_eq, codes, if◌then◌else◌, is_some, length, nat_lt}
 use Rattle.std.specs.Char.{is_ascii_lowercase}
 use Rattle.std.specs.List.{list_any}
 use Rattle.std.specs.Str.{str_to_ascii_lowercase}
@@ -7,9 +7,10 @@ use Rattle.cc_base.specs.Bytes.{colon}
 use Rattle.cc_base.specs.Found.{after}
 use Rattle.complgen_import.specs.declared.class.Class.TheVariants.{Blank as BlankByte, HeadingByte, BeforeNote}
 use Rattle.complgen_import.specs.declared.sections.Section.{Section}
-use Rattle.complgen_import.specs.declared.sections.Section.TheVariants.{Other, Opened, Entries}
+use Rattle.complgen_import.specs.declared.sections.Section.TheVariants.{Other, Opened, Entries, Listed, Positional}
 use Rattle.complgen_import.specs.Classes.{begins, past, run}
 use Rattle.complgen_import.specs.Entries.{columns_of, indent_of, is_entry}
+use Rattle.complgen_import.specs.Spread.{has_phrase}
 
 -- ---- headings
 
@@ -100,6 +101,10 @@ says_other text = says_options text || says_notes text
 abbrev pub is_of_commands : List ℕ → Bool
 is_of_commands text = says_commands (lower text) && not (says_other (lower text))
 
+-- the heading that argparse writes over positional arguments
+abbrev pub is_of_positionals : List ℕ → Bool
+is_of_positionals text = bytes_eq (lower text) (codes "positional arguments:")
+
 -- A heading among commands, such as `work on the current change (see also: git help everyday)`. The
 -- words in parentheses do not count.
 abbrev pub is_among_commands : List ℕ → Bool
@@ -112,11 +117,14 @@ abbrev pub is_other : Section → Bool
 is_other Other = true
 is_other Opened = false
 is_other (Entries columns) = false
+is_other (Listed indent) = false
+is_other Positional = true
 
 -- the section that a heading begins
 abbrev pub section_of : Section → List ℕ → Section
 section_of section text =
-    if is_of_commands text || (not (is_other section) && is_among_commands text) then Opened else Other
+    if is_of_commands text || (not (is_other section) && is_among_commands text) then Opened else
+    (if is_of_positionals text then Positional else Other)
 
 -- the line belongs to an entry, or begins one
 abbrev pub is_below : Section → List ℕ → Bool
@@ -124,27 +132,52 @@ is_below (Entries columns) line = not (nat_lt (indent_of line) columns.entry)
 is_below section line = false
 
 -- the line is an entry, if it is no heading
-unfoldable pub may_be_entry : Section → List ℕ → Bool
-may_be_entry Other line = false
-may_be_entry Opened line = is_entry 0 line
-may_be_entry (Entries columns) line = indent_of line == columns.entry && is_entry columns.help line
+unfoldable pub may_be_entry : List ℕ → Section → List ℕ → Bool
+may_be_entry program Other line = false
+may_be_entry program Opened line = is_entry program 0 line
+may_be_entry program (Listed indent) line = false
+may_be_entry program Positional line = false
+may_be_entry program (Entries columns) line =
+    indent_of line == columns.entry && is_entry program columns.help line
 
 -- the line is an entry
-abbrev pub is_entry_of : Section → List ℕ → List (List ℕ) → Bool
-is_entry_of section line lines =
-    may_be_entry section line && (is_below section line || not (is_heading line lines))
+abbrev pub is_entry_of : List ℕ → Section → List ℕ → List (List ℕ) → Bool
+is_entry_of program section line lines =
+    may_be_entry program section line && (is_below section line || not (is_heading line lines))
 
 -- a line that is neither in a list of entries nor a heading ends it
 abbrev pub section_left : Section → Section
 section_left Opened = Opened
+section_left Positional = Positional
 section_left section = Other
+
+-- the next line may be one of a list of names
+unfoldable pub is_above_names : List (List ℕ) → Bool
+is_above_names [] = false
+is_above_names (line ∷ lines) =
+    holds (codes "  ") (past BlankByte line) && not (has_phrase line)
+
+-- a title right before a line of names
+abbrev pub is_over_names : List ℕ → List (List ℕ) → Bool
+is_over_names line lines = is_title (past BlankByte line) && is_above_names lines
+
+-- the section after a title right before a line of names
+abbrev pub section_over : Section → List ℕ → Section
+section_over section text = if is_of_commands text then Opened else section_left section
+
+-- the section after a line that neither is an entry nor belongs to one
+abbrev pub section_at : Section → List ℕ → List (List ℕ) → Section
+section_at section line lines =
+    if is_heading line lines then section_of section (past BlankByte line) else
+    (if is_over_names line lines then section_over section (past BlankByte line)
+    else section_left section)
 
 -- the section after a line that is not an entry
 abbrev pub section_past : Section → List ℕ → List (List ℕ) → Section
 section_past section line lines =
-    if is_blank line || is_below section line then section else
-    (if is_heading line lines then section_of section (past BlankByte line) else section_left section)
+    if is_blank line || is_below section line then section else section_at section line lines
 
-abbrev pub section_after : Section → List ℕ → List (List ℕ) → Section
-section_after section line lines =
-    if is_entry_of section line lines then Entries (columns_of line) else section_past section line lines
+abbrev pub section_after : List ℕ → Section → List ℕ → List (List ℕ) → Section
+section_after program section line lines =
+    if is_entry_of program section line lines then Entries (columns_of program line)
+    else section_past section line lines

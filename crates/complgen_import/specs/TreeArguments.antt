@@ -11,8 +11,11 @@ use Rattle.complgen_import.specs.declared.form.Piece.{Piece}
 use Rattle.complgen_import.specs.declared.form.Piece.TheVariants.{Joined, Optional, Spaced, Group, Lower}
 use Rattle.complgen_import.specs.declared.tree_argument.TreeArgument.{TreeArgument}
 use Rattle.complgen_import.specs.declared.tree_argument.TreeNames.{TreeNames}
+use Rattle.complgen_import.specs.declared.tree_argument.TreeValues.{TreeValues}
 use Rattle.complgen_import.specs.Clean.{kept}
+use Rattle.complgen_import.specs.Possible.{possible_of}
 use Rattle.complgen_import.specs.Takes.{value_count, values_of}
+use Rattle.complgen_import.specs.ValueHints.{hint_beside}
 
 -- ---- names, as users type them, without their hyphens
 
@@ -89,10 +92,20 @@ singled follows (byte ∷ text) =
 abbrev pub line_help : OptionLine → List ℕ
 line_help line = singled true line.tail
 
+-- what a tree file says of the values of an option with this help text
+abbrev pub tree_values : OptionLine → List ℕ → TreeValues
+tree_values line help = record {
+  names = value_names line;
+  possible = possible_of (values_of line.pieces) help;
+  hint = hint_beside (possible_of (values_of line.pieces) help) (value_names line);
+}
+
 abbrev pub tree_argument : Argument → TreeArgument
 tree_argument argument = record {
   names = tree_names argument.names;
   value_names = value_names argument.line;
   values = value_count argument.line.pieces;
+  possible = (tree_values argument.line (line_help argument.line)).possible;
+  hint = (tree_values argument.line (line_help argument.line)).hint;
   help = line_help argument.line;
 }

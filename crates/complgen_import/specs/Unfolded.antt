@@ -1,6 +1,6 @@
 -- A text with the help texts of its option lines on one line each.
-use Rattle.std.specs.Prelude.{ℕ, Bool, true, false, not, ◌&&◌, ◌==◌, List, [], ◌∷◌, ◌++◌, codes, length, nat_lt}
-use Rattle.cc_base.specs.Bytes.{dash, line_feed}
+use Rattle.std.specs.Prelude.{ℕ, Bool, true, false, not, ◌&&◌, ◌||◌, ◌==◌, List, [], ◌∷◌, ◌++◌, codes, if◌then◌else◌, length, nat_lt}
+use Rattle.cc_base.specs.Bytes.{dash, line_feed, open_bracket}
 use Rattle.complgen_import.specs.declared.class.Class.TheVariants.{Blank as BlankByte}
 use Rattle.complgen_import.specs.Classes.{past, run}
 
@@ -28,10 +28,43 @@ help_of indent (line ∷ lines) = elim (continues indent line) [
   | false ↦ []
 ]
 
--- the help text of a line in the lines after it, if it begins as an option line
+-- ---- notes
+
+-- A line is below an option line with this indent: it is deeper or empty, and is no option line.
+abbrev pub is_below : ℕ → List ℕ → Bool
+is_below indent line = length (past BlankByte line) == 0 || continues indent line
+
+-- the text is a note, as `[default: 1]`
+unfoldable pub is_note : List ℕ → Bool
+is_note [] = false
+is_note (byte ∷ text) = byte == open_bracket
+
+abbrev pub note_of : List ℕ → List ℕ
+note_of line = if is_note (past BlankByte line) then codes "  " ++ past BlankByte line else []
+
+-- the notes in the lines below an option line
+unfoldable pub notes_of : ℕ → List (List ℕ) → List ℕ
+notes_of indent [] = []
+notes_of indent (line ∷ lines) = elim (is_below indent line) [
+  | true ↦ note_of line ++ notes_of indent lines
+  | false ↦ []
+]
+
+-- the lines after the help text
+unfoldable pub past_help : ℕ → List (List ℕ) → List (List ℕ)
+past_help indent [] = []
+past_help indent (line ∷ lines) = elim (continues indent line) [
+  | true ↦ past_help indent lines
+  | false ↦ line ∷ lines
+]
+
+-- ---- the text
+
+-- the help text of a line in the lines after it, and later notes, if it begins as an option line
 unfoldable pub help_below : List ℕ → List (List ℕ) → List ℕ
 help_below line lines = elim (is_dashed (past BlankByte line)) [
   | true ↦ help_of (length (run BlankByte line)) lines
+      ++ notes_of (length (run BlankByte line)) (past_help (length (run BlankByte line)) lines)
   | false ↦ []
 ]
 

@@ -1,7 +1,7 @@
 //! Classes of bytes.
 
 ghost use Rattle.std.specs.Prelude.{◌≡◌};
-ghost use Rattle.complgen_import.specs.Classes.{in_class, is_capital_byte, is_name_byte, is_opening, is_plain_byte, is_small_byte};
+ghost use Rattle.complgen_import.specs.Classes.{in_class, is_capital_byte, is_label_byte, is_list_mark, is_name_byte, is_opening, is_padding, is_plain_byte, is_quiet_byte, is_small_byte};
 
 /// A class of bytes.
 #[derive(Clone, Copy, Drop)]
@@ -35,6 +35,26 @@ pub(crate) enum Class {
     HeadingByte,
     // any byte except `(`
     BeforeNote,
+    // any byte except `(` and `)`
+    InParentheses,
+    // `A` to `Z`, or `a` to `z`
+    Letter,
+    // a letter, a digit, or one of `+-./:@_,=`
+    QuietByte,
+    // a space or a quote
+    Padding,
+    // any byte except `|`
+    BeforeBar,
+    // any byte except `|` and `,`
+    InChoice,
+    // any byte except a space
+    WordByte,
+    // a comma or a bar
+    ListMark,
+    // a plain byte, a space, a comma or a bar
+    ListByte,
+    // a letter, a digit, a space, or one of `-_./=,|`
+    LabelByte,
 }
 
 impl Class {
@@ -59,6 +79,16 @@ impl Class {
             Class::Opening => is_opening(byte),
             Class::HeadingByte => !(byte == b'-' || is_opening(byte)),
             Class::BeforeNote => byte != b'(',
+            Class::InParentheses => !matches!(byte, b'(' | b')'),
+            Class::Letter => byte.is_ascii_alphabetic(),
+            Class::QuietByte => is_quiet_byte(byte),
+            Class::Padding => is_padding(byte),
+            Class::BeforeBar => byte != b'|',
+            Class::InChoice => !matches!(byte, b'|' | b','),
+            Class::WordByte => byte != b' ',
+            Class::ListMark => is_list_mark(byte),
+            Class::ListByte => is_plain_byte(byte) || byte == b' ' || is_list_mark(byte),
+            Class::LabelByte => is_label_byte(byte),
         }
     }
 }
@@ -87,8 +117,36 @@ fn is_plain_byte(byte: u8) -> bool
     byte.is_ascii_alphanumeric() || matches!(byte, b'-' | b'_')
 }
 
+fn is_quiet_byte(byte: u8) -> bool
+    ensures { result ≡ is_quiet_byte byte }
+{
+    byte.is_ascii_alphanumeric()
+        || matches!(
+            byte,
+            b'+' | b'-' | b'.' | b'/' | b':' | b'@' | b'_' | b',' | b'='
+        )
+}
+
+fn is_label_byte(byte: u8) -> bool
+    ensures { result ≡ is_label_byte byte }
+{
+    is_plain_byte(byte) || matches!(byte, b' ' | b'.' | b'/' | b'=' | b',' | b'|')
+}
+
+fn is_padding(byte: u8) -> bool
+    ensures { result ≡ is_padding byte }
+{
+    matches!(byte, b' ' | b'\'' | b'"' | b'`')
+}
+
 fn is_opening(byte: u8) -> bool
     ensures { result ≡ is_opening byte }
 {
     matches!(byte, b'<' | b'[' | b'{')
+}
+
+fn is_list_mark(byte: u8) -> bool
+    ensures { result ≡ is_list_mark byte }
+{
+    matches!(byte, b',' | b'|')
 }

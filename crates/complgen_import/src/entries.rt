@@ -2,7 +2,7 @@
 
 ghost use Rattle.std.specs.Prelude.{◌≡◌, ◌++◌, IfOk, is_some};
 ghost use Rattle.std.specs.Option.{option_copied};
-ghost use Rattle.complgen_import.specs.Entries.{columns_of, entry_help, entry_name, entry_rest, from_gap, help_column, help_in, indent_of, is_entry, is_usage, is_value, may_follow_name, past_mark};
+ghost use Rattle.complgen_import.specs.Entries.{columns_of, entry_help, entry_name, entry_rest, entry_text, from_gap, help_column, help_in, indent_of, is_entry, is_usage, is_value, may_follow_name, past_bullet, past_dash, past_mark, past_marks, past_program};
 ghost use Rattle.complgen_import.specs.Lines.{lines_left};
 
 use crate::bytes::Bytes;
@@ -10,10 +10,8 @@ use crate::class::Class;
 use crate::fronts::{after, begins, split_run};
 use crate::lines::Lines;
 use crate::pieces::is_tail;
-use crate::tree_argument::singled;
 use crate::unfold::push_help;
 use crate::words::is_plain_word;
-use cc_base::Items;
 use std::alloc::{AllocError, Global};
 
 /// The columns of an entry.
@@ -27,12 +25,12 @@ pub(crate) struct Columns {
 
 impl Columns {
     /// Returns the columns of an entry.
-    pub(crate) fn new(line: &[u8]) -> Columns
-        ensures { result ≡ columns_of line.now }
+    pub(crate) fn new(program: &[u8], line: &[u8]) -> Columns
+        ensures { result ≡ columns_of program.now line.now }
     {
         Columns {
             entry: indent_of(line),
-            help: help_column(line),
+            help: help_column(program, line),
         }
     }
 }
@@ -46,22 +44,56 @@ pub(crate) fn indent_of(line: &[u8]) -> usize
 }
 
 /// Returns whether the line is an entry. `column` is that of the help text of the entry before it.
-pub(crate) fn is_entry(column: usize, line: &[u8]) -> bool
-    ensures { result ≡ is_entry column line.now }
+pub(crate) fn is_entry(program: &[u8], column: usize, line: &[u8]) -> bool
+    ensures { result ≡ is_entry program.now column line.now }
 {
-    let (name, rest) = split_entry(line);
-    let in_column = help_column(line) == column;
+    let (name, rest) = split_entry(program, line);
+    let in_column = help_column(program, line) == column;
     indent_of(line) > 0
         && (is_plain_word(name.as_slice()) && may_follow_name(in_column, rest.as_slice()))
 }
 
-/// Returns the name of an entry, and the text after it.
-pub(crate) fn split_entry<'a>(line: &'a [u8]) -> (Bytes<'a>, Bytes<'a>)
-    ensures name { result.0 ≡ entry_name line.now }
-    ensures rest { result.1 ≡ entry_rest line.now }
+/// Returns the name of an entry, and the text after it. The name of the program may be before it.
+pub(crate) fn split_entry<'a>(program: &[u8], line: &'a [u8]) -> (Bytes<'a>, Bytes<'a>)
+    ensures name { result.0 ≡ entry_name program.now line.now }
+    ensures rest { result.1 ≡ entry_rest program.now line.now }
+{
+    split_run(Class::PlainByte, entry_text(program, line))
+}
+
+// Returns the text of an entry, from its name on.
+fn entry_text<'a>(program: &[u8], line: &'a [u8]) -> &'a [u8]
+    ensures { result.now ≡ entry_text program.now line.now }
 {
     let (_, text) = split_run(Class::Blank, line);
-    split_run(Class::PlainByte, text.as_slice())
+    past_program(program, past_bullet(text.as_slice()))
+}
+
+// Returns the text without `- ` or `* ` at its start.
+#[tactic(auto, unfolding(crate::specs::Entries::past_bullet))]
+fn past_bullet<'a>(text: &'a [u8]) -> &'a [u8]
+    ensures { result.now ≡ past_bullet text.now }
+{
+    after(b"- ", text)
+        .or_else(|| after(b"* ", text))
+        .unwrap_or(text)
+}
+
+// Returns the text without the program's name at its start, if a name follows it.
+#[tactic(auto, unfolding(crate::specs::Entries::past_program, crate::specs::Entries::if_named))]
+fn past_program<'a>(program: &[u8], text: &'a [u8]) -> &'a [u8]
+    ensures { result.now ≡ past_program program.now text.now }
+{
+    let Some(behind) = after(program, text) else {
+        return text;
+    };
+    let Some(rest) = after(b" ", behind) else {
+        return text;
+    };
+    if begins(Class::PlainByte, rest) {
+        return rest;
+    }
+    text
 }
 
 /// Returns the help text of an entry. `lines` are the lines after it.
@@ -69,20 +101,25 @@ pub(crate) fn split_entry<'a>(line: &'a [u8]) -> (Bytes<'a>, Bytes<'a>)
 /// # Errors
 ///
 /// `AllocError` if an allocation fails.
-pub(crate) fn entry_help(alloc: Global, line: &[u8], lines: &Lines) -> Result<Items<u8>, AllocError>
-    ensures { IfOk result (λ help. help ≡ entry_help line.now (lines_left lines.now)) }
+pub(crate) fn entry_help(
+    alloc: Global,
+    program: &[u8],
+    line: &[u8],
+    lines: &Lines,
+) -> Result<Vec<u8>, AllocError>
+    ensures { IfOk result (λ help. help.items ≡ entry_help program.now line.now (lines_left lines.now)) }
 {
-    let (_, rest) = split_entry(line);
+    let (_, rest) = split_entry(program, line);
     let mut help = Vec::from_slice(alloc, help_in(rest.as_slice()))?;
     push_help(&mut help, indent_of(line), lines.ahead())?;
-    Ok(Items::from(singled(alloc, help.as_slice())?))
+    Ok(help)
 }
 
 // Returns the column of the help text.
-fn help_column(line: &[u8]) -> usize
-    ensures { result ≡ help_column line.now }
+fn help_column(program: &[u8], line: &[u8]) -> usize
+    ensures { result ≡ help_column program.now line.now }
 {
-    let (_, rest) = split_entry(line);
+    let (_, rest) = split_entry(program, line);
     let (_, help) = split_run(Class::Blank, help_in(rest.as_slice()));
     line.len().saturating_sub(help.as_slice().len())
 }
@@ -99,9 +136,25 @@ fn may_follow_name(in_column: bool, rest: &[u8]) -> bool
 }
 
 // Returns the help text after a name, with the spaces before it.
-#[tactic(auto, unfolding(crate::specs::Entries::help_in))]
-fn help_in(rest: &[u8]) -> &[u8]
+fn help_in<'a>(rest: &'a [u8]) -> &'a [u8]
     ensures { result.now ≡ help_in rest.now }
+{
+    past_dash(past_marks(rest))
+}
+
+// Returns the text after a dash in a column of its own.
+#[tactic(auto, unfolding(crate::specs::Entries::past_dash))]
+fn past_dash<'a>(text: &'a [u8]) -> &'a [u8]
+    ensures { result.now ≡ past_dash text.now }
+{
+    let (_, help) = split_run(Class::Blank, text);
+    after(b"- ", help.as_slice()).unwrap_or(text)
+}
+
+// Returns the text after a name and a mark, or after a value and a gap.
+#[tactic(auto, unfolding(crate::specs::Entries::past_marks))]
+fn past_marks(rest: &[u8]) -> &[u8]
+    ensures { result.now ≡ past_marks rest.now }
 {
     if is_usage(rest) {
         return from_gap(rest);

@@ -12,6 +12,10 @@ pub enum Name<'a> {
     Long(Bytes<'a>),
     /// The `name` of `--[no-]name`, which means `--name` and `--no-name`.
     Negatable(Bytes<'a>),
+    /// The `c` of `-c...`, which may be repeated.
+    RepeatedShort(u8),
+    /// The `name` of `--name...`, which may be repeated.
+    RepeatedLong(Bytes<'a>),
 }
 
 /// The name of a value, without its brackets.

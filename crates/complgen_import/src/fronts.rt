@@ -2,7 +2,7 @@
 
 ghost use Rattle.std.specs.Prelude.{◌≡◌, ◌≤◌, length};
 ghost use Rattle.std.specs.Option.{option_copied};
-ghost use Rattle.cc_base.specs.Found.{after};
+ghost use Rattle.cc_base.specs.Found.{after, before_ending};
 ghost use Rattle.complgen_import.specs.Classes.{begins, past, run};
 
 use crate::bytes::Bytes;
@@ -14,6 +14,14 @@ pub(crate) fn after<'a>(front: &[u8], text: &'a [u8]) -> Option<&'a [u8]>
     ensures { option_copied result ≡ after front.now text.now }
 {
     text.strip_prefix(front)
+}
+
+/// Returns the text before `ending`, or `None` if the text does not end with it.
+#[tactic(auto, using(crate::proofs::DotsRead::ending_stripped))]
+pub(crate) fn before_ending<'a>(ending: &[u8], text: &'a [u8]) -> Option<&'a [u8]>
+    ensures { option_copied result ≡ before_ending ending.now text.now }
+{
+    text.strip_suffix(ending)
 }
 
 /// Returns whether the text begins with a byte of the class.

@@ -4,12 +4,13 @@ ghost use Rattle.std.specs.Prelude.{◌≡◌, IfOk};
 ghost use Rattle.std.specs.Char.{is_ascii_lowercase};
 ghost use Rattle.std.specs.List.{list_any};
 ghost use Rattle.complgen_import.specs.Lines.{lines_left};
-ghost use Rattle.complgen_import.specs.Sections.{ends_in, holds, is_above, is_among_commands, is_bare, is_blank, is_heading, is_labelled, is_of_commands, is_title, is_upper, next_indent, says_commands, says_notes, says_options, says_other};
+ghost use Rattle.complgen_import.specs.Sections.{ends_in, holds, is_above, is_above_names, is_among_commands, is_bare, is_blank, is_heading, is_labelled, is_of_commands, is_of_positionals, is_over_names, is_title, is_upper, next_indent, says_commands, says_notes, says_options, says_other};
 
 use crate::class::Class;
 use crate::entries::indent_of;
 use crate::fronts::{after, begins, split_run};
 use crate::lines::Lines;
+use crate::spread::has_phrase;
 use std::alloc::{AllocError, Global};
 
 /// Returns whether the line is a heading. `lines` are the lines after it.
@@ -44,6 +45,26 @@ fn is_bare(line: &[u8], lines: &Lines) -> bool
     is_above(line, lines) && is_title(text.as_slice()) && (indent_of(line) == 0 || is_upper(line))
 }
 
+/// Returns whether the line is a title right before a line of names.
+pub(crate) fn is_over_names(line: &[u8], lines: &Lines) -> bool
+    ensures { result ≡ is_over_names line.now (lines_left lines.now) }
+{
+    let (_, text) = split_run(Class::Blank, line);
+    is_title(text.as_slice()) && is_above_names(lines.ahead())
+}
+
+// Returns whether the first of the lines may be one of a list of names.
+#[tactic(auto, unfolding(crate::specs::Sections::is_above_names))]
+fn is_above_names(mut lines: Lines) -> bool
+    ensures { result ≡ is_above_names (lines_left lines.entry) }
+{
+    let Some(line) = lines.next() else {
+        return false;
+    };
+    let (_, text) = split_run(Class::Blank, line.as_slice());
+    holds(b"  ", text.as_slice()) && !has_phrase(line.as_slice())
+}
+
 // Returns whether the next line with a text is deeper than the line.
 fn is_above(line: &[u8], lines: &Lines) -> bool
     ensures { result ≡ is_above line.now (lines_left lines.now) }
@@ -51,8 +72,8 @@ fn is_above(line: &[u8], lines: &Lines) -> bool
     indent_of(line) < next_indent(lines.ahead())
 }
 
-// Returns the indent of the next line with a text.
-fn next_indent(lines: Lines) -> usize
+/// Returns the indent of the next line with a text.
+pub(crate) fn next_indent(lines: Lines) -> usize
     ensures { result ≡ next_indent (lines_left lines.entry) }
 {
     for line in lines {
@@ -71,7 +92,8 @@ fn is_title(text: &[u8]) -> bool
     text.len() < 70 && !(holds(b"  ", text) || (ends_in(b'.', text) || ends_in(b',', text)))
 }
 
-fn is_upper(text: &[u8]) -> bool
+/// Returns whether the text has no lower-case letter.
+pub(crate) fn is_upper(text: &[u8]) -> bool
     ensures { result ≡ is_upper text.now }
 {
     !has_lower(text)
@@ -83,7 +105,8 @@ fn has_lower(text: &[u8]) -> bool
     text.iter().any(|byte| byte.is_ascii_lowercase())
 }
 
-fn ends_in(last: u8, text: &[u8]) -> bool
+/// Returns whether the text ends in the byte `last`.
+pub(crate) fn ends_in(last: u8, text: &[u8]) -> bool
     ensures { result ≡ ends_in last text.now }
 {
     match text.last() {
@@ -92,8 +115,8 @@ fn ends_in(last: u8, text: &[u8]) -> bool
     }
 }
 
-// Returns whether the text contains `part`.
-fn holds(part: &[u8], text: &[u8]) -> bool
+/// Returns whether the text contains `part`.
+pub(crate) fn holds(part: &[u8], text: &[u8]) -> bool
     ensures { result ≡ holds part.now text.now }
 {
     for at in 0..text.len() {
@@ -116,6 +139,18 @@ pub(crate) fn is_of_commands(alloc: Global, text: &[u8]) -> Result<bool, AllocEr
 {
     let lower = text.to_ascii_lowercase(alloc)?;
     Ok(says_commands(lower.as_slice()) && !says_other(lower.as_slice()))
+}
+
+/// Returns whether a heading is that which argparse writes over positional arguments.
+///
+/// # Errors
+///
+/// `AllocError` if an allocation fails.
+pub(crate) fn is_of_positionals(alloc: Global, text: &[u8]) -> Result<bool, AllocError>
+    ensures { IfOk result (λ is. is ≡ is_of_positionals text.now) }
+{
+    let lower = text.to_ascii_lowercase(alloc)?;
+    Ok(lower.as_slice() == b"positional arguments:".as_slice())
 }
 
 /// Returns whether a heading in a section of commands continues it.

@@ -11,37 +11,51 @@
 //! ```
 #![tactic(auto)]
 
+mod about;
+mod aliases;
 mod arguments;
+mod braces;
 mod bytes;
 mod class;
 mod clean;
 mod commands;
+mod dropped;
 mod entries;
 mod form;
 mod fronts;
 mod headings;
 mod line;
 mod lines;
+mod name_lists;
 mod names;
 mod option_name;
 mod option_names;
+mod parts;
 mod pieces;
+mod positionals;
+mod possible;
 mod sections;
+mod spread;
 mod takes;
 mod tree_argument;
 mod unfold;
+mod value_hint;
 mod values;
 mod words;
 
+pub use crate::about::read_about;
 pub use crate::arguments::{Argument, read_arguments};
 pub use crate::bytes::Bytes;
 pub use crate::clean::clean_text;
 pub use crate::commands::{Command, read_commands};
+pub use crate::dropped::{DropReason, DroppedLine, dropped_lines};
 pub use crate::form::{Mark, Name, OptionLine, Piece, Separator, Value};
 pub use crate::line::option_line;
 pub use crate::lines::{Lines, option_lines};
 pub use crate::option_name::OptionName;
 pub use crate::option_names::first_names;
+pub use crate::positionals::read_positionals;
 pub use crate::takes::{ValueCount, value_count};
 pub use crate::tree_argument::{TreeArgument, TreeNames, tree_arguments};
 pub use crate::unfold::unfold_text;
+pub use crate::value_hint::Hint;

@@ -39,8 +39,12 @@ pub fn first_names(
     Ok(kept)
 }
 
-// Returns the names that are not in the set, and adds them to it.
-fn unseen(
+/// Returns the names that are not in the set, and adds them to it.
+///
+/// # Errors
+///
+/// `AllocError` if an allocation fails.
+pub(crate) fn unseen(
     alloc: Global,
     seen: &mut BTreeSet<OptionName>,
     names: Vec<OptionName>,
@@ -71,9 +75,13 @@ pub(crate) fn insert_name(
     Ok(seen.insert(name.try_clone(alloc)?)?)
 }
 
-// Returns the plain names of a line.
+/// Returns the plain names of a line.
+///
+/// # Errors
+///
+/// `AllocError` if an allocation fails.
 #[tactic(auto, unfolding(crate::specs::Names::piece_names))]
-fn line_names(alloc: Global, line: &OptionLine) -> Result<Vec<OptionName>, AllocError>
+pub(crate) fn line_names(alloc: Global, line: &OptionLine) -> Result<Vec<OptionName>, AllocError>
     ensures { IfOk result (λ names. names.items ≡ line_names line.now) }
 {
     let mut names = Vec::new(alloc);
@@ -103,8 +111,13 @@ fn push_names(alloc: Global, name: &Name, names: &mut Vec<OptionName>) -> Result
     ensures { OnOk result (names.new.items ≡ names.old.items ++ plain_names name.now) }
 {
     match name {
-        Name::Short(letter) => push_name(alloc, b"-", &[*letter], names),
-        Name::Long(word) => push_long(alloc, word.as_slice(), names),
+        Name::Short(letter) | Name::RepeatedShort(letter) => push_name(
+            alloc,
+            b"-",
+            &[*letter],
+            names,
+        ),
+        Name::Long(word) | Name::RepeatedLong(word) => push_long(alloc, word.as_slice(), names),
         Name::Negatable(word) => push_negatable(alloc, word.as_slice(), names),
     }
 }

@@ -2,12 +2,14 @@
 
 ghost use Rattle.std.specs.Prelude.{◌≡◌, IfOk};
 ghost use Rattle.complgen_import.specs.Lines.{lines_left};
-ghost use Rattle.complgen_import.specs.Sections.{is_below, is_entry_of, is_other, may_be_entry, section_after, section_left, section_of, section_past};
+ghost use Rattle.complgen_import.specs.Sections.{is_below, is_entry_of, is_other, may_be_entry, section_after, section_at, section_left, section_of, section_over, section_past};
 
 use crate::class::Class;
 use crate::entries::{Columns, indent_of, is_entry};
 use crate::fronts::split_run;
-use crate::headings::{is_among_commands, is_blank, is_heading, is_of_commands};
+use crate::headings::{
+    is_among_commands, is_blank, is_heading, is_of_commands, is_of_positionals, is_over_names,
+};
 use crate::lines::Lines;
 use std::alloc::{AllocError, Global};
 
@@ -20,6 +22,10 @@ pub(crate) enum Section {
     Opened,
     /// A section of commands, after an entry in these columns.
     Entries(Columns),
+    /// A section of commands, in a list of names with this indent.
+    Listed(usize),
+    /// A section of positional arguments.
+    Positional,
 }
 
 impl Section {
@@ -31,22 +37,23 @@ impl Section {
     pub(crate) fn after(
         self,
         alloc: Global,
+        program: &[u8],
         line: &[u8],
         lines: &Lines,
     ) -> Result<Section, AllocError>
-        ensures { IfOk result (λ after. after ≡ section_after self line.now (lines_left lines.now)) }
+        ensures { IfOk result (λ after. after ≡ section_after program.now self line.now (lines_left lines.now)) }
     {
-        if self.has_entry(line, lines) {
-            return Ok(Section::Entries(Columns::new(line)));
+        if self.has_entry(program, line, lines) {
+            return Ok(Section::Entries(Columns::new(program, line)));
         }
         self.past(alloc, line, lines)
     }
 
     /// Returns whether the line is an entry of a list of commands.
-    pub(crate) fn has_entry(self, line: &[u8], lines: &Lines) -> bool
-        ensures { result ≡ is_entry_of self line.now (lines_left lines.now) }
+    pub(crate) fn has_entry(self, program: &[u8], line: &[u8], lines: &Lines) -> bool
+        ensures { result ≡ is_entry_of program.now self line.now (lines_left lines.now) }
     {
-        self.may_have_entry(line) && (self.is_below(line) || !is_heading(line, lines))
+        self.may_have_entry(program, line) && (self.is_below(line) || !is_heading(line, lines))
     }
 
     // Returns the section after a line that is not an entry.
@@ -56,9 +63,29 @@ impl Section {
         if is_blank(line) || self.is_below(line) {
             return Ok(self);
         }
+        self.at(alloc, line, lines)
+    }
+
+    // Returns the section after a line that neither is an entry nor belongs to one.
+    fn at(self, alloc: Global, line: &[u8], lines: &Lines) -> Result<Section, AllocError>
+        ensures { IfOk result (λ after. after ≡ section_at self line.now (lines_left lines.now)) }
+    {
+        let (_, text) = split_run(Class::Blank, line);
         if is_heading(line, lines) {
-            let (_, text) = split_run(Class::Blank, line);
             return self.under(alloc, text.as_slice());
+        }
+        if is_over_names(line, lines) {
+            return self.over(alloc, text.as_slice());
+        }
+        Ok(self.left())
+    }
+
+    // Returns the section after a title right before a line of names.
+    fn over(self, alloc: Global, text: &[u8]) -> Result<Section, AllocError>
+        ensures { IfOk result (λ after. after ≡ section_over self text.now) }
+    {
+        if is_of_commands(alloc, text)? {
+            return Ok(Section::Opened);
         }
         Ok(self.left())
     }
@@ -72,13 +99,16 @@ impl Section {
         if of_commands || (!self.is_other() && among_commands) {
             return Ok(Section::Opened);
         }
+        if is_of_positionals(alloc, text)? {
+            return Ok(Section::Positional);
+        }
         Ok(Section::Other)
     }
 
     fn is_other(self) -> bool
         ensures { result ≡ is_other self }
     {
-        matches!(self, Section::Other)
+        matches!(self, Section::Other | Section::Positional)
     }
 
     // Returns the section after a line that is neither in a list of entries nor a heading.
@@ -87,6 +117,7 @@ impl Section {
     {
         match self {
             Section::Opened => Section::Opened,
+            Section::Positional => Section::Positional,
             _ => Section::Other,
         }
     }
@@ -103,14 +134,14 @@ impl Section {
 
     // Returns whether the line is an entry if it is no heading.
     #[tactic(auto, unfolding(crate::specs::Sections::may_be_entry))]
-    fn may_have_entry(self, line: &[u8]) -> bool
-        ensures { result ≡ may_be_entry self line.now }
+    fn may_have_entry(self, program: &[u8], line: &[u8]) -> bool
+        ensures { result ≡ may_be_entry program.now self line.now }
     {
         match self {
-            Section::Other => false,
-            Section::Opened => is_entry(0, line),
+            Section::Other | Section::Listed(_) | Section::Positional => false,
+            Section::Opened => is_entry(program, 0, line),
             Section::Entries(columns) => indent_of(line) == columns.entry
-                && is_entry(columns.help, line),
+                && is_entry(program, columns.help, line),
         }
     }
 }

@@ -130,8 +130,8 @@ impl<'a> Mark<'a> {
     }
 }
 
-// Returns whether the text contains `...`.
-fn has_dots(text: &[u8]) -> bool
+/// Returns whether the text contains `...`.
+pub(crate) fn has_dots(text: &[u8]) -> bool
     ensures { result ≡ has_dots text.now }
 {
     for at in 0..text.len() {

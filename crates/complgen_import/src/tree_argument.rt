@@ -1,14 +1,17 @@
 //! The arguments of a tree file that option lines give.
 
 ghost use Rattle.std.specs.Prelude.{◌≡◌, ◌∷◌, ◌++◌, [], IfOk, OnOk, drop, map, true};
-ghost use Rattle.complgen_import.specs.TreeArguments.{id_among, is_single, long_word, longs_of, mark_held, short_letter, shorts_of, singled, tree_argument, tree_names, value_name, value_names};
+ghost use Rattle.complgen_import.specs.PossibleLaws.{HaveBareFlags, HaveQuietValues, HaveSaidValues, HaveValuesOnce};
+ghost use Rattle.complgen_import.specs.TreeArguments.{id_among, is_single, long_word, longs_of, mark_held, short_letter, shorts_of, singled, tree_argument, tree_names, tree_values, value_name, value_names};
 
 use crate::arguments::Argument;
 use crate::clean::push_if;
 use crate::form::{Mark, OptionLine, Piece};
 use crate::fronts::after;
 use crate::option_name::OptionName;
+use crate::possible::possible_of;
 use crate::takes::{ValueCount, value_count, values_of};
+use crate::value_hint::{Hint, hint_beside};
 use cc_base::Items;
 use std::alloc::{AllocError, Global};
 
@@ -21,6 +24,10 @@ pub struct TreeArgument {
     pub value_names: Items<Items<u8>>,
     /// The number of its values.
     pub values: ValueCount,
+    /// The possible values, if the help text lists them.
+    pub possible: Items<Items<u8>>,
+    /// The kind of its values, if their name tells it.
+    pub hint: Option<Hint>,
     /// The help text.
     pub help: Items<u8>,
 }
@@ -45,7 +52,15 @@ pub fn tree_arguments(
     alloc: Global,
     arguments: &[Argument],
 ) -> Result<Items<TreeArgument>, AllocError>
-    ensures { IfOk result (λ made. made ≡ map tree_argument arguments.now) }
+    ensures exact { IfOk result (λ made. made ≡ map tree_argument arguments.now) }
+    // Each possible value is a piece of the help text or of the name of a value.
+    ensures sound { IfOk result (λ made. HaveSaidValues made) }
+    // Each is quiet: `complgen check` has no warning about it.
+    ensures quiet { IfOk result (λ made. HaveQuietValues made) }
+    // No argument has a value twice.
+    ensures once { IfOk result (λ made. HaveValuesOnce made) }
+    // A flag has no possible values and no hint.
+    ensures bare { IfOk result (λ made. HaveBareFlags made) }
 {
     let mut made = Items::new(alloc);
     for argument in arguments {
@@ -57,11 +72,37 @@ pub fn tree_arguments(
 fn tree_argument(alloc: Global, argument: &Argument) -> Result<TreeArgument, AllocError>
     ensures { IfOk result (λ made. made ≡ tree_argument argument.now) }
 {
+    let help = Items::from(singled(alloc, argument.line.tail.as_slice())?);
+    let names = tree_names(alloc, argument.names.as_slice())?;
+    let values = tree_values(alloc, &argument.line, help.as_slice())?;
     Ok(TreeArgument {
-        names: tree_names(alloc, argument.names.as_slice())?,
-        value_names: value_names(alloc, &argument.line)?,
+        names,
+        value_names: values.names,
         values: value_count(&argument.line),
-        help: Items::from(singled(alloc, argument.line.tail.as_slice())?),
+        possible: values.possible,
+        hint: values.hint,
+        help,
+    })
+}
+
+/// What a tree file says of the values of an option.
+#[derive(Drop)]
+pub(crate) struct TreeValues {
+    pub names: Items<Items<u8>>,
+    pub possible: Items<Items<u8>>,
+    pub hint: Option<Hint>,
+}
+
+fn tree_values(alloc: Global, line: &OptionLine, help: &[u8]) -> Result<TreeValues, AllocError>
+    ensures { IfOk result (λ values. values ≡ tree_values line.now help.now) }
+{
+    let names = value_names(alloc, line)?;
+    let possible = possible_of(alloc, line, help)?;
+    let hint = hint_beside(alloc, possible.as_slice(), names.as_slice())?;
+    Ok(TreeValues {
+        names,
+        possible,
+        hint,
     })
 }
 
@@ -194,16 +235,25 @@ fn push_value_name(
     }
 }
 
-fn push_copy(alloc: Global, text: &[u8], texts: &mut Items<Items<u8>>) -> Result<(), AllocError>
+/// Adds a copy of the text.
+///
+/// # Errors
+///
+/// `AllocError` if an allocation fails.
+pub(crate) fn push_copy(
+    alloc: Global,
+    text: &[u8],
+    texts: &mut Items<Items<u8>>,
+) -> Result<(), AllocError>
     ensures { OnOk result (texts.new ≡ texts.old ++ text.now ∷ []) }
 {
     Ok(texts.push(Items::copy_of(alloc, text)?)?)
 }
 
 impl<'a> Mark<'a> {
-    // Returns the name without brackets.
+    /// Returns the name without brackets.
     #[tactic(auto, unfolding(crate::specs::TreeArguments::mark_held))]
-    fn held(&self) -> &'a [u8]
+    pub(crate) fn held(&self) -> &'a [u8]
         ensures { result.now ≡ mark_held self.now }
     {
         match self {

@@ -4,7 +4,7 @@ ghost use Rattle.std.specs.Prelude.{◌≡◌, ◌++◌, IfOk, OnOk, codes};
 ghost use Rattle.complgen_import.specs.declared.class.Class.TheVariants.{Blank as BlankByte};
 ghost use Rattle.complgen_import.specs.Classes.{past};
 ghost use Rattle.complgen_import.specs.Lines.{lines_left, lines_of};
-ghost use Rattle.complgen_import.specs.Unfolded.{continues, help_below, help_of, is_dashed, is_plain, unfolded, unfolded_line};
+ghost use Rattle.complgen_import.specs.Unfolded.{continues, help_below, help_of, is_below, is_dashed, is_note, is_plain, note_of, notes_of, past_help, unfolded, unfolded_line};
 
 use crate::class::Class;
 use crate::fronts::split_run;
@@ -13,7 +13,7 @@ use std::alloc::{AllocError, Global};
 
 /// Returns the text with each help text on the line of its option: after a line that begins with a
 /// hyphen, the lines that are deeper are added to it, up to an empty line or one that begins with a
-/// hyphen. All lines stay.
+/// hyphen. Notes such as `[default: 1]` are also added if they come later. All lines stay.
 ///
 /// # Errors
 ///
@@ -39,8 +39,13 @@ fn push_unfolded(out: &mut Vec<u8>, line: &[u8], lines: &Lines) -> Result<(), Al
     Ok(out.push(b'\n')?)
 }
 
+/// Adds the help text in `lines`, the lines after a line, if it begins as an option line does.
 #[tactic(auto, unfolding(crate::specs::Unfolded::help_below))]
-fn push_help_below(out: &mut Vec<u8>, line: &[u8], lines: &Lines) -> Result<(), AllocError>
+pub(crate) fn push_help_below(
+    out: &mut Vec<u8>,
+    line: &[u8],
+    lines: &Lines,
+) -> Result<(), AllocError>
     ensures { OnOk result
         (out.new.items ≡ out.old.items ++ help_below line.now (lines_left lines.now)) }
 {
@@ -48,7 +53,9 @@ fn push_help_below(out: &mut Vec<u8>, line: &[u8], lines: &Lines) -> Result<(), 
     if !is_dashed(head.as_slice()) {
         return Ok(());
     }
-    push_help(out, blanks.as_slice().len(), lines.ahead())
+    let indent = blanks.as_slice().len();
+    push_help(out, indent, lines.ahead())?;
+    push_notes(out, indent, past_help(indent, lines.ahead()))
 }
 
 /// Adds the help text in `lines`, the lines after a line with this indent.
@@ -63,6 +70,63 @@ pub(crate) fn push_help(out: &mut Vec<u8>, indent: usize, lines: Lines) -> Resul
         push_added(out, line.as_slice())?;
     }
     Ok(())
+}
+
+// Returns the lines after the help text.
+fn past_help<'a>(indent: usize, lines: Lines<'a>) -> Lines<'a>
+    ensures { lines_left result ≡ past_help indent (lines_left lines.entry) }
+{
+    let mut lines = lines;
+    let mut rest = lines.ahead();
+    while let Some(line) = lines.next() {
+        if !continues(indent, line.as_slice()) {
+            return rest;
+        }
+        rest = lines.ahead();
+    }
+    rest
+}
+
+// Adds the notes in `lines`, the lines after a help text.
+fn push_notes(out: &mut Vec<u8>, indent: usize, lines: Lines) -> Result<(), AllocError>
+    ensures { OnOk result
+        (out.new.items ≡ out.old.items ++ notes_of indent (lines_left lines.entry)) }
+{
+    for line in lines {
+        if !is_below(indent, line.as_slice()) {
+            return Ok(());
+        }
+        push_note(out, line.as_slice())?;
+    }
+    Ok(())
+}
+
+fn push_note(out: &mut Vec<u8>, line: &[u8]) -> Result<(), AllocError>
+    ensures { OnOk result (out.new.items ≡ out.old.items ++ note_of line.now) }
+{
+    let (_, text) = split_run(Class::Blank, line);
+    if !is_note(text.as_slice()) {
+        return Ok(());
+    }
+    push_added(out, line)
+}
+
+// Returns whether the line is below an option line with this indent, as its help text is.
+fn is_below(indent: usize, line: &[u8]) -> bool
+    ensures { result ≡ is_below indent line.now }
+{
+    let (_, text) = split_run(Class::Blank, line);
+    text.as_slice().len() == 0 || continues(indent, line)
+}
+
+#[tactic(auto, unfolding(crate::specs::Unfolded::is_note))]
+fn is_note(text: &[u8]) -> bool
+    ensures { result ≡ is_note text.now }
+{
+    match text {
+        [byte, ..] => *byte == b'[',
+        [] => false,
+    }
 }
 
 fn push_added(out: &mut Vec<u8>, line: &[u8]) -> Result<(), AllocError>
@@ -81,8 +145,9 @@ fn continues(indent: usize, line: &[u8]) -> bool
     indent < blanks.as_slice().len() && is_plain(text.as_slice())
 }
 
+/// Returns whether the text begins with a hyphen.
 #[tactic(auto, unfolding(crate::specs::Unfolded::is_dashed))]
-fn is_dashed(text: &[u8]) -> bool
+pub(crate) fn is_dashed(text: &[u8]) -> bool
     ensures { result ≡ is_dashed text.now }
 {
     match text {

@@ -45,7 +45,11 @@ fn with_dots<'a>(mark: Mark<'a>, rest: Bytes<'a>) -> (Value<'a>, Bytes<'a>)
 }
 
 #[tactic(auto, unfolding(crate::specs::Reading::mark_at))]
-fn mark_at<'a>(first: Class, others: Class, text: &'a [u8]) -> Option<(Mark<'a>, Bytes<'a>)>
+pub(crate) fn mark_at<'a>(
+    first: Class,
+    others: Class,
+    text: &'a [u8],
+) -> Option<(Mark<'a>, Bytes<'a>)>
     ensures { result ≡ mark_at first others text.now }
 {
     angle_at(text)

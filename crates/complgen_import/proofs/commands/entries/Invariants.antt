@@ -4,9 +4,9 @@ use Rattle.complgen_import.specs.Commands.{entries_of}
 use Rattle.complgen_import.specs.Lines.{lines_left, lines_of}
 use Rattle.complgen_import.proofs.commands.entries.Given as goal
 
--- the commands so far and those of the remaining lines are all
+-- the entries so far and those of the remaining lines are all
 abbrev pub invariant-loop-line : goal.invariant-loop-line
-invariant-loop-line l = l.commands.items ++ entries_of l.section (lines_left l.lines) ≡ entries_of InOther (lines_of l.text)
+invariant-loop-line l = l.entries.items ++ entries_of l.program l.section (lines_left l.lines) ≡ entries_of l.program InOther (lines_of l.text)
 
 abbrev pub decreases-loop-line : goal.decreases-loop-line
 decreases-loop-line l = length (lines_left l.lines)

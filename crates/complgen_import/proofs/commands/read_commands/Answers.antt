@@ -1,16 +1,21 @@
-use Rattle.std.proofs.Common.{[], ◌∙◌, ap}
-use Rattle.complgen_import.specs.Commands.{first_of_each}
+use Rattle.std.proofs.Common.{[], ◌++◌, ◌∙◌, ap, map}
+use Rattle.complgen_import.specs.declared.sections.Section.TheVariants.{Other as InOther}
+use Rattle.complgen_import.specs.Commands.{alone, commands_from, entries_of}
+use Rattle.complgen_import.specs.Lines.{lines_of}
 use Rattle.complgen_import.proofs.CommandLaws.{each_entry, names_of, once}
 use Rattle.complgen_import.proofs.commands.read_commands.Goals as goal
 
 pub returns-clause-exact : goal.returns-clause-exact
-returns-clause-exact c = c.in_ok-first_of_each.ensures ∙ ap (first_of_each []) c.in_ok-entries.ensures
+returns-clause-exact c =
+    c.in_ok-commands_from.ensures
+    ∙ ap (commands_from []) (c.in_ok-push_alone.ensures ∙ ap (λ es. es ++ map alone c.in_ok-brace_names.field-0.items) c.in_ok-entries.ensures
+    ∙ ap (λ ns. entries_of c.args.program.now InOther (lines_of c.args.text.now) ++ map alone ns) c.in_ok-brace_names.ensures)
 
 pub returns-clause-complete : goal.returns-clause-complete
-returns-clause-complete c = each_entry c.args.text.now c.in_ok-first_of_each.field-0 (returns-clause-exact c)
+returns-clause-complete c = each_entry c.args.program.now c.args.text.now c.in_ok-commands_from.field-0 (returns-clause-exact c)
 
 pub returns-clause-sound : goal.returns-clause-sound
-returns-clause-sound c = names_of c.args.text.now c.in_ok-first_of_each.field-0 (returns-clause-exact c)
+returns-clause-sound c = names_of c.args.program.now c.args.text.now c.in_ok-commands_from.field-0 (returns-clause-exact c)
 
 pub returns-clause-once : goal.returns-clause-once
-returns-clause-once c = once c.args.text.now c.in_ok-first_of_each.field-0 (returns-clause-exact c)
+returns-clause-once c = once c.args.program.now c.args.text.now c.in_ok-commands_from.field-0 (returns-clause-exact c)
