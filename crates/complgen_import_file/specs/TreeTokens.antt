@@ -1,10 +1,16 @@
 -- A tree file as JSON.
-use Rattle.std.specs.Prelude.{ℕ, Bool, true, false, ◌==◌, List, [], ◌∷◌, ◌++◌, Option, Some, None, codes, decimal, flat_map, if◌then◌else◌, length, map, take}
+use Rattle.std.specs.Prelude.{ℕ, zero, suc, Bool, true, false, ◌==◌, List, [], ◌∷◌, ◌++◌, Option, Some, None, bytes_eq, codes, decimal, flat_map, if◌then◌else◌, length, map, min, take}
 use Rattle.std.specs.Str.{is_utf8}
+use Rattle.cc_base.specs.Bytes.{space}
 use Rattle.json.specs.Token.{Token}
+use Rattle.complgen_import.specs.declared.commands.Command.{Command}
 use Rattle.complgen_import.specs.declared.takes.ValueCount.{ValueCount}
 use Rattle.complgen_import.specs.declared.tree_argument.TreeArgument.{TreeArgument}
 use Rattle.complgen_import.specs.declared.tree_argument.TreeNames.{TreeNames}
+use Rattle.complgen_import.specs.declared.value_hint.Hint.{Hint}
+use Rattle.complgen_import.specs.ValueHints.{hint_text}
+use Rattle.complgen_import_file.specs.Characters.{description_text, label_text}
+use Rattle.complgen_import_file.specs.declared.read.ReadText.{ReadText}
 
 -- ---- texts
 
@@ -16,14 +22,29 @@ shown text = if is_utf8 text then text else []
 unfoldable pub text_tokens : List ℕ → List ℕ → List Token
 text_tokens key text = Token.key key ∷ Token.string (shown text) ∷ []
 
+-- the same for a text that is UTF-8
+unfoldable pub str_tokens : List ℕ → List ℕ → List Token
+str_tokens key text = Token.key key ∷ Token.string text ∷ []
+
+-- a member with the value `true`
+unfoldable pub true_tokens : List ℕ → List Token
+true_tokens key = Token.key key ∷ Token.boolean true ∷ []
+
+-- the beginning of a member with a list
+unfoldable pub opening_tokens : List ℕ → List Token
+opening_tokens key = Token.key key ∷ Token.begin_array ∷ []
+
+-- a member with a list of these items
+unfoldable pub array_tokens : List ℕ → List Token → List Token
+array_tokens key items = (opening_tokens key ++ items) ++ Token.end_array ∷ []
+
 abbrev pub string_tokens : List (List ℕ) → List Token
 string_tokens texts = map (λ text. Token.string (shown text)) texts
 
 -- a member with a list of texts, unless there are none
 unfoldable pub list_tokens : List ℕ → List (List ℕ) → List Token
 list_tokens key [] = []
-list_tokens key (text ∷ texts) =
-    Token.key key ∷ Token.begin_array ∷ (string_tokens (text ∷ texts) ++ Token.end_array ∷ [])
+list_tokens key (text ∷ texts) = array_tokens key (string_tokens (text ∷ texts))
 
 -- a member with the first of some texts, and a member with a list of the others
 unfoldable pub named_tokens : List ℕ → List ℕ → List (List ℕ) → List Token
@@ -46,59 +67,205 @@ unfoldable pub most_token : Option ℕ → Token
 most_token (Some most) = number_token most
 most_token None = Token.null
 
+-- a tree file has no least number of values above this one
+abbrev pub most_least : ℕ
+most_least = 255
+
 -- the least and the greatest number of values
 unfoldable pub count_tokens : ValueCount → List Token
 count_tokens values =
-    Token.key (codes "num_args") ∷ Token.begin_array ∷ number_token values.least
+    Token.key (codes "num_args") ∷ Token.begin_array ∷ number_token (min values.least most_least)
     ∷ most_token values.most ∷ Token.end_array ∷ []
 
--- the option always takes the same number of values
+-- this is the greatest number of values
 unfoldable pub is_most : Option ℕ → ℕ → Bool
-is_most (Some most) least = most == least
-is_most None least = false
+is_most (Some most) number = most == number
+is_most None number = false
 
+-- the option always takes the same number of values
 abbrev pub is_fixed : ValueCount → Bool
 is_fixed values = is_most values.most values.least
 
-abbrev pub name_list : List (List ℕ) → List Token
-name_list names = list_tokens (codes "value_names") names
+-- the argument takes no values
+abbrev pub is_flag : ValueCount → Bool
+is_flag values = is_most values.most 0
+
+abbrev pub label_token : List ℕ → Token
+label_token name = Token.string (label_text (shown name))
+
+abbrev pub label_tokens : List (List ℕ) → List Token
+label_tokens names = map label_token names
+
+-- a member with the names of the values
+unfoldable pub label_list : List (List ℕ) → List Token
+label_list names = array_tokens (codes "value_names") (label_tokens names)
+
+-- the same, unless there are none
+unfoldable pub labels_tokens : List (List ℕ) → List Token
+labels_tokens names = if length names == 0 then [] else label_list names
 
 -- the names and the number of the values
 unfoldable pub varied_tokens : List (List ℕ) → ValueCount → List Token
-varied_tokens names values = name_list names ++ count_tokens values
+varied_tokens names values = labels_tokens names ++ count_tokens values
 
 -- The names of the values. If their number is not fixed, the first name stands for all, and the
--- number follows. A flag has none.
-unfoldable pub values_tokens : List (List ℕ) → ValueCount → List Token
-values_tokens names values =
-    if length names == 0 then text_tokens (codes "action") (codes "SetTrue") else
-    (if is_fixed values then name_list names else varied_tokens (take 1 names) values)
+-- number follows.
+unfoldable pub counted_tokens : List (List ℕ) → ValueCount → List Token
+counted_tokens names values =
+    if is_fixed values then labels_tokens names else varied_tokens (take 1 names) values
 
-unfoldable pub help_tokens : List ℕ → List Token
-help_tokens [] = []
-help_tokens (byte ∷ text) = text_tokens (codes "help") (byte ∷ text)
+-- a possible value
+unfoldable pub possible_value_tokens : List ℕ → List Token
+possible_value_tokens value =
+    (Token.begin_object ∷ [] ++ text_tokens (codes "name") value) ++ Token.end_object ∷ []
+
+-- a member with the possible values
+unfoldable pub possible_list : List (List ℕ) → List Token
+possible_list values = array_tokens (codes "possible_values") (flat_map possible_value_tokens values)
+
+-- the same, unless there are none
+unfoldable pub possible_tokens : List (List ℕ) → List Token
+possible_tokens values = if length values == 0 then [] else possible_list values
+
+unfoldable pub hint_tokens : Option Hint → List Token
+hint_tokens None = []
+hint_tokens (Some hint) = text_tokens (codes "value_hint") (hint_text hint)
+
+-- the values of an argument that takes any
+unfoldable pub taken_tokens : TreeArgument → List Token
+taken_tokens argument =
+    (counted_tokens argument.value_names argument.values ++ possible_tokens argument.possible)
+    ++ hint_tokens argument.hint
+
+-- the values, or that there are none
+unfoldable pub values_tokens : TreeArgument → List Token
+values_tokens argument =
+    if is_flag argument.values then text_tokens (codes "action") (codes "SetTrue")
+    else taken_tokens argument
+
+-- a member with a description, unless there is none
+unfoldable pub description_tokens : List ℕ → List ℕ → List Token
+description_tokens key [] = []
+description_tokens key (byte ∷ text) = str_tokens key (description_text (shown (byte ∷ text)))
 
 unfoldable pub argument_tokens : TreeArgument → List Token
 argument_tokens argument =
     (((Token.begin_object ∷ [] ++ names_tokens argument.names)
-    ++ values_tokens argument.value_names argument.values)
-    ++ help_tokens argument.help)
+    ++ values_tokens argument)
+    ++ description_tokens (codes "help") argument.help)
+    ++ Token.end_object ∷ []
+
+-- a backslash would end the help text of a positional in a zsh script
+abbrev pub forward_slash : ℕ → ℕ
+forward_slash byte = if byte == 92 then 47 else byte
+
+-- a positional, which has no short and no long
+unfoldable pub positional_tokens : TreeArgument → List Token
+positional_tokens positional =
+    (((Token.begin_object ∷ [] ++ text_tokens (codes "id") positional.names.id)
+    ++ values_tokens positional)
+    ++ description_tokens (codes "help") (map forward_slash positional.help))
     ++ Token.end_object ∷ []
 
 -- ---- the file
 
-unfoldable pub arguments_tokens : List TreeArgument → List Token
-arguments_tokens arguments =
-    Token.key (codes "args") ∷ Token.begin_array
-    ∷ (flat_map argument_tokens arguments ++ Token.end_array ∷ [])
+-- a member with the options and the positionals
+unfoldable pub arguments_tokens : List TreeArgument → List TreeArgument → List Token
+arguments_tokens arguments positionals =
+    array_tokens (codes "args")
+    (flat_map argument_tokens arguments ++ flat_map positional_tokens positionals)
 
--- the program has no flag `--help` that the arguments do not contain
+-- a command has no flag `--help` that its arguments do not contain
 unfoldable pub head_tokens : List ℕ → List Token
 head_tokens name =
-    ((Token.begin_object ∷ [] ++ text_tokens (codes "name") name)
-    ++ Token.key (codes "disable_help_flag") ∷ [])
-    ++ Token.boolean true ∷ []
+    (Token.begin_object ∷ [] ++ text_tokens (codes "name") name)
+    ++ true_tokens (codes "disable_help_flag")
 
-unfoldable pub tree_tokens : List ℕ → List TreeArgument → List Token
-tree_tokens name arguments =
-    (head_tokens name ++ arguments_tokens arguments) ++ Token.end_object ∷ []
+-- ---- subcommands
+
+-- the path of a subcommand: names with a space between them
+unfoldable pub path_below : List ℕ → List ℕ → List ℕ
+path_below [] name = name
+path_below (byte ∷ path) name = (byte ∷ path) ++ (space ∷ name)
+
+-- its names and its description
+unfoldable pub named_command_tokens : Command → List Token
+named_command_tokens command =
+    (head_tokens command.name ++ list_tokens (codes "visible_aliases") command.aliases)
+    ++ description_tokens (codes "about") command.about
+
+-- the same, and what the text at its path says
+unfoldable pub command_tokens : (List ℕ → List Token) → List ℕ → Command → List Token
+command_tokens body path command =
+    (named_command_tokens command
+    ++ body (path_below path command.name))
+    ++ Token.end_object ∷ []
+
+-- the program has no subcommand `help` that the subcommands do not contain
+unfoldable pub listed_tokens : List Token → List Token
+listed_tokens commands =
+    true_tokens (codes "disable_help_subcommand") ++ array_tokens (codes "subcommands") commands
+
+-- a member with the subcommands, unless there are none
+unfoldable pub subcommands_tokens : (List ℕ → List Token) → List ℕ → List Command → List Token
+subcommands_tokens body path commands =
+    if length commands == 0 then [] else
+    listed_tokens (flat_map (command_tokens body path) commands)
+
+-- the arguments and subcommands of a text
+abbrev pub read_tokens : (List ℕ → List Token) → List ℕ → ReadText → List Token
+read_tokens body path read =
+    arguments_tokens read.arguments read.positionals
+    ++ subcommands_tokens body path read.commands
+
+-- the first text with this path
+unfoldable pub read_at : List ℕ → List ReadText → Option ReadText
+read_at path [] = None
+read_at path (read ∷ reads) = elim (bytes_eq read.path path) [
+  | true ↦ Some read
+  | false ↦ read_at path reads
+]
+
+-- those of a text, if there is one
+unfoldable pub found_tokens : (List ℕ → List Token) → List ℕ → Option ReadText → List Token
+found_tokens body path (Some read) = read_tokens body path read
+found_tokens body path None = []
+
+-- the arguments and subcommands at a path, down to some levels
+unfoldable pub body_tokens : ℕ → List ReadText → List ℕ → List Token
+body_tokens zero reads path = []
+body_tokens (suc levels) reads path =
+    found_tokens (body_tokens levels reads) path (read_at path reads)
+
+-- ---- the program
+
+abbrev pub most_levels : ℕ
+most_levels = 16
+
+-- the description in the text of the program
+unfoldable pub about_tokens : Option ReadText → List Token
+about_tokens None = []
+about_tokens (Some read) = description_tokens (codes "about") read.about
+
+unfoldable pub tree_tokens : List ℕ → List ReadText → List Token
+tree_tokens name reads =
+    ((head_tokens name ++ about_tokens (read_at [] reads)) ++ body_tokens most_levels reads [])
+    ++ Token.end_object ∷ []
+
+-- ---- paths without a text
+
+-- the path, if no text has it
+abbrev pub if_missing : Option ReadText → List ℕ → List (List ℕ)
+if_missing None path = path ∷ []
+if_missing (Some read) path = []
+
+abbrev pub missing_at : List ReadText → List ℕ → List (List ℕ)
+missing_at reads path = if_missing (read_at path reads) path
+
+-- the paths of the subcommands of a text that have none
+abbrev pub missing_below : List ReadText → ReadText → List (List ℕ)
+missing_below reads read =
+    flat_map (λ command. missing_at reads (path_below read.path command.name)) read.commands
+
+abbrev pub missing_paths : List ReadText → List (List ℕ)
+missing_paths reads = flat_map (missing_below reads) reads

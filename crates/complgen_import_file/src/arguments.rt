@@ -1,76 +1,34 @@
-//! Tree files with arguments.
+//! Arguments in a tree file.
 
-ghost use Rattle.std.specs.Prelude.{◌≡◌, ◌∷◌, ◌++◌, [], IfOk, OnOk, decimal, take};
+ghost use Rattle.std.specs.Prelude.{◌≡◌, ◌∷◌, ◌++◌, [], IfOk, OnOk, codes, decimal, map, take};
 ghost use Rattle.std.specs.List.{flat_map};
 ghost use Rattle.std.specs.String.{string_bytes};
-ghost use Rattle.json.specs.Layout.{pretty};
-ghost use Rattle.json.specs.Lex.{tokens};
 ghost use Rattle.json.specs.Print.{IsNumber};
-ghost use Rattle.complgen_import_file.specs.TreeTokens.{argument_tokens, arguments_tokens, count_tokens, head_tokens, help_tokens, is_fixed, most_token, names_tokens, number_token, tree_tokens, values_tokens, varied_tokens};
+ghost use Rattle.complgen_import_file.specs.TreeTokens.{argument_tokens, arguments_tokens, count_tokens, counted_tokens, description_tokens, forward_slash, hint_tokens, is_fixed, is_flag, is_most, most_token, names_tokens, number_token, positional_tokens, possible_list, possible_tokens, possible_value_tokens, taken_tokens, values_tokens, varied_tokens};
 
-use crate::texts::{write_list, write_named, write_text};
+use crate::texts::{write_description, write_labels, write_named, write_opening, write_text};
 use cc_base::Items;
-use complgen_import::{TreeArgument, TreeNames, ValueCount};
+use complgen_import::{Hint, TreeArgument, TreeNames, ValueCount};
 use json::{Pretty, Token};
 use std::alloc::{AllocError, Global};
 
-/// Returns a tree file for the program `name` with these `arguments`. The program has no flag that
-/// the arguments do not contain. A text that is not UTF-8 is written as an empty text.
-///
-/// # Errors
-///
-/// `AllocError` if an allocation fails.
-pub fn tree_file(
-    alloc: Global,
-    name: &str,
-    arguments: &[TreeArgument],
-) -> Result<Vec<u8>, AllocError>
-    ensures layout { IfOk result
-        (λ file. file.items ≡ pretty (tree_tokens name.now arguments.now)) }
-    // A JSON reader gets back what was written.
-    ensures reads { IfOk result
-        (λ file. tokens file.items ≡ tree_tokens name.now arguments.now) }
-{
-    let mut file = Pretty::new(alloc);
-    write_tree(alloc, &mut file, name, arguments)?;
-    Ok(file.into_inner())
-}
+// A tree file has no least number of values above this one.
+const MOST_LEAST: usize = 255;
 
-#[tactic(auto, unfolding(crate::specs::TreeTokens::tree_tokens))]
-fn write_tree(
-    alloc: Global,
-    file: &mut Pretty,
-    name: &str,
-    arguments: &[TreeArgument],
-) -> Result<(), AllocError>
-    ensures { OnOk result (file.new ≡ file.old ++ tree_tokens name.now arguments.now) }
-{
-    write_head(file, name.as_bytes())?;
-    write_arguments(alloc, file, arguments)?;
-    file.token(Token::EndObject)
-}
-
-#[tactic(auto, unfolding(crate::specs::TreeTokens::head_tokens))]
-fn write_head(file: &mut Pretty, name: &[u8]) -> Result<(), AllocError>
-    ensures { OnOk result (file.new ≡ file.old ++ head_tokens name.now) }
-{
-    file.token(Token::BeginObject)?;
-    write_text(file, "name", name)?;
-    file.token(Token::Key("disable_help_flag"))?;
-    Ok(file.token(Token::Bool(true))?)
-}
-
-#[tactic(auto, unfolding(crate::specs::TreeTokens::arguments_tokens))]
-fn write_arguments(
+/// Writes a member with the options and the positionals.
+#[tactic(auto, unfolding(crate::specs::TreeTokens::arguments_tokens, crate::specs::TreeTokens::array_tokens))]
+pub(crate) fn write_arguments(
     alloc: Global,
     file: &mut Pretty,
     arguments: &[TreeArgument],
+    positionals: &[TreeArgument],
 ) -> Result<(), AllocError>
-    ensures { OnOk result (file.new ≡ file.old ++ arguments_tokens arguments.now) }
+    ensures { OnOk result
+        (file.new ≡ file.old ++ arguments_tokens arguments.now positionals.now) }
 {
-    file.token(Token::Key("args"))?;
-    file.token(Token::BeginArray)?;
+    write_opening(file, "args")?;
     write_each(alloc, file, arguments)?;
+    write_each_positional(alloc, file, positionals)?;
     file.token(Token::EndArray)
 }
 
@@ -97,14 +55,63 @@ fn write_argument(
 {
     file.token(Token::BeginObject)?;
     write_names(file, &argument.names)?;
-    write_values(
-        alloc,
-        file,
-        argument.value_names.as_slice(),
-        argument.values,
-    )?;
-    write_help(file, argument.help.as_slice())?;
+    write_values(alloc, file, argument)?;
+    write_description(alloc, file, "help", argument.help.as_slice())?;
     file.token(Token::EndObject)
+}
+
+fn write_each_positional(
+    alloc: Global,
+    file: &mut Pretty,
+    positionals: &[TreeArgument],
+) -> Result<(), AllocError>
+    ensures { OnOk result (file.new ≡ file.old ++ flat_map positional_tokens positionals.now) }
+{
+    for positional in positionals {
+        write_positional(alloc, file, positional)?;
+    }
+    Ok(())
+}
+
+#[tactic(auto, unfolding(crate::specs::TreeTokens::positional_tokens))]
+fn write_positional(
+    alloc: Global,
+    file: &mut Pretty,
+    positional: &TreeArgument,
+) -> Result<(), AllocError>
+    ensures { OnOk result (file.new ≡ file.old ++ positional_tokens positional.now) }
+{
+    file.token(Token::BeginObject)?;
+    write_text(file, "id", positional.names.id.as_slice())?;
+    write_values(alloc, file, positional)?;
+    write_positional_help(alloc, file, positional.help.as_slice())?;
+    file.token(Token::EndObject)
+}
+
+fn write_positional_help(alloc: Global, file: &mut Pretty, help: &[u8]) -> Result<(), AllocError>
+    ensures { OnOk result (file.new
+        ≡ file.old ++ description_tokens (codes "help") (map forward_slash help.now)) }
+{
+    let help = forward_slashes(alloc, help)?;
+    write_description(alloc, file, "help", help.as_slice())
+}
+
+// Returns the text with `/` in place of each backslash, which would end the help text of a
+// positional in a zsh script.
+fn forward_slashes(alloc: Global, text: &[u8]) -> Result<Vec<u8>, AllocError>
+    ensures { IfOk result (λ made. made.items ≡ map forward_slash text.now) }
+{
+    let mut made = Vec::with_capacity(alloc, text.len())?;
+    for byte in text {
+        made.push(forward_slash(*byte))?;
+    }
+    Ok(made)
+}
+
+fn forward_slash(byte: u8) -> u8
+    ensures { result ≡ forward_slash byte }
+{
+    if byte == b'\\' { b'/' } else { byte }
 }
 
 #[tactic(auto, unfolding(crate::specs::TreeTokens::names_tokens))]
@@ -121,31 +128,45 @@ fn write_names(file: &mut Pretty, names: &TreeNames) -> Result<(), AllocError>
     write_named(file, "long", "visible_aliases", names.longs.as_slice())
 }
 
-#[tactic(auto, unfolding(crate::specs::TreeTokens::help_tokens))]
-fn write_help(file: &mut Pretty, help: &[u8]) -> Result<(), AllocError>
-    ensures { OnOk result (file.new ≡ file.old ++ help_tokens help.now) }
+// ---- values
+
+// Writes the values, or that there are none.
+#[tactic(auto, unfolding(crate::specs::TreeTokens::values_tokens))]
+fn write_values(alloc: Global, file: &mut Pretty, argument: &TreeArgument) -> Result<(), AllocError>
+    ensures { OnOk result (file.new ≡ file.old ++ values_tokens argument.now) }
 {
-    if help.is_empty() {
-        return Ok(());
+    if is_flag(argument.values) {
+        return write_text(file, "action", b"SetTrue");
     }
-    write_text(file, "help", help)
+    write_taken(alloc, file, argument)
 }
 
-// Writes the names and the number of the values, or that there are none.
-#[tactic(auto, unfolding(crate::specs::TreeTokens::values_tokens))]
-fn write_values(
+#[tactic(auto, unfolding(crate::specs::TreeTokens::taken_tokens))]
+fn write_taken(alloc: Global, file: &mut Pretty, argument: &TreeArgument) -> Result<(), AllocError>
+    ensures { OnOk result (file.new ≡ file.old ++ taken_tokens argument.now) }
+{
+    write_counted(
+        alloc,
+        file,
+        argument.value_names.as_slice(),
+        argument.values,
+    )?;
+    write_possible(file, argument.possible.as_slice())?;
+    write_hint(file, argument.hint)
+}
+
+// Writes the names and the number of the values.
+#[tactic(auto, unfolding(crate::specs::TreeTokens::counted_tokens))]
+fn write_counted(
     alloc: Global,
     file: &mut Pretty,
     names: &[Items<u8>],
     values: ValueCount,
 ) -> Result<(), AllocError>
-    ensures { OnOk result (file.new ≡ file.old ++ values_tokens names.now values) }
+    ensures { OnOk result (file.new ≡ file.old ++ counted_tokens names.now values) }
 {
-    if names.is_empty() {
-        return write_text(file, "action", b"SetTrue");
-    }
     if is_fixed(values) {
-        return write_list(file, "value_names", names);
+        return write_labels(alloc, file, names);
     }
     write_varied(alloc, file, first_only(names), values)
 }
@@ -159,7 +180,7 @@ fn write_varied(
 ) -> Result<(), AllocError>
     ensures { OnOk result (file.new ≡ file.old ++ varied_tokens names.now values) }
 {
-    write_list(file, "value_names", names)?;
+    write_labels(alloc, file, names)?;
     Ok(write_count(alloc, file, values)?)
 }
 
@@ -174,12 +195,25 @@ fn first_only(names: &[Items<u8>]) -> &[Items<u8>]
 }
 
 // Returns whether the option always takes the same number of values.
-#[tactic(auto, unfolding(crate::specs::TreeTokens::is_most))]
 fn is_fixed(values: ValueCount) -> bool
     ensures { result ≡ is_fixed values }
 {
-    match values.most {
-        Some(most) => most == values.least,
+    is_most(values.most, values.least)
+}
+
+// Returns whether the argument takes no values.
+fn is_flag(values: ValueCount) -> bool
+    ensures { result ≡ is_flag values }
+{
+    is_most(values.most, 0)
+}
+
+#[tactic(auto, unfolding(crate::specs::TreeTokens::is_most))]
+fn is_most(most: Option<usize>, number: usize) -> bool
+    ensures { result ≡ is_most most number }
+{
+    match most {
+        Some(most) => most == number,
         None => false,
     }
 }
@@ -191,7 +225,7 @@ fn write_count(alloc: Global, file: &mut Pretty, values: ValueCount) -> Result<(
 {
     file.token(Token::Key("num_args"))?;
     file.token(Token::BeginArray)?;
-    write_number(alloc, file, values.least)?;
+    write_number(alloc, file, values.least.min(MOST_LEAST))?;
     write_most(alloc, file, values.most)?;
     file.token(Token::EndArray)
 }
@@ -218,4 +252,54 @@ fn digits(alloc: Global, number: usize) -> Result<String, AllocError>
     ensures number { IfOk result (λ digits. IsNumber (string_bytes digits)) }
 {
     format!(in alloc; "{number}")
+}
+
+// ---- possible values and the hint
+
+// Writes a member with the possible values, unless there are none.
+#[tactic(auto, unfolding(crate::specs::TreeTokens::possible_tokens))]
+fn write_possible(file: &mut Pretty, values: &[Items<u8>]) -> Result<(), AllocError>
+    ensures { OnOk result (file.new ≡ file.old ++ possible_tokens values.now) }
+{
+    if values.is_empty() {
+        return Ok(());
+    }
+    write_possible_list(file, values)
+}
+
+fn write_possible_list(file: &mut Pretty, values: &[Items<u8>]) -> Result<(), AllocError>
+    ensures { OnOk result (file.new ≡ file.old ++ possible_list values.now) }
+{
+    write_opening(file, "possible_values")?;
+    write_each_possible(file, values)?;
+    file.token(Token::EndArray)
+}
+
+fn write_each_possible(file: &mut Pretty, values: &[Items<u8>]) -> Result<(), AllocError>
+    ensures { OnOk result (file.new ≡ file.old ++ flat_map possible_value_tokens values.now) }
+{
+    for value in values {
+        write_possible_value(file, value.as_slice())?;
+    }
+    Ok(())
+}
+
+#[tactic(auto, unfolding(crate::specs::TreeTokens::possible_value_tokens))]
+fn write_possible_value(file: &mut Pretty, value: &[u8]) -> Result<(), AllocError>
+    ensures { OnOk result (file.new ≡ file.old ++ possible_value_tokens value.now) }
+{
+    file.token(Token::BeginObject)?;
+    write_text(file, "name", value)?;
+    file.token(Token::EndObject)
+}
+
+// Writes a member with the value hint, if there is one.
+#[tactic(auto, unfolding(crate::specs::TreeTokens::hint_tokens))]
+fn write_hint(file: &mut Pretty, hint: Option<Hint>) -> Result<(), AllocError>
+    ensures { OnOk result (file.new ≡ file.old ++ hint_tokens hint) }
+{
+    match hint {
+        Some(hint) => write_text(file, "value_hint", hint.as_bytes()),
+        None => Ok(()),
+    }
 }

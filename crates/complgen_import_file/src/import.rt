@@ -1,24 +1,61 @@
-//! Makes a tree file from a help text.
+//! Makes a tree file from help texts.
 
-ghost use Rattle.std.specs.Prelude.{IfOk};
-ghost use Rattle.complgen_import_file.specs.Imported.{IsImported};
+ghost use Rattle.std.specs.Prelude.{◌≡◌, ◌∷◌, [], IfOk};
+ghost use Rattle.complgen_import_file.specs.Imported.{AreMissing, IsTreeOf};
 
-use crate::arguments::tree_file;
-use complgen_import::{clean_text, read_arguments, tree_arguments, unfold_text};
+use crate::missing::missing_paths;
+use crate::read::{HelpText, read_texts};
+use crate::tree::tree_file;
+use cc_base::Items;
+use complgen_import::Bytes;
 use std::alloc::{AllocError, Global};
 
 /// Returns a tree file for the program `name` whose help text is `text`. It has an argument for
-/// each option line that has a new plain name.
+/// each option line that has a new plain name, and a subcommand for each entry of a list of
+/// commands that has one.
 ///
 /// # Errors
 ///
 /// `AllocError` if an allocation fails.
 pub fn import_text(alloc: Global, name: &str, text: &[u8]) -> Result<Vec<u8>, AllocError>
-    ensures { IfOk result (λ file. IsImported name.now text.now file.items) }
+    ensures { IfOk result (λ file.
+        IsTreeOf name.now (record { path = []; text = text.now } ∷ []) file.items) }
 {
-    let text = clean_text(alloc, text)?;
-    let text = unfold_text(alloc, text.as_slice())?;
-    let arguments = read_arguments(alloc, text.as_slice())?;
-    let arguments = tree_arguments(alloc, arguments.as_slice())?;
-    tree_file(alloc, name, arguments.as_slice())
+    let texts = [HelpText {
+        path: Bytes::new(b""),
+        text: Bytes::new(text),
+    }];
+    import_tree(alloc, name, texts.as_slice())
+}
+
+/// Returns a tree file for the program `name` and its subcommands, which have these help texts. A
+/// subcommand has the arguments and subcommands of the text with its path. If several texts have
+/// one path, the first counts. A subcommand without a text has a name and a help text alone, and so
+/// has each below 16 levels.
+///
+/// # Errors
+///
+/// `AllocError` if an allocation fails.
+pub fn import_tree(alloc: Global, name: &str, texts: &[HelpText]) -> Result<Vec<u8>, AllocError>
+    ensures { IfOk result (λ file. IsTreeOf name.now texts.now file.items) }
+{
+    let reads = read_texts(alloc, name, texts)?;
+    tree_file(alloc, name, reads.as_slice())
+}
+
+/// Returns the paths of the subcommands in these help texts of the program `name` for which there is
+/// no text, in the order of the texts.
+///
+/// # Errors
+///
+/// `AllocError` if an allocation fails.
+pub fn missing_texts(
+    alloc: Global,
+    name: &str,
+    texts: &[HelpText],
+) -> Result<Items<Items<u8>>, AllocError>
+    ensures { IfOk result (λ paths. AreMissing name.now texts.now paths) }
+{
+    let reads = read_texts(alloc, name, texts)?;
+    missing_paths(alloc, reads.as_slice())
 }

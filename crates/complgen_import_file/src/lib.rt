@@ -9,8 +9,12 @@
 #![tactic(auto)]
 
 mod arguments;
+mod characters;
 mod import;
+mod missing;
+mod read;
 mod texts;
+mod tree;
 
-pub use crate::arguments::tree_file;
-pub use crate::import::import_text;
+pub use crate::import::{import_text, import_tree, missing_texts};
+pub use crate::read::HelpText;

@@ -4,4 +4,4 @@ use Rattle.complgen_import_file.proofs.arguments.write_varied.Goals as goal
 
 pub returns : goal.returns
 unfolding varied_tokens
-returns c = two _ _ _ _ _ c.in_ok-write_list.ensures c.in_ok-write_count.ensures
+returns c = two _ _ _ _ _ c.in_ok-write_labels.ensures c.in_ok-write_count.ensures
