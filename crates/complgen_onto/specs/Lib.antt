@@ -1,0 +1,4 @@
+pub mod Kept
+pub mod Names
+pub mod Onto
+pub mod Written

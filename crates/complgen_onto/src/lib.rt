@@ -1,0 +1,9 @@
+//! Adds what is new in one tree file to another.
+#![tactic(auto)]
+
+mod merge;
+mod names;
+mod parts;
+mod values;
+
+pub use crate::merge::onto;
