@@ -1,0 +1,4 @@
+mod PageRead
+mod Parts
+mod Rows
+mod Words

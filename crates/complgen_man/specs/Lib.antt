@@ -1,0 +1,5 @@
+pub mod Outcome
+pub mod Page
+pub mod Reader
+pub mod Roff
+pub mod Shown
