@@ -2,6 +2,8 @@
 //! describes.
 #![tactic(auto)]
 
+mod help_texts;
+mod import;
 mod live;
 mod output;
 mod plans;

@@ -1,15 +1,18 @@
 //! Carries out the plans of the command line over the files of the machine.
 
 use crate::contents;
+use crate::import::import;
 use crate::output::{buffered, flush};
 use cc_base::Sink;
 use cc_paths::{Folder, RealFolder};
 use cc_replies::home;
 use complgen_check::{Report, check};
 use complgen_commands::{
-    Plan, Refusal, TreeFile, WordAt, reply_with, run, scripts, unreadable, unreadable_values,
-    write_wanted,
+    Plan, Refusal, TreeFile, WordAt, error_refusal, named_tree, reply_with, run, scripts,
+    unreadable, unreadable_values, write_wanted,
 };
+use complgen_man::generate_page;
+use std::alloc::Global;
 use std::convert::AsStr;
 use std::env::Env;
 use std::rt::Files;
@@ -20,10 +23,13 @@ use std::rt::Files;
 /// # Errors
 ///
 /// A refusal with status 1 and the text of the error.
-pub(crate) fn carry_out_plan<R: Env + Files + Print + AllocGlobal>(
+pub(crate) fn carry_out_plan<R: Env + Files + Print + Eprint + AllocGlobal>(
     rt: &R,
     plan: &Plan,
 ) -> Result<u8, Refusal> {
+    if let Plan::Import { .. } = plan {
+        return import(rt, plan);
+    }
     let file = contents(rt, plan.tree())?;
     let folder = RealFolder::new(rt, home(rt)?);
     print(rt, plan, file.as_ref().map(Vec::as_slice), &folder)
@@ -90,7 +96,15 @@ fn write_plan<R: Files + AllocGlobal, D: Folder, W: Sink>(
             write_wanted(alloc, word, file, out)?;
             Ok(0)
         }
-        Plan::Script(..) | Plan::Register(..) | Plan::Candidates(..) => {
+        Plan::Man { bin, tree } => {
+            let file = TreeFile {
+                path: tree.as_str(),
+                bytes: file,
+            };
+            write_man_page(alloc, bin.as_str(), file, out)?;
+            Ok(0)
+        }
+        Plan::Script(..) | Plan::Register(..) | Plan::Candidates(..) | Plan::Import { .. } => {
             run(alloc, plan, file, folder, out)?;
             Ok(0)
         }
@@ -111,4 +125,19 @@ fn write_candidates<R: Files + AllocGlobal, D: Folder, W: Sink>(
         return Err(unreadable_values(rt.alloc(), values));
     };
     reply_with(rt.alloc(), word, lines.as_slice(), file, folder, out)
+}
+
+// Writes the man page of the tree file, under the name `bin`.
+fn write_man_page<W: Sink>(
+    alloc: Global,
+    bin: &str,
+    file: TreeFile<'_>,
+    out: &mut W,
+) -> Result<(), Refusal> {
+    let mut command = named_tree(alloc, file)?;
+    let bin = String::from_str(alloc, bin)?;
+    match generate_page(alloc, &mut command, bin, out) {
+        Ok(()) => Ok(()),
+        Err(error) => Err(error_refusal(alloc, &error)),
+    }
 }

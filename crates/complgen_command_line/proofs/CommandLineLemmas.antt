@@ -22,7 +22,7 @@ use Rattle.clap.specs.declared.error.kind.ErrorKind.TheVariants as kind
 use Rattle.clap.proofs.OnLiterals.{clap_on_literals}
 use Rattle.complgen_command_line.specs.CommandLine.{program_line}
 use Rattle.complgen_command_line.specs.Plans.{Enters, EntersOne, GivesDirectory, GivesNames}
-use Rattle.complgen_command_line.specs.Plans.{GivesTree, GivesWords}
+use Rattle.complgen_command_line.specs.Plans.{GivesPage, GivesTexts, GivesTree, GivesWords}
 use Rattle.complgen_command_line.specs.Refusals.{Reports, ReportsKind}
 use Rattle.complgen_commands.specs.Refusals.{IsOutOfMemory}
 use Rattle.complgen_commands.specs.declared.refusals.Refusal.{Refusal}
@@ -177,6 +177,14 @@ module _ (s : Shape) (words : List Text)
   gives_words index tree given =
       (has_value (codes "index") index given.0, has_value (codes "tree") tree given.1)
 
+gives_two : (one other : Text) (s : Shape) (words : List Text)
+    → level_fault s [] nothing_held words false [] ≡ []
+    → list_all (leaves_value one) s.rules ≡ true → list_all (leaves_value other) s.rules ≡ true
+    → (is_given one (rows_after s.rules [] words) ≡ true) × (is_given other (rows_after s.rules [] words) ≡ true)
+    → IsSome (first_of one (rows_after s.rules [] words)) × IsSome (first_of other (rows_after s.rules [] words))
+gives_two one other s words e first second given =
+    (has_value s words e one first given.0, has_value s words e other second given.1)
+
 entered_from : (words : List Text) (stop : Option (Text × List Text))
     → level_fault (built program_line).top (names_of (built program_line)) nothing_held words
     (is_some (entered (built program_line) stop)) (entered_fault (built program_line) stop) ≡ []
@@ -212,10 +220,20 @@ last : {A C : Type 0} → (A → C) → A ⊎ ⊥ → C
 last f (inl a) = f a
 last f (inr none) = absurd none
 
+regroup : {A B C D E F R : Type 0} → A ⊎ (B ⊎ (C ⊎ (D ⊎ (E ⊎ (F ⊎ R)))))
+    → (A ⊎ (B ⊎ (C ⊎ (D ⊎ (E ⊎ F))))) ⊎ R
+regroup (inl a) = inl (inl a)
+regroup (inr (inl b)) = inl (inr (inl b))
+regroup (inr (inr (inl c))) = inl (inr (inr (inl c)))
+regroup (inr (inr (inr (inl d)))) = inl (inr (inr (inr (inl d))))
+regroup (inr (inr (inr (inr (inl e))))) = inl (inr (inr (inr (inr (inl e)))))
+regroup (inr (inr (inr (inr (inr (inl f)))))) = inl (inr (inr (inr (inr (inr f)))))
+regroup (inr (inr (inr (inr (inr (inr r)))))) = inr r
+
 -- the rows of each command have its required arguments
 enters_its : (entered : Option (Text × List Row)) → EntersAmong entered (built program_line).subs
     → EntersOne entered
-enters_its entered =
+enters_its entered among = regroup (
     either (enters entered (shape_at 0) GivesNames (λ words e. gives_names (shape_at 0) words e refl refl
     refl (three_given _ _ _ (checks_pass (shape_at 0) words e))))
     (either (enters entered (shape_at 1) GivesDirectory (λ words e. gives_directory (shape_at 1) words e
@@ -226,8 +244,12 @@ enters_its entered =
     (two_given _ _ (checks_pass (shape_at 3) words e))))
     (either (enters entered (shape_at 4) GivesWords (λ words e. gives_words (shape_at 4) words e refl refl
     (two_given _ _ (checks_pass (shape_at 4) words e))))
-    (last (enters entered (shape_at 5) GivesTree (λ words e. has_value (shape_at 5) words e (codes "tree")
-    refl (one_given _ (checks_pass (shape_at 5) words e)))))))))
+    (either (enters entered (shape_at 5) GivesTree (λ words e. has_value (shape_at 5) words e (codes "tree")
+    refl (one_given _ (checks_pass (shape_at 5) words e))))
+    (either (enters entered (shape_at 6) GivesTexts (λ words e. gives_two (codes "name") (codes "path")
+    (shape_at 6) words e refl refl (two_given _ _ (checks_pass (shape_at 6) words e))))
+    (last (enters entered (shape_at 7) GivesPage (λ words e. gives_two (codes "bin") (codes "tree")
+    (shape_at 7) words e refl refl (two_given _ _ (checks_pass (shape_at 7) words e))))))))))) among)
 
 -- words at which no step fails enter a command, with its required arguments
 pub enters_one : (words : List Text) → fault_of program_line words ≡ []

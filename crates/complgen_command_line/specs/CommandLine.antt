@@ -17,9 +17,13 @@ tree_rule = record (new_rule (codes "tree")) { value_names = 1; required = true 
 abbrev pub optional_rule : Text → Rule
 optional_rule name = record (new_rule name) { long = Some name; value_names = 1 }
 
--- the flag `--json`
-abbrev pub json_rule : Rule
-json_rule = record (new_rule (codes "json")) { long = Some (codes "json"); action = Some SetTrue }
+-- the flag `--NAME`
+abbrev pub flag_rule : Text → Rule
+flag_rule name = record (new_rule name) { long = Some name; action = Some SetTrue }
+
+-- `PATH`, which is required
+abbrev pub path_rule : Rule
+path_rule = record (new_rule (codes "path")) { value_names = 1; required = true }
 
 -- `WORDS`, any number of them
 abbrev pub words_rule : Rule
@@ -51,7 +55,17 @@ wanted_line = with_rule (with_rule (with_rule (new_app (codes "wanted"))
 -- `check [--bin NAME] [--json] TREE`
 abbrev pub check_line : App
 check_line = with_rule (with_rule (with_rule (new_app (codes "check"))
-    (optional_rule (codes "bin"))) json_rule) tree_rule
+    (optional_rule (codes "bin"))) (flag_rule (codes "json"))) tree_rule
+
+-- `import --name NAME [--list] [--strict] [--onto FILE] PATH`
+abbrev pub import_line : App
+import_line = with_rule (with_rule (with_rule (with_rule (with_rule (new_app (codes "import"))
+    (option_rule (codes "name"))) (flag_rule (codes "list"))) (flag_rule (codes "strict")))
+    (optional_rule (codes "onto"))) path_rule
+
+-- `man --bin NAME TREE`
+abbrev pub man_line : App
+man_line = with_rule (with_rule (new_app (codes "man")) (option_rule (codes "bin"))) tree_rule
 
 -- the program requires a subcommand, and has a version
 abbrev pub top_line : App
@@ -70,6 +84,10 @@ writing_line = with_subcommand (with_subcommand (with_subcommand top_line
 abbrev pub asking_line : App
 asking_line = with_subcommand (with_subcommand writing_line candidates_line.top) wanted_line.top
 
+-- the program with `check`, too
+abbrev pub checking_line : App
+checking_line = with_subcommand asking_line check_line.top
+
 -- the whole command line
 abbrev pub program_line : App
-program_line = with_subcommand asking_line check_line.top
+program_line = with_subcommand (with_subcommand checking_line import_line.top) man_line.top

@@ -2,10 +2,10 @@
 
 ghost use Rattle.std.specs.Prelude.{◌≡◌, false};
 ghost use Rattle.clap.specs.Words.{rule_of};
-ghost use Rattle.complgen_command_line.specs.CommandLine.{json_rule, option_rule, optional_rule};
+ghost use Rattle.complgen_command_line.specs.CommandLine.{flag_rule, option_rule, optional_rule, path_rule};
 ghost use Rattle.complgen_command_line.specs.CommandLine.{tree_rule, words_rule};
 
-use crate::texts::{JSON_HELP, TREE_HELP, WORDS_HELP};
+use crate::texts::{PATH_HELP, TREE_HELP, WORDS_HELP};
 use clap::{Arg, ArgAction};
 use std::alloc::Global;
 
@@ -43,15 +43,15 @@ pub fn optional<'a>(
         .help(help)
 }
 
-/// Returns the flag `--json`.
-pub fn json<'a>(alloc: Global) -> Arg<'a>
-    ensures rule { rule_of result ≡ json_rule }
+/// Returns the flag with the id and long `name`, and the help text `help`.
+pub fn flag<'a>(alloc: Global, name: &'static str, help: &'static str) -> Arg<'a>
+    ensures rule { rule_of result ≡ flag_rule name.entry.now }
     ensures local { result.global ≡ false }
 {
-    Arg::new(alloc, "json")
-        .long("json")
+    Arg::new(alloc, name)
+        .long(name)
         .action(ArgAction::SetTrue)
-        .help(JSON_HELP)
+        .help(help)
 }
 
 /// Returns the required argument `TREE`.
@@ -63,6 +63,17 @@ pub fn tree<'a>(alloc: Global) -> Arg<'a>
         .value_name("TREE")
         .required(true)
         .help(TREE_HELP)
+}
+
+/// Returns the required argument `PATH`.
+pub fn path<'a>(alloc: Global) -> Arg<'a>
+    ensures rule { rule_of result ≡ path_rule }
+    ensures local { result.global ≡ false }
+{
+    Arg::new(alloc, "path")
+        .value_name("PATH")
+        .required(true)
+        .help(PATH_HELP)
 }
 
 /// Returns the argument `WORDS`, which takes any number of words.

@@ -5,8 +5,8 @@ ghost use Rattle.std.specs.Prelude.{string_bytes};
 ghost use Rattle.clap.specs.Words.{fault_of, first_of, found_of, rows_of, subcommand_of};
 ghost use Rattle.clap.specs.Words.{subcommand_rows_of, takes};
 ghost use Rattle.complgen_command_line.specs.CommandLine.{program_line};
-ghost use Rattle.complgen_command_line.specs.Plans.{AsksFor, EntersOne, GivesDirectory, GivesNames};
-ghost use Rattle.complgen_command_line.specs.Plans.{GivesTree, GivesWords, HasBadIndex, HasDirectory};
+ghost use Rattle.complgen_command_line.specs.Plans.{AsksFor, EntersOne, EntersTree, GivesDirectory, GivesNames};
+ghost use Rattle.complgen_command_line.specs.Plans.{GivesPage, GivesTexts, GivesTree, GivesWords, HasBadIndex, HasDirectory};
 ghost use Rattle.complgen_command_line.specs.Plans.{HasIndex, HasNames, HasReport, HasWords, words_of};
 ghost use Rattle.complgen_command_line.specs.Refusals.{IsBadIndex, Reports};
 ghost use Rattle.complgen_commands.specs.Refusals.{IsOutOfMemory};
@@ -52,6 +52,19 @@ pub fn plan(alloc: Global, words: &[String]) -> Result<Plan, Refusal>
 // Returns the plan of a parse.
 fn plan_of(alloc: Global, matches: &ArgMatches<'_>) -> Result<Plan, Refusal>
     requires { EntersOne (subcommand_rows_of matches.now) }
+    ensures ok { IfOk result (AsksFor (subcommand_rows_of matches.now)) }
+    ensures err { IfErr result (Reports [] (subcommand_rows_of matches.now)) }
+{
+    match matches.subcommand() {
+        Some(("import", values)) => import(alloc, values),
+        Some(("man", values)) => man(alloc, values),
+        _ => tree_plan_of(alloc, matches),
+    }
+}
+
+// Returns the plan of a parse, if it reads a tree file to complete or to check.
+fn tree_plan_of(alloc: Global, matches: &ArgMatches<'_>) -> Result<Plan, Refusal>
+    requires { EntersTree (subcommand_rows_of matches.now) }
     ensures ok { IfOk result (AsksFor (subcommand_rows_of matches.now)) }
     ensures err { IfErr result (Reports [] (subcommand_rows_of matches.now)) }
 {
@@ -137,6 +150,37 @@ fn candidates(alloc: Global, values: &ArgMatches<'_>) -> Result<Plan, Refusal>
         tree,
         words,
     })
+}
+
+// Returns the plan of `import`.
+fn import(alloc: Global, values: &ArgMatches<'_>) -> Result<Plan, Refusal>
+    requires { GivesTexts (rows_of (found_of values.now)) }
+    ensures ok { IfOk result (AsksFor (Some (codes "import", rows_of (found_of values.now)))) }
+    ensures err { IfErr result
+        (Reports [] (Some (codes "import", rows_of (found_of values.now)))) }
+{
+    let name = value(alloc, values, "name")?;
+    let onto = optional(alloc, values, "onto")?;
+    let path = value(alloc, values, "path")?;
+    Ok(Plan::Import {
+        name,
+        list: flag(values, "list"),
+        strict: flag(values, "strict"),
+        onto,
+        path,
+    })
+}
+
+// Returns the plan of `man`.
+fn man(alloc: Global, values: &ArgMatches<'_>) -> Result<Plan, Refusal>
+    requires { GivesPage (rows_of (found_of values.now)) }
+    ensures ok { IfOk result (AsksFor (Some (codes "man", rows_of (found_of values.now)))) }
+    ensures err { IfErr result
+        (Reports [] (Some (codes "man", rows_of (found_of values.now)))) }
+{
+    let bin = value(alloc, values, "bin")?;
+    let tree = value(alloc, values, "tree")?;
+    Ok(Plan::Man { bin, tree })
 }
 
 // Reads the values of `--index`, `TREE` and `WORDS`.

@@ -111,7 +111,7 @@ module _ {S : Type 0} (taken : S → List ℕ) (failed : S → Failures) (bin fo
       → HoldsTree file tree
       → EndsFile taken failed clash folder (path_line bin folder Bash) old new (Err refusal)
       → EndsScripts taken failed bin folder path old new file (Err refusal)
-  first_failed None old new file tree refusal is held ends = files file tree (Err refusal) held
+  first_failed None old new file tree refusal is held ends = files file tree (Err refusal) held is
       (files_failed taken failed folder (path_line bin folder Bash) _ old old new refusal ends refl)
   first_failed (Some label) old new file tree refusal is held (made, untouched) =
       shared_label file tree refusal held
@@ -119,19 +119,20 @@ module _ {S : Type 0} (taken : S → List ℕ) (failed : S → Failures) (bin fo
 
   -- the script of bash is written, and then the others
   pub others_follow : (clash : Option (List ℕ)) (old mid new : S) (file : Option (List ℕ)) (tree : Tree)
-      (result : Result (Unit {0}) Refusal) → HoldsTree file tree
+      (result : Result (Unit {0}) Refusal) → (shell_spec Bash).clash (built_under (Some bin) tree) ≡ clash
+      → HoldsTree file tree
       → EndsFile taken failed clash folder (path_line bin folder Bash) old mid (Ok tt)
       → EndsFiles taken failed folder (path_lines bin folder other_shells) mid new result
       → EndsScripts taken failed bin folder path old new file result
-  others_follow None old mid new file tree (Err refusal) held (written took before) ends =
-      files file tree (Err refusal) held
+  others_follow None old mid new file tree (Err refusal) is held (written took before) ends =
+      files file tree (Err refusal) held is
       (files_failed taken failed folder (path_lines bin folder other_shells) _ old mid new refusal ends before)
-  others_follow None old mid new file tree (Ok tt) held (written took before) (written more then) =
-      files file tree (Ok tt) held (written
+  others_follow None old mid new file tree (Ok tt) is held (written took before) (written more then) =
+      files file tree (Ok tt) held is (written
       (more ∙ ap (λ t. t ++ path_lines bin folder other_shells) took
       ∙ append_assoc (taken old) (path_line bin folder Bash) (path_lines bin folder other_shells))
       (then ∙ before))
-  others_follow (Some label) old mid new file tree result held ends others = absurd ends
+  others_follow (Some label) old mid new file tree result is held ends others = absurd ends
 
 -- the script of each shell reads back
 module _ (bin : List ℕ) (file : Option (List ℕ)) (tree mid : Tree) (held : HoldsTree file tree)

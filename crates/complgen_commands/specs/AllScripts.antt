@@ -7,6 +7,7 @@ use Rattle.cc_base.specs.Sink.{add_failure}
 use Rattle.cc_base.specs.declared.failures.Failures.{Failures}
 use Rattle.cc_base.specs.declared.error.Error.{Error}
 use Rattle.cc_base.specs.declared.error.Error.TheVariants.{LabelClash, Write}
+use Rattle.cc_command.specs.Built.{built_under}
 use Rattle.cc_command.specs.Plain.{is_plain_tree}
 use Rattle.cc_base.specs.PlainName.{is_plain_name}
 use Rattle.cc_command.specs.Tree.{Tree}
@@ -92,9 +93,10 @@ pub data EndsScripts {S : Type 0} (taken : S → List ℕ) (failed : S → Failu
   shared_label : (file : Option (List ℕ)) (tree : Tree) (refusal : Refusal) → HoldsTree file tree
       → SharesLabel Bash bin tree refusal → Untouched taken failed old new
       → EndsScripts taken failed bin folder path old new file (Err refusal)
-  -- the scripts of the tree that the file describes are written to their files
+  -- no two commands share a label of the bash script, and the scripts of the tree that the file
+  -- describes are written to their files
   files : (file : Option (List ℕ)) (tree : Tree) (result : Result (Unit {0}) Refusal)
-      → HoldsTree file tree
+      → HoldsTree file tree → (shell_spec Bash).clash (built_under (Some bin) tree) ≡ None
       → EndsFiles taken failed folder (path_lines bin folder all_shells) old new result
       → EndsScripts taken failed bin folder path old new file result
 

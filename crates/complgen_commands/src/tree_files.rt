@@ -2,6 +2,7 @@
 
 ghost use Rattle.std.specs.Prelude.{◌≡◌, IfOk, string_bytes};
 ghost use Rattle.std.specs.Option.{option_copied};
+ghost use Rattle.cc_base.specs.Shown.{on_one_line};
 ghost use Rattle.complgen_commands.specs.Refusals.{IsMade, ReportsTreeAt, about_file, checked_line};
 ghost use Rattle.complgen_commands.specs.Refusals.{unreadable_at, values_unreadable_at};
 ghost use Rattle.complgen_commands.specs.TreeFiles.{ReadsFile, ReadsFileAt};
@@ -56,8 +57,16 @@ pub fn named_tree(alloc: Global, file: TreeFile<'_>) -> Result<Command, Refusal>
 pub fn unreadable(alloc: Global, path: &str) -> Refusal
     ensures { IsMade (unreadable_at path.now) result }
 {
+    file_refusal(alloc, path, UNREADABLE)
+}
+
+/// Returns what is printed if something is wrong with the file at `path`. The line `text` says what
+/// it is.
+pub fn file_refusal(alloc: Global, path: &str, text: &'static str) -> Refusal
+    ensures { IsMade (about_file (on_one_line path.now) text.entry.now) result }
+{
     match on_one_line(alloc, path) {
-        Ok(path) => text_refusal(about_file(alloc, path.as_str(), UNREADABLE)),
+        Ok(path) => text_refusal(about_file(alloc, path.as_str(), text)),
         Err(failed) => Refusal::from(failed),
     }
 }
@@ -66,10 +75,7 @@ pub fn unreadable(alloc: Global, path: &str) -> Refusal
 pub fn unreadable_values(alloc: Global, path: &str) -> Refusal
     ensures { IsMade (values_unreadable_at path.now) result }
 {
-    match on_one_line(alloc, path) {
-        Ok(path) => text_refusal(about_file(alloc, path.as_str(), VALUES_UNREADABLE)),
-        Err(failed) => Refusal::from(failed),
-    }
+    file_refusal(alloc, path, VALUES_UNREADABLE)
 }
 
 // Returns what is printed for an error of the tree file at `path`.

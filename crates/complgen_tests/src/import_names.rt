@@ -61,6 +61,12 @@ fn first_line_keeps_a_name(rt: HostRuntime) {
 }
 
 #[test]
+fn names_that_may_be_repeated(rt: HostRuntime) {
+    let text = b"  -v, --verbose...  Says more\n  -q...\n";
+    says(&rt, rt.alloc(), text, b"-v --verbose \n-q \n");
+}
+
+#[test]
 fn other_lines_say_nothing(rt: HostRuntime) {
     let text =
         b"Use -q to be quiet\n  -Xmx  memory\n  - a bullet\n  --- a rule\n  -a text goes on here\n";

@@ -11,8 +11,8 @@ returns-clause-shape c =
     let start = ap app_of_fields c.after_help.ensures ∙ ap app_of_fields c.about.ensures ∙ c.new.ensures.app in
     let one = c.in_ok-arg.ensures.shape c.optional.ensures.local
     ∙ ap₂ with_rule start c.optional.ensures.rule in
-    let two = c.in_ok-arg-2.ensures.shape c.json.ensures.local
-    ∙ ap₂ with_rule one c.json.ensures.rule in
+    let two = c.in_ok-arg-2.ensures.shape c.flag.ensures.local
+    ∙ ap₂ with_rule one c.flag.ensures.rule in
     IfOk-weaker c.arg-3.result _ _ (λ line adds. adds.shape c.tree.ensures.local
     ∙ ap₂ with_rule two c.tree.ensures.rule) c.arg-3.ensures
 
@@ -21,6 +21,6 @@ returns-clause-local c =
     let start = ap (λ (f : Command-F Command). f.has_globals) c.after_help.ensures
     ∙ ap (λ (f : Command-F Command). f.has_globals) c.about.ensures ∙ c.new.ensures.local in
     let one = c.in_ok-arg.ensures.globals ∙ ap₂ ◌||◌ start c.optional.ensures.local in
-    let two = c.in_ok-arg-2.ensures.globals ∙ ap₂ ◌||◌ one c.json.ensures.local in
+    let two = c.in_ok-arg-2.ensures.globals ∙ ap₂ ◌||◌ one c.flag.ensures.local in
     IfOk-weaker c.arg-3.result _ _ (λ line adds. adds.globals ∙ ap₂ ◌||◌ two c.tree.ensures.local)
     c.arg-3.ensures

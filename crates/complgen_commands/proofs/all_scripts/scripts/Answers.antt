@@ -18,7 +18,7 @@ returns-in_err-write_one-clause-ends g c =
 pub returns-clause-ends : goal.returns-clause-ends
 returns-clause-ends g c =
     others_follow g.W.Sink.taken g.W.Sink.failed c.args.bin.now c.args.folder.now _ _ _ _ _ _ _ _
-    c.in_ok-command.ensures c.in_ok-write_one.ensures.ends c.write_each.ensures.ends
+    refl c.in_ok-command.ensures c.in_ok-write_one.ensures.ends c.write_each.ensures.ends
 
 pub returns-clause-read_back : goal.returns-clause-read_back
 returns-clause-read_back g c = on_ok_weaker c.write_each.result

@@ -1,0 +1,114 @@
+//! Tree files of help texts.
+
+use complgen_import::Bytes;
+use complgen_import_file::{HelpText, import_text, import_tree, missing_texts};
+
+const PROGRAM: &[u8] = b"Sews.
+
+Usage: sew <COMMAND>
+
+Commands:
+  hem   Folds the edge
+  mend  Closes holes
+
+Options:
+  -v, --verbose  Says more
+";
+
+const HEM: &[u8] = b"Usage: sew hem <EDGE>
+
+Arguments:
+  <EDGE>  Where to begin
+
+Options:
+      --width <MM>  Don\xe2\x80\x99t go below 2
+";
+
+const TREE: &[u8] = br#"{
+  "name": "sew",
+  "disable_help_flag": true,
+  "about": "Sews.",
+  "args": [
+    {
+      "id": "verbose",
+      "short": "v",
+      "long": "verbose",
+      "action": "SetTrue",
+      "help": "Says more"
+    }
+  ],
+  "disable_help_subcommand": true,
+  "subcommands": [
+    {
+      "name": "hem",
+      "disable_help_flag": true,
+      "about": "Folds the edge",
+      "args": [
+        {
+          "id": "width",
+          "long": "width",
+          "value_names": [
+            "MM"
+          ],
+          "help": "Don't go below 2"
+        },
+        {
+          "id": "EDGE",
+          "value_names": [
+            "EDGE"
+          ],
+          "help": "Where to begin"
+        }
+      ]
+    },
+    {
+      "name": "mend",
+      "disable_help_flag": true,
+      "about": "Closes holes"
+    }
+  ]
+}"#;
+
+#[test]
+fn a_tree_has_the_text_of_each_subcommand(rt: HostRuntime) {
+    let texts = [
+        HelpText {
+            path: Bytes::new(b""),
+            text: Bytes::new(PROGRAM),
+        },
+        HelpText {
+            path: Bytes::new(b"hem"),
+            text: Bytes::new(HEM),
+        },
+    ];
+    let tree = import_tree(rt.alloc(), "sew", texts.as_slice()).expect(&rt, "no tree");
+    assert_eq!(rt; tree.as_slice(), TREE);
+    let missing = missing_texts(rt.alloc(), "sew", texts.as_slice()).expect(&rt, "no paths");
+    assert_eq!(rt; missing.as_slice().len(), 1);
+    assert_eq!(rt; missing.as_slice()[0].as_slice(), b"mend".as_slice());
+}
+
+#[test]
+fn a_text_makes_a_tree_of_its_own(rt: HostRuntime) {
+    let text = b"  -o <HOST:PORT>...  Sends it there\n";
+    let wanted = br#"{
+  "name": "sew",
+  "disable_help_flag": true,
+  "args": [
+    {
+      "id": "-o",
+      "short": "o",
+      "value_names": [
+        "HOST-PORT"
+      ],
+      "num_args": [
+        1,
+        null
+      ],
+      "help": "Sends it there"
+    }
+  ]
+}"#;
+    let tree = import_text(rt.alloc(), "sew", text).expect(&rt, "no tree");
+    assert_eq!(rt; tree.as_slice(), wanted.as_slice());
+}
