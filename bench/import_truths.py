@@ -1,0 +1,275 @@
+#!/usr/bin/env python3
+"""Compares what `complgen import` reads from help texts with what the programs' parsers accept.
+
+    bench/import_truths.py DIR [COMPLGEN] [--formats NAME,..] [--show WHAT,..] [--programs] [--jobs N]
+
+DIR has a directory for each program, with its help texts (`help.txt`, and `SUB/help.txt` for a subcommand)
+and `truth.json`. `capture_truths.py` makes such a DIR. A truth is an object for the program, with an object
+for each subcommand in it:
+
+    {"name": "app", "format": "argparse",
+     "options": {"--color": true, "-v": false, "--depth": null},
+     "hidden": ["--debug"],
+     "commands": {"add": {"options": {}, "hidden": [], "commands": null, "aliases": {}}},
+     "aliases": {"a": "add"},
+     "kinds": ["long", "short"]}
+
+- `options`: each name that the parser accepts, and whether it needs a value; `null` if that is not known;
+- `hidden`: those that the parser does not show. They are right if they are found, and not missed otherwise;
+- `commands`: the subcommands, or `null` if they are not known. `aliases` are further names of them;
+- `kinds`: the kinds of names that `options` lists, by default both. Other names are not compared.
+
+COMPLGEN is the program, by default the proved `complgen`. The table has a line for each format:
+
+- programs, texts: those that were imported;
+- true: the names of parsers that are plain and that the text says; found: those of them in the tree;
+- wrong: names in the tree that the parser does not accept;
+- values: of the names found, the share for which the tree is right about whether they need a value. An optional
+  value is not needed;
+- commands, c-found, c-wrong: the same of subcommands. If one is missed, its text is imported alone, so that its
+  options do not count as missed too;
+- stated: the share of the lines that begin with a dash which have the stated form;
+- clean: programs for which `complgen check` prints no error and no warning.
+
+Two more lists follow: the lines that `import` reports, by reason, and the programs that it refuses. --show
+prints single findings: missed, wrong, value, commands, unclean, unstated. --programs prints the table for each
+program. --jobs is the number of programs that are compared at the same time. The status is 0.
+"""
+
+import argparse
+import collections
+import concurrent.futures
+import json
+import os
+import re
+import subprocess
+import sys
+import tempfile
+
+sys.path.append(os.path.join(os.path.dirname(os.path.realpath(__file__)), "..", "tools"))
+import common
+
+PLAIN = re.compile(r"[A-Za-z0-9]+([-_][A-Za-z0-9]+)*")
+# The stated form of an option line: names, values, and a help after two blanks.
+NAME = r"(?:--(?:\[no-\])?[A-Za-z0-9]+(?:[-_.][A-Za-z0-9]+)*|-[A-Za-z0-9])(?![A-Za-z0-9_.:+-])"
+ANGLE, CURLY, GROUP, UPPER = r"<[^<>]*>", r"\{[^{}]*\}", r"\[[^\[\]]*\]", r"[A-Z][A-Z0-9_-]*"
+JOINED = rf"(?:{ANGLE}|{CURLY}|[A-Za-z0-9_:./+@%-]+)(?:\.\.\.)?"
+WORD = rf"(?:{ANGLE}|{CURLY}|{UPPER})(?:\.\.\.)?"
+VALUE = (rf"(?:={JOINED}|\[={JOINED}\]|(?: {WORD})+(?: {GROUP}(?:\.\.\.)?)?| {GROUP}(?:\.\.\.)?"
+         rf"| [a-z]\S*(?=$|  |, -))")
+STATED = re.compile(rf"\s*{NAME}{VALUE}?(?:(?:, ?| \| |\|| / |/| or | )(?=-){NAME}{VALUE}?)*(?:$|  +\S.*)")
+OPTION_LINE = re.compile(r"\s*-[A-Za-z0-9-]*[A-Za-z0-9]")
+COLUMNS = ("programs", "texts", "true", "found", "wrong", "valued", "values", "commands", "c-found", "c-wrong",
+           "lines", "stated", "clean")
+
+
+def says(text, option):
+    """Tells whether a text has the name of an option, as `--name`, `--[no-]name` or `-x`."""
+    if not option.startswith("--"):
+        return re.search(rf"(?<![\w-]){re.escape(option)}(?![a-z0-9_-])", text) is not None
+    name = re.escape(option[2:])
+    if re.search(rf"(?<![\w-])--{name}(?![\w-])", text):
+        return True
+    base = re.escape(option[5:] if option.startswith("--no-") else option[2:])
+    return re.search(rf"(?<![\w-])--[\[(]no-?[\])]-?{base}(?![\w-])", text) is not None
+
+
+def is_plain(option):
+    """Tells whether a tree file can hold the name of an option."""
+    word = option.lstrip("-")
+    return PLAIN.fullmatch(word) is not None and (option.startswith("--") or len(word) == 1)
+
+
+def clean(text):
+    """Returns a text without escape sequences and overstriking."""
+    return re.sub(r"\x1b\[[0-9;:?]*[A-Za-z]|\x1b\]8;[^\x1b\x07]*(?:\x1b\\|\x07)|.\x08", "", text).expandtabs()
+
+
+class Counts(collections.Counter):
+    """The counts of a program or of a format."""
+
+    def row(self, title):
+        shares = {"values": ("right", "valued"), "stated": ("stated", "lines"), "clean": ("clean", "programs")}
+        cells = [f"{100 * self[a] / self[b]:.1f}%" if self[b] else "-" for a, b in shares.values()]
+        counted = {**{name: str(self[name]) for name in COLUMNS}, **dict(zip(shares, cells))}
+        return f"{title:<24}" + "".join(f"{counted[name]:>9}" for name in COLUMNS)
+
+
+class Comparison:
+    """Compares the tree of one program with its truth, and keeps single findings by their kind."""
+
+    def __init__(self, program, findings):
+        self.program, self.counts, self.findings = program, Counts(), findings
+
+    def find(self, kind, place, what):
+        self.findings.append((kind, place, what))
+
+    def command(self, truth, tree, folder, place):
+        """Compares a command with its truth, if there is a text for it, and then its subcommands."""
+        path = os.path.join(folder, "help.txt")
+        if not os.path.exists(path):
+            return
+        with open(path, encoding="utf-8", errors="replace") as file:
+            text = clean(file.read())
+        self.counts["texts"] += 1
+        for line in text.splitlines():
+            if OPTION_LINE.match(line):
+                self.counts["lines"] += 1
+                self.counts["stated"] += STATED.fullmatch(line) is not None
+                if STATED.fullmatch(line) is None:
+                    self.find("unstated", place, line)
+        self.options(truth, tree, text, place)
+        if truth["commands"] is not None:
+            self.children(truth, tree, text, folder, place)
+
+    def options(self, truth, tree, text, place):
+        accepted, kinds = truth["options"], truth.get("kinds", ["long", "short"])
+        found = names_of(tree)
+        for option in accepted:
+            if not is_plain(option) or option in truth["hidden"] and option not in found:
+                continue
+            if option not in found and not says(text, option):
+                self.counts["unsaid"] += 1
+                continue
+            self.counts["true"] += 1
+            if option not in found:
+                self.find("missed", place, option)
+                continue
+            self.counts["found"] += 1
+            if accepted[option] is not None:
+                self.counts["valued"] += 1
+                self.counts["right"] += accepted[option] == found[option]
+                if accepted[option] != found[option]:
+                    self.find("value", place, f"{option} needs {'a' if accepted[option] else 'no'} value")
+        for option in found:
+            kind = "long" if option.startswith("--") else "short"
+            if kind in kinds and option not in accepted:
+                self.counts["wrong"] += 1
+                self.find("wrong", place, option)
+
+    def children(self, truth, tree, text, folder, place):
+        found = {name: child for child in tree.get("subcommands", [])
+                 for name in [child["name"], *child.get("visible_aliases", [])]}
+        true = {**truth["commands"], **{alias: truth["commands"][name] for alias, name in truth["aliases"].items()}}
+        for name, child in true.items():
+            said = re.search(rf"(?m)(?:^\s*|[,{{|] ?| {{2}}){re.escape(name)}(?![\w-])", text)
+            if not PLAIN.fullmatch(name) or name not in found and (not said or child.get("unlisted")):
+                continue
+            self.counts["commands"] += 1
+            self.counts["c-found"] += name in found
+            if name not in found:
+                self.find("commands", place, f"missed {name}")
+        for name in found:
+            if name not in true:
+                self.counts["c-wrong"] += 1
+                self.find("commands", place, f"wrong {name}")
+        for name, child in truth["commands"].items():
+            below = os.path.join(folder, name)
+            if name not in found and os.path.exists(os.path.join(below, "help.txt")):
+                found[name] = imported(self.program, below, name)[0] or {}
+            self.command(child, found.get(name, {}), below, f"{place} {name}")
+
+
+def names_of(tree):
+    """Returns the names of the options of a command, and whether they need a value."""
+    names = {}
+    for arg in tree.get("args", []):
+        needs = arg.get("action", "Set") in ("Set", "Append") and arg.get("num_args", [1])[0] > 0
+        for key in ("short", "visible_short_aliases", "short_aliases"):
+            names.update({"-" + name: needs for name in arg.get(key, [])})
+        for name in [*filter(None, [arg.get("long")]), *arg.get("visible_aliases", []), *arg.get("aliases", [])]:
+            names["--" + name] = needs
+    return names
+
+
+def plain_name(name):
+    """Returns a plain name for a program."""
+    return re.sub(r"[^A-Za-z0-9]+", "-", name).strip("-") or "app"
+
+
+def imported(program, folder, name):
+    """Returns the tree of a directory, or None, and the lines of reports."""
+    words = [program, "import", "--name", plain_name(name), folder]
+    ran = subprocess.run(words, capture_output=True, text=True, errors="replace")
+    return json.loads(ran.stdout) if ran.returncode == 0 else None, ran.stderr.splitlines()
+
+
+def complaints(program, tree):
+    """Returns the errors and warnings of `complgen check`."""
+    with tempfile.NamedTemporaryFile("w", suffix=".json") as file:
+        json.dump(tree, file)
+        file.flush()
+        checked = subprocess.run([program, "check", file.name], capture_output=True, text=True, errors="replace")
+    return [line for line in (checked.stdout + checked.stderr).splitlines() if ": note: " not in line]
+
+
+def compare(program, folder, truth):
+    """Returns the counts of a program, or None if it is refused, with single findings and reports."""
+    tree, reports = imported(program, folder, truth["name"])
+    if tree is None:
+        return None, [], reports
+    findings = [("unclean", truth["name"], line) for line in complaints(program, tree)]
+    comparison = Comparison(program, findings)
+    comparison.counts.update({"programs": 1, "clean": not findings})
+    comparison.command(truth, tree, folder, truth["name"])
+    return comparison.counts, findings, reports
+
+
+def reason(report):
+    """Returns the reason of a report, which is its text after the last colon and blank."""
+    return report.rpartition(": ")[2]
+
+
+def truths(options):
+    """Yields the directory and the truth of each program of the formats that are asked for."""
+    for name in sorted(os.listdir(options.dir)):
+        folder = os.path.join(options.dir, name)
+        path = os.path.join(folder, "truth.json")
+        if not os.path.exists(path):
+            continue
+        with open(path, encoding="utf-8") as file:
+            truth = json.load(file)
+        if not options.formats or truth["format"] in options.formats.split(","):
+            yield folder, truth
+
+
+def main():
+    parser = argparse.ArgumentParser(usage=common.usage(__doc__))
+    parser.add_argument("dir")
+    parser.add_argument("complgen", nargs="?")
+    parser.add_argument("--formats")
+    parser.add_argument("--show", default="")
+    parser.add_argument("--programs", action="store_true")
+    parser.add_argument("--jobs", type=int, default=2)
+    options = parser.parse_args()
+    program = os.path.realpath(options.complgen) if options.complgen else common.program("complgen")
+    formats, reasons, refused = collections.defaultdict(Counts), collections.Counter(), []
+    shown = options.show.split(",")
+    print(f"{'':<24}" + "".join(f"{name:>9}" for name in COLUMNS))
+    with concurrent.futures.ThreadPoolExecutor(options.jobs) as pool:
+        asked = [(truth, pool.submit(compare, program, folder, truth)) for folder, truth in truths(options)]
+        for truth, future in asked:
+            counts, findings, reports = future.result()
+            reasons.update(map(reason, reports))
+            if counts is None:
+                refused.append(f"{truth['name']}: {' '.join(reports)}")
+                continue
+            formats[truth["format"]] += counts
+            if options.programs:
+                print(counts.row(truth["name"]))
+            for kind, place, what in findings:
+                if kind in shown:
+                    print(f"{kind}: {place}: {what}")
+    total = Counts()
+    for name, counts in sorted(formats.items()):
+        print(counts.row(name))
+        total += counts
+    print(total.row("all"))
+    print(f"\nnames of parsers that no text says: {total['unsaid']}")
+    counted = [f"{count:>7} {why}" for why, count in reasons.most_common()]
+    for title, lines in (("reported", counted), ("refused", refused)):
+        print(f"\n{title}:" + "".join("\n  " + line for line in lines))
+
+
+if __name__ == "__main__":
+    main()
