@@ -19,6 +19,8 @@ PARTS = ("src", "specs", "proofs")
 C_ARCHIVES = ("c/libos_c.a", "c/liblibc_c.a")
 # Files of glibc and GCC, of which `rattle-link` links into each program what it needs.
 START_FILES = "Scrt1.o crti.o crtbeginS.o crtendS.o crtn.o libc_nonshared.a libgcc.a".split()
+# Where a Debian system has these files and its C library.
+PLACES_OF_LIBC = ("usr/lib/gcc/x86_64-linux-gnu/*", "lib/x86_64-linux-gnu", "usr/lib/x86_64-linux-gnu")
 
 
 def kit_folder():
@@ -132,6 +134,20 @@ def libraries(args, crate):
 
 
 def link(args, compiled, to):
-    """Links a program as `rt run` does, and returns the linker's line."""
-    words = [args.kit / "bin/rattle-link", "--target", TARGET, "--toolchain", args.kit / "toolchain", "-o", to, compiled]
+    """Links a program as `rt run` does, and returns the linker's line. With --libc, against an older C library."""
+    toolchain = older_toolchain(args) if args.libc else args.kit / "toolchain"
+    words = [args.kit / "bin/rattle-link", "--target", TARGET, "--toolchain", toolchain, "-o", to, compiled]
     return run(*words, *(args.kit / path for path in C_ARCHIVES), stderr=subprocess.STDOUT).strip()
+
+
+def older_toolchain(args):
+    """Makes a directory with the kit's linker and an older system's C library, and returns it."""
+    folder = args.work / "toolchain"
+    (folder / "lib").mkdir(parents=True)
+    (folder / "bin").symlink_to(args.kit / "toolchain/bin")
+    for path in sorted((args.kit / "toolchain/lib").iterdir()):
+        found = [it for place in PLACES_OF_LIBC for it in sorted(args.libc.glob(f"{place}/{path.name}"))]
+        if not found:
+            raise SystemExit(f"release: {args.libc} has no {path.name}: install libc6-dev and libgcc-10-dev there")
+        shutil.copyfile(found[-1], folder / "lib" / path.name)
+    return folder

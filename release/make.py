@@ -78,6 +78,8 @@ def arguments():
     parser.add_argument("--out", type=path, default=RELEASE / "out", help="the directory for the files")
     parser.add_argument("--cpu", choices=["x86-64", "x86-64-v2", "x86-64-v3"],
                         help="builds the program and the archive for this processor")
+    parser.add_argument("--libc", type=path,
+                        help="with --cpu: links the program against the C library of this root of an older Debian")
     parser.add_argument("--anew", action="store_true", help="takes nothing that the proof run kept of a crate that is built")
     parser.add_argument("--jobs", default="2", help="the number of jobs of a build (default: 2)")
     parser.add_argument("--gate", default=NOT_GIVEN, help="the gate's last line for this commit")
@@ -85,6 +87,8 @@ def arguments():
     parser.add_argument("--maintainer", default="Lagvtsune authors <lagvtsune@example.org>")
     parser.add_argument("--changed", action="store_true", help="permits changes that are not committed")
     args = parser.parse_args()
+    if args.libc and not args.cpu:
+        parser.error("--libc needs --cpu, because the proof run leaves no object file")
     args.proved = args.proved or args.source
     args.program = args.program or args.proved / "crates/complgen/out/complgen"
     return args

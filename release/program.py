@@ -1,54 +1,91 @@
 """Packs the program: the archive with install.sh, and the Debian package."""
 
 import hashlib
+import json
 import os
 import re
 import subprocess
 import sys
 
 from kit import licences
-from man import schema_page, tree_page
+from man import schema_page
+from man.roff import escaped
 from packing import copy, copy_folder, gzipped, put, put_tar_xz, run
 
-# The files below share/ in which shells look for the completions of complgen.
+# The programs: the proved one, and the script in Python that runs other programs for it.
+PROGRAM, IMPORTER = "complgen", "complgen-import"
+PROGRAMS = (PROGRAM, IMPORTER)
+# The files below share/ in which shells look for the completions of a program.
 COMPLETIONS = {
-    "bash": "bash-completion/completions/complgen",
-    "zsh": "zsh/site-functions/_complgen",
-    "fish": "fish/vendor_completions.d/complgen.fish",
-    "elvish": "elvish/lib/complgen.elv",
+    "bash": "bash-completion/completions/{}",
+    "zsh": "zsh/site-functions/_{}",
+    "fish": "fish/vendor_completions.d/{}.fish",
+    "elvish": "elvish/lib/{}.elv",
 }
-DEBIAN_ZSH = "zsh/vendor-completions/_complgen"
+DEBIAN_ZSH = "zsh/vendor-completions/_{}"
+# The first lines of a script in Python. Debian wants the path of its own interpreter.
+ANY_PYTHON, DEBIAN_PYTHON = "#!/usr/bin/env python3\n", "#!/usr/bin/python3\n"
 TOP_DOCUMENTS = ("README.md", "CHANGELOG.md", "NOTICE", "LICENSE-MIT", "LICENSE-APACHE")
+# How a title begins: `complgen man` writes the name as it is, and no date.
+TITLE = '.TH "{}" "1" "{}" '
 
 
 def put_program(args, root, debian=False):
     """Writes all files of the program below a prefix."""
     stripped = args.work / "complgen.stripped"
     run("strip", "-o", stripped, args.program)
-    copy(stripped, root / "bin/complgen", 0o755)
+    copy(stripped, root / "bin" / PROGRAM, 0o755)
+    put_importer(args, root / "bin" / IMPORTER, debian)
     put_completions(args, root / "share", debian)
     put_manuals(args, root / "share/man")
     put_documents(args, root / "share/doc/complgen", debian)
 
 
+def put_importer(args, to, debian):
+    """Writes complgen-import, which needs no compiler."""
+    text = (args.source / IMPORTER).read_text()
+    if not text.startswith(ANY_PYTHON):
+        raise SystemExit(f"release: {IMPORTER} does not begin with {ANY_PYTHON.strip()}")
+    put(to, text.replace(ANY_PYTHON, DEBIAN_PYTHON, 1) if debian else text, 0o755)
+
+
 def put_completions(args, share, debian):
-    """Writes the completions of complgen itself, one file for each shell."""
-    tree = args.source / "examples/complgen.json"
-    for shell, place in COMPLETIONS.items():
-        text = run(args.program, "script", "--shell", shell, "--bin", "complgen", tree)
-        put(share / (DEBIAN_ZSH if debian and shell == "zsh" else place), text)
+    """Writes the completions of both programs, one file for each shell."""
+    for name in PROGRAMS:
+        for shell, place in COMPLETIONS.items():
+            place = DEBIAN_ZSH if debian and shell == "zsh" else place
+            text = run(args.program, "script", "--shell", shell, "--bin", name, tree_of(args, name))
+            put(share / place.format(name), text)
+
+
+def tree_of(args, name):
+    """Returns the path of a program's tree file."""
+    return args.source / f"examples/{name}.json"
 
 
 def put_manuals(args, folder):
-    """Writes the man pages. complgen-import.1 follows if the repository has that program's tree file."""
+    """Writes the man pages."""
     date = run("date", "-u", "-d", f"@{args.time}", "+%Y-%m-%d").strip()
-    examples = args.source / "examples"
-    for name in ("complgen", "complgen-import"):
-        if (examples / f"{name}.json").exists():
-            page = tree_page.page(examples / f"{name}.json", name, date, args.version)
-            put(folder / f"man1/{name}.1", page)
+    for name in PROGRAMS:
+        put(folder / f"man1/{name}.1", manual(args, name, date))
     schema = args.source / "docs/tree.schema.json"
     put(folder / "man5/complgen-tree.5", schema_page.page(schema, date, args.version))
+
+
+def manual(args, name, date):
+    """Returns the page that `complgen man` writes for a program, with the version and the date of the release.
+
+    What no tree file says, such as the exit status, is in release/man/NAME.end. It comes last.
+    """
+    tree = {**json.loads(tree_of(args, name).read_text()), "version": args.version}
+    put(args.work / f"{name}.json", json.dumps(tree))
+    page = run(args.program, "man", "--bin", name, args.work / f"{name}.json")
+    begins = TITLE.format(escaped(name), "")
+    if not page.startswith(begins):
+        raise SystemExit(f"release: {name}.1 does not begin with {begins}")
+    end = args.release / f"man/{name}.end"
+    dated = page.replace(begins, TITLE.format(escaped(name.upper()), date), 1)
+    return dated + (end.read_text() if end.exists() else "")
 
 
 def put_documents(args, folder, debian):
@@ -89,6 +126,7 @@ def put_archive(args):
     put_program(args, root)
     files = sorted(str(path.relative_to(root)) for path in root.rglob("*") if path.is_file())
     put(root / "FILES", "".join(f"{path}\n" for path in files))
+    copy(args.release / "prefix/README", root / "README")
     for script in ("install.sh", "uninstall.sh"):
         copy(args.release / "prefix" / script, root / script, 0o755)
     put_tar_xz(root, args.out / f"{name}.tar.xz", args.time)

@@ -1,16 +1,18 @@
 #!/usr/bin/env python3
 """Installs, uses and removes the files of a release, without `rt` and in an empty environment.
 
-    tests/release.py [--out DIR] [PART..]
+    tests/release.py [--out DIR] [--system DIR] [PART..]
 
-The files are those that release/make.py wrote to release/out, or to the directory that --out names. The
-parts, all by default:
+The files are those that release/make.py wrote to release/out, or to the directory that --out names. --system
+names the root of an older system, as debootstrap makes one; `system` then runs. The parts, all by default:
 
 - sums: SHA256SUMS, and that the header and native.rs declare what the source exports;
 - archive: install.sh into a directory, also over an older version, and uninstall.sh. Nothing may be left;
 - debian: dpkg installs and removes the package below a root of its own. lintian checks it;
-- program: `script`, `check` and `--version` of the installed program;
-- manuals: `man --warnings` and `mandoc -Tlint` find nothing in the man pages;
+- program: `script`, `check`, `man` and `--version` of the installed program;
+- importer: `complgen-import` makes a tree file of a program's help text;
+- system: the older system installs, runs and removes the Debian package, in an empty environment;
+- manuals: `man --warnings` and `mandoc -Tlint -Wwarning` find nothing in the man pages;
 - live: live completion in bash, zsh, fish and Elvish, by the lines of docs/LIVE.md and docs/INSTALL.md;
 - own: the completions of complgen itself in the same shells, by the lines of docs/INSTALL.md;
 - library: symbols, pkg-config, the C examples under valgrind, memory of a program's own, the Python example,
@@ -52,6 +54,15 @@ USED.add("_GLOBAL_OFFSET_TABLE_")
 # A program that writes its arguments to a file.
 RECORDER = '#!/bin/sh\nprintf "%s\\n" "$@" >"$RECORD.new"\nmv "$RECORD.new" "$RECORD"\n'
 SECONDS_TO_START = 30
+MANUALS = ("man1/complgen.1", "man1/complgen-import.1", "man5/complgen-tree.5")
+# A program that prints a help text.
+HELPFUL = """#!/bin/sh
+echo 'Usage: app [OPTIONS]
+
+Options:
+  -d, --dir <DIR>  The directory
+  -h, --help       Print help'
+"""
 TREE = '{"name": "app", "args": [{"id": "dir", "long": "dir", "value_hint": "DirPath"}]}'
 MANIFEST = """[package]
 name = "app"
@@ -87,11 +98,12 @@ class Skipped(Exception):
 def main():
     parser = argparse.ArgumentParser(usage=common.usage(__doc__))
     parser.add_argument("--out", default=os.path.join(RELEASE, "out"))
+    parser.add_argument("--system")
     parser.add_argument("parts", nargs="*", metavar="PART", choices=[[], *PARTS])
     given = parser.parse_args()
     outcomes = []
     with tempfile.TemporaryDirectory(prefix="release-") as folder:
-        files = Files(os.path.realpath(given.out), folder)
+        files = Files(os.path.realpath(given.out), folder, given.system and os.path.realpath(given.system))
         for name in given.parts or PARTS:
             outcomes.append(outcome(name, PARTS[name], files))
     print(", ".join(f"{outcomes.count(it)} {it}" for it in ("passed", "failed", "skipped")))
@@ -114,8 +126,8 @@ def outcome(name, part, files):
 class Files:
     """The files of a release, and a directory to work in."""
 
-    def __init__(self, out, folder):
-        self.out, self.folder, self.number = out, folder, 0
+    def __init__(self, out, folder, system):
+        self.out, self.folder, self.system, self.number = out, folder, system, 0
         names = os.listdir(out)
         found = [re.fullmatch(r"complgen-(\d+\.\d+\.\d+)-x86_64-linux\.tar\.xz", name) for name in names]
         self.version = next((match[1] for match in found if match), None)
@@ -198,7 +210,8 @@ def archive(files):
     unpacked = files.unpacked("complgen-VERSION-x86_64-linux.tar.xz")
     install, uninstall = (os.path.join(unpacked, name) for name in ("install.sh", "uninstall.sh"))
     run([install, "--prefix", prefix])
-    check(os.access(os.path.join(prefix, "bin/complgen"), os.X_OK), "the program was not installed")
+    for name in ("complgen", "complgen-import"):
+        check(os.access(os.path.join(prefix, "bin", name), os.X_OK), f"{name} was not installed")
     check(not os.path.exists(os.path.join(prefix, "share/complgen")), "a tree file was installed")
     installed = names_below(prefix)
     remember_older(prefix)
@@ -252,21 +265,66 @@ def program(files):
         text = run([complgen, "script", "--shell", shell, "--bin", "app", tree], env={})
         check("dir" in text, f"the script for {shell} lacks the option")
     check(run([complgen, "check", tree], env={}) == "", "check reports something")
+    page = run([complgen, "man", "--bin", "app", tree], env={})
+    check("\\-\\-dir" in page, "the man page lacks the option")
     for name in ("LICENSES-THIRD-PARTY", "docs/tree.schema.json", "docs/INSTALL.md", "examples/tree.json",
                  "examples/values/docker.json", "NOTICE"):
         check(os.path.exists(os.path.join(prefix, "share/doc/complgen", name)), f"{name} is missing")
     return said.strip()
 
 
+def importer(files):
+    home, room = files.room(), files.room()
+    prefix = files.installed(os.path.join(home, ".local"))
+    write(os.path.join(room, "app"), HELPFUL, 0o755)
+    environment = {"PATH": f"{prefix}/bin:{room}:{SYSTEM}", "HOME": home}
+    run(["complgen-import", "app"], env=environment)
+    tree = os.path.join(home, ".local/share/complgen/app.json")
+    run(["complgen", "check", tree], env=environment)
+    words = run(["complgen", "candidates", "--index", "1", tree, "--", "app", "--d"], env=environment)
+    check(words.startswith("--dir"), f"the tree file offers {words}")
+    return "a tree file of a help text"
+
+
+def system(files):
+    if not files.system:
+        raise Skipped("needs --system DIR")
+    if os.geteuid():
+        raise Skipped("needs root, for chroot")
+    package = "complgen.deb"
+    shutil.copyfile(files.path("complgen_VERSION_amd64.deb"), os.path.join(files.system, package))
+    write(os.path.join(files.system, "app.json"), TREE)
+    inside = ["/usr/sbin/chroot", files.system, "/usr/bin/env", "-i"]
+    before = names_below(os.path.join(files.system, "usr"))
+    paths = ["PATH=/usr/sbin:/usr/bin:/sbin:/bin", "DPKG_FRONTEND_LOCKED=1"]
+    try:
+        run([*inside, *paths, "dpkg", "--install", package])
+        said = run([*inside, "/usr/bin/complgen", "--version"])
+        for shell in common.SHELLS:
+            text = run([*inside, "/usr/bin/complgen", "script", "--shell", shell, "--bin", "app", "/app.json"])
+            check("dir" in text, f"the script for {shell} lacks the option")
+        check(run([*inside, "/usr/bin/complgen", "check", "/app.json"]) == "", "check reports something")
+        run([*inside, *paths, "dpkg", "--purge", "complgen"])
+    finally:
+        for name in (package, "app.json"):
+            os.remove(os.path.join(files.system, name))
+    left = set(names_below(os.path.join(files.system, "usr"))) - set(before)
+    check(not left, f"left after the removal: {sorted(left)}")
+    with open(os.path.join(files.system, "etc/os-release"), encoding="utf-8") as file:
+        name = re.search('PRETTY_NAME="(.*)"', file.read())
+    return f"{said.strip()} on {name[1] if name else 'a system without a name'}"
+
+
 def manuals(files):
     need("man", "mandoc")
     folder = os.path.join(files.unpacked("complgen-VERSION-x86_64-linux.tar.xz"), "share/man")
-    pages = [os.path.join(folder, name) for name in ("man1/complgen.1", "man5/complgen-tree.5")]
+    pages = [os.path.join(folder, name) for name in MANUALS]
     for page in pages:
         environment = {"PATH": SYSTEM, "LC_ALL": "C.UTF-8", "MANROFFSEQ": "", "MANWIDTH": "80"}
         ran = subprocess.run(["man", "--warnings", "-l", page], env=environment, capture_output=True, timeout=60)
         check(ran.returncode == 0 and ran.stderr == b"", f"man: {ran.stderr.decode()}")
-        check(run(["mandoc", "-Tlint", page]) == "", "mandoc -Tlint reports something")
+        # A line of more than 80 bytes, such as a help text, is a matter of style.
+        run(["mandoc", "-Tlint", "-Wwarning", page])
     return f"{len(pages)} pages"
 
 
@@ -531,7 +589,8 @@ def crate(files):
 
 
 PARTS = {
-    part.__name__: part for part in (sums, archive, debian, program, manuals, live, own, library, tab, crate)
+    part.__name__: part
+    for part in (sums, archive, debian, program, importer, system, manuals, live, own, library, tab, crate)
 }
 
 

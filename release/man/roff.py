@@ -16,11 +16,6 @@ def bold(text):
     return f"\\fB{escaped(text)}\\fR"
 
 
-def italic(text):
-    """Returns a text in italics."""
-    return f"\\fI{escaped(text)}\\fR"
-
-
 def inline(text):
     """Returns a text as one line, with the code between backticks in bold."""
     parts = re.split("`([^`]*)`", text)

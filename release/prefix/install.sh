@@ -70,3 +70,7 @@ while IFS= read -r file; do
     mv -f -- "$prefix/$file.new" "$prefix/$file"
 done <FILES
 echo "complgen is installed below $prefix"
+case :${PATH-}: in
+    *:"$prefix/bin":*) ;;
+    *) echo "Add $prefix/bin to your PATH, to call complgen by its name" ;;
+esac

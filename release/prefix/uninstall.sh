@@ -28,3 +28,4 @@ printf '%s\n' "$installed" | sed -n 's/^directory //p' | sed '1!G;h;$!d' | while
     rmdir -- "$prefix/$directory" 2>/dev/null || true
 done
 echo "complgen is removed from $prefix"
+echo "Tree files and the lines for live completion in the start files of your shells stay"
