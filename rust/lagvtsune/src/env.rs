@@ -43,6 +43,8 @@ const MOST_OUTPUT: usize = 16 << 20;
 /// `COMPLETE`, such as by `source <(COMPLETE=bash app)` in bash.
 pub struct CompleteEnv<F> {
     factory: F,
+    bin: Option<String>,
+    completer: Option<String>,
     sources: Vec<Source>,
 }
 
@@ -54,9 +56,23 @@ struct Source {
 }
 
 impl<F: Fn() -> Command> CompleteEnv<F> {
-    /// Completes the command that `factory` returns. The command must not be built yet.
+    /// Completes the command that `factory` returns, whether it is built or not.
     pub fn with_factory(factory: F) -> CompleteEnv<F> {
-        CompleteEnv { factory, sources: Vec::new() }
+        CompleteEnv { factory, bin: None, completer: None, sources: Vec::new() }
+    }
+
+    /// Sets the name by which users call the program, for which the registration completes. Without
+    /// it, that is the bin name of the command, or its name if it has none.
+    pub fn bin(mut self, bin: impl Into<String>) -> CompleteEnv<F> {
+        self.bin = Some(bin.into());
+        self
+    }
+
+    /// Sets the program that the registration runs for each completion. Without it, that is the
+    /// first of the arguments, which is the name or the path by which the program was called.
+    pub fn completer(mut self, completer: impl Into<String>) -> CompleteEnv<F> {
+        self.completer = Some(completer.into());
+        self
     }
 
     /// Offers what a command prints as the values of an argument: each line is a value, and the
@@ -130,14 +146,17 @@ impl<F: Fn() -> Command> CompleteEnv<F> {
     /// Writes what is requested, and returns the exit status. Without `may_run`, commands are
     /// turned off.
     fn answer(
-        self,
-        words: Vec<Vec<u8>>,
+        mut self,
+        mut words: Vec<Vec<u8>>,
         current_dir: Option<&Path>,
         may_run: bool,
     ) -> Result<Option<u8>> {
         // The library decides this too, but without a request no tree should be made.
         if env::var_os(REQUEST).is_none_or(|value| value.is_empty() || value == "0") {
             return Ok(None);
+        }
+        if let (Some(completer), Some(first)) = (self.completer.take(), words.first_mut()) {
+            *first = completer.into_bytes();
         }
         let home = env::var(HOME).ok().filter(|path| !path.is_empty());
         let current_dir = current_dir.and_then(Path::to_str);
@@ -157,7 +176,10 @@ impl<F: Fn() -> Command> CompleteEnv<F> {
 
     /// Returns the tree file: the whole one for a reply, and otherwise the names alone.
     fn tree(&self, is_reply: bool) -> io::Result<String> {
-        let command = (self.factory)();
+        let mut command = (self.factory)();
+        if let Some(bin) = &self.bin {
+            command.set_bin_name(bin.clone());
+        }
         if let Some(source) = self.sources.iter().find(|it| !it.is_in(&command)) {
             let Source { path, id, .. } = source;
             return Err(io::Error::other(format!("values_from: no argument {id:?} at {path:?}")));

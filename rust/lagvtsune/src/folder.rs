@@ -44,11 +44,11 @@ impl Listing {
     /// not UTF-8 are left out. Symbolic links are followed.
     pub(crate) fn of(path: String) -> Listing {
         let entries = fs::read_dir(&path).into_iter().flatten().flatten();
-        let names = entries.filter_map(|entry| entry.file_name().into_string().ok());
-        let mut listing = Listing { names: names.collect(), ..Listing::default() };
+        let mut listing = Listing::default();
         listing.put(path.clone());
-        for name in &listing.names.clone() {
-            listing.put(Path::new(&path).join(name).to_string_lossy().into_owned());
+        for name in entries.filter_map(|entry| entry.file_name().into_string().ok()) {
+            listing.put(Path::new(&path).join(&name).to_string_lossy().into_owned());
+            listing.names.push(name);
         }
         listing.path = path;
         listing

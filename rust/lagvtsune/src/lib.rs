@@ -1,9 +1,10 @@
 //! Shell completions for programs that use clap, from a proved library.
 //!
-//! The names are those of `clap_complete`. The library is an archive, which `crates/complgen_c` of
-//! the repository builds. This package passes it a `clap::Command` as a tree file, and the library
-//! writes the script. `docs/RUST.md` explains what is proved, what is not, and what a tree
-//! file omits.
+//! The names are those of `clap_complete`. The library is an archive of proved code, which this
+//! package contains. The package passes it a `clap::Command` as a tree file, in JSON, and the library
+//! writes the script or answers the shell. It is proved that the script contains exactly the
+//! commands and options of the tree file if all names are plain: letters and digits, with single
+//! `-` or `_` between them. It is not proved that the tree file says what the command says.
 //!
 //! To write a script:
 //!
@@ -20,29 +21,37 @@
 #![deny(unsafe_code)]
 #![warn(missing_docs)]
 
+pub mod aot;
 mod calls;
 /// Live completion: the shell runs the program itself to get completions.
 pub mod env;
 mod folder;
-mod generator;
+mod generation;
+mod generators;
 #[allow(unsafe_code)]
 mod native;
+#[cfg(test)]
+#[allow(unsafe_code)]
+mod refusing;
 mod shell;
 #[cfg(test)]
 mod tests;
 mod tree_file;
 
-/// Completion scripts, which a shell loads and then uses without the program.
-pub mod aot {
-    pub use crate::generator::{generate, generate_to, try_generate, Generator};
-    pub use crate::shell::Shell::{self, Bash, Elvish, Fish, Nushell, PowerShell, Zsh};
-    pub use clap::ValueHint;
+/// The functions of [`aot`] that write scripts, under an older name of `clap_complete`.
+pub mod generator {
+    pub use crate::aot::{generate, generate_to, utils, Generator};
 }
 
-/// The shells, by name.
+/// The shells of [`aot`], under an older name of `clap_complete`.
 pub mod shells {
-    pub use crate::shell::Shell::{self, Bash, Elvish, Fish, Nushell, PowerShell, Zsh};
+    pub use crate::aot::{Bash, Elvish, Fish, Nushell, PowerShell, Shell, Zsh};
 }
+
+/// Tests the example in `README.md`.
+#[cfg(doctest)]
+#[doc = include_str!("../README.md")]
+struct Readme;
 
 pub use aot::{generate, generate_to, try_generate, Generator, Shell};
 pub use clap::ValueHint;

@@ -1,7 +1,7 @@
 //! The shells.
 
 use crate::calls;
-use crate::generator::Generator;
+use crate::generation::Generator;
 use crate::tree_file::tree_file;
 use clap::builder::PossibleValue;
 use clap::{Command, ValueEnum};
@@ -120,5 +120,9 @@ impl Generator for Shell {
     fn try_generate(&self, cmd: &Command, buf: &mut dyn Write) -> Result<(), Error> {
         let bin_name = cmd.get_bin_name().unwrap_or(cmd.get_name());
         buf.write_all(&calls::script(self.name(), bin_name, &tree_file(cmd))?)
+    }
+
+    fn takes_declared(&self) -> bool {
+        true
     }
 }

@@ -3,8 +3,8 @@
 use crate::calls::slices;
 use crate::env::cut_after_line;
 use crate::folder::likely_folder;
-use crate::native::refusing::refused;
 use crate::native::{self, Request, Returned};
+use crate::refusing::refused;
 use crate::tree_file::{names_file, tree_file, tree_file_of, ValuesFrom};
 use clap::{value_parser, Arg, ArgAction, ArgGroup, Command};
 use std::collections::hash_map::DefaultHasher;

@@ -1,11 +1,21 @@
 //! Writes a `clap::Command` as a tree file of `complgen`, with clap and the standard library alone.
 
 use clap::builder::{PossibleValue, Str, ValueRange};
-use clap::{Arg, Command, ValueHint};
+use clap::{Arg, ArgAction, Command, Id, ValueHint};
 use std::fmt::{self, Debug, Display, Write};
 use std::mem;
 
 const NO_ORDER: usize = 999;
+
+/// The descriptions that releases of clap 4 give to the flags and the subcommand that they add.
+const HELP_TEXTS: [&str; 4] = [
+    "Print help",
+    "Print help (see more with '--help')",
+    "Print help information",
+    "Print help information (use `--help` for more detail)",
+];
+const VERSION_TEXTS: [&str; 2] = ["Print version", "Print version information"];
+const HELP_COMMAND_TEXT: &str = "Print this message or the help of the given subcommand(s)";
 
 /// The capacity in bytes with which a tree file begins.
 const LEAST_ROOM: usize = 8 << 10;
@@ -45,7 +55,7 @@ impl<'v> ValuesFrom<'v> {
     }
 }
 
-/// Returns the tree file of a command that is not built yet.
+/// Returns the tree file of a command, whether it is built or not.
 pub fn tree_file(command: &Command) -> String {
     tree_file_of(command.clone(), &[])
 }
@@ -53,9 +63,9 @@ pub fn tree_file(command: &Command) -> String {
 /// Returns the same as [`tree_file`], but consumes the command, and adds the words of commands that
 /// print values. These count instead of possible values.
 pub fn tree_file_of(mut command: Command, sources: &[ValuesFrom<'_>]) -> String {
-    let declared = command.get_arguments().count();
+    let place = Place { arg_count: command.get_arguments().count(), globals: &[], sources };
     let mut out = String::with_capacity(LEAST_ROOM);
-    command_object(&mut out, &mut command, declared, sources);
+    command_object(&mut out, &mut command, &place);
     out.push('\n');
     out
 }
@@ -72,11 +82,49 @@ pub fn names_file(command: &Command) -> String {
     out
 }
 
-/// Returns a number for each declared child: how many arguments it declares.
-///
-/// Building adds children and arguments after the declared ones.
-fn declared_children(command: &Command) -> Vec<usize> {
-    command.get_subcommands().map(|child| child.get_arguments().count()).collect()
+/// The place of a command in its tree.
+struct Place<'p> {
+    /// How many of the command's first arguments it had before its parent was built.
+    arg_count: usize,
+    /// The global arguments of the commands above.
+    globals: &'p [Id],
+    /// The commands that print values, as seen from here.
+    sources: &'p [ValuesFrom<'p>],
+}
+
+/// Returns a number for each child: how many arguments it has. Building the parent adds children
+/// and arguments after these. Returns `None` for the child `help` of a command that was built
+/// before.
+fn child_arg_counts(command: &Command) -> Vec<Option<usize>> {
+    let counts = command.get_subcommands().map(|child| {
+        let is_added = child.get_name() == "help"
+            && !command.is_disable_help_subcommand_set()
+            && is_one_of(child.get_about(), &[HELP_COMMAND_TEXT]);
+        (!is_added).then(|| child.get_arguments().count())
+    });
+    counts.collect()
+}
+
+/// Returns whether an earlier build of the command added the argument: it is as clap makes the
+/// flags for the help text and the version, or a copy of a global argument from above.
+fn is_added(arg: &Arg, globals: &[Id]) -> bool {
+    let texts: &[&str] = match arg.get_action() {
+        ArgAction::Help if is_named(arg, "help", 'h') => &HELP_TEXTS,
+        ArgAction::Version if is_named(arg, "version", 'V') => &VERSION_TEXTS,
+        _ => return arg.is_global_set() && globals.contains(arg.get_id()),
+    };
+    is_one_of(arg.get_help(), texts)
+}
+
+/// Returns whether an argument has this id, the same long, and at most this short.
+fn is_named(arg: &Arg, id: &str, short: char) -> bool {
+    arg.get_id() == id
+        && arg.get_long() == Some(id)
+        && arg.get_short().is_none_or(|own| own == short)
+}
+
+fn is_one_of(text: Option<impl Display>, texts: &[&str]) -> bool {
+    text.is_some_and(|text| texts.contains(&text.to_string().as_str()))
 }
 
 /// Builds only this command, which passes on to its children what they inherit.
@@ -89,30 +137,37 @@ fn build_alone(command: &mut Command) {
     command.render_usage();
 }
 
-/// Writes a command with its first `arg_count` arguments, which it declares, and what it inherits.
-fn command_object(
-    out: &mut String,
-    command: &mut Command,
-    arg_count: usize,
-    sources: &[ValuesFrom<'_>],
-) {
+/// Writes a command with the arguments and children that it declares, and what it inherits.
+fn command_object(out: &mut String, command: &mut Command, place: &Place<'_>) {
     // Only a built command has what it inherits, and the conflicts of its arguments.
-    let args: Vec<Declared> = command.get_arguments().take(arg_count).map(Declared::of).collect();
-    let children = declared_children(command);
+    let args = command.get_arguments().take(place.arg_count);
+    let are_own: Vec<bool> = args.map(|arg| !is_added(arg, place.globals)).collect();
+    let children = child_arg_counts(command);
+    let globals = globals_of(command, place.globals);
     build_alone(command);
     let mut object = Object::new(out);
     command_texts(&mut object, command);
-    command_flags(&mut object, command, !children.is_empty());
-    let args = command.get_arguments().zip(&args);
-    object.list("args", args, |out, (arg, declared)| {
-        arg_object(out, arg, declared, command, words_for(arg, sources));
+    command_flags(&mut object, command, children.iter().any(Option::is_some));
+    let mut position = 0;
+    let args = command.get_arguments().zip(are_own).filter(|(_, is_own)| *is_own);
+    object.list("args", args, |out, (arg, _)| {
+        position += usize::from(arg.is_positional());
+        arg_object(out, arg, position, command, words_for(arg, place.sources));
     });
     let children = command.get_subcommands_mut().zip(children);
-    object.list("subcommands", children, |out, (child, count)| {
-        let sources: Vec<_> = sources.iter().filter_map(|it| it.below(child.get_name())).collect();
-        command_object(out, child, count, &sources);
+    let children = children.filter_map(|(child, count)| Some((child, count?)));
+    object.list("subcommands", children, |out, (child, arg_count)| {
+        let sources = place.sources.iter().filter_map(|it| it.below(child.get_name()));
+        let sources: Vec<_> = sources.collect();
+        command_object(out, child, &Place { arg_count, globals: &globals, sources: &sources });
     });
     object.end()
+}
+
+/// Returns the ids of the global arguments of a command and of those above.
+fn globals_of(command: &Command, above: &[Id]) -> Vec<Id> {
+    let own = command.get_arguments().filter(|arg| arg.is_global_set());
+    above.iter().cloned().chain(own.map(|arg| arg.get_id().clone())).collect()
 }
 
 /// Returns the words of the command that prints the values of an argument; none without a command.
@@ -125,7 +180,7 @@ fn command_texts(object: &mut Object<'_>, command: &Command) {
     let visible: Vec<&str> = command.get_visible_aliases().collect();
     let hidden = command.get_all_aliases().filter(|alias| !visible.contains(alias));
     object.text("name", Some(command.get_name()));
-    object.text("bin_name", command.get_bin_name());
+    object.text("bin_name", own_bin_name(command));
     object.shown("about", command.get_about());
     object.shown("long_about", command.get_long_about());
     object.shown("after_help", command.get_after_help());
@@ -133,6 +188,15 @@ fn command_texts(object: &mut Object<'_>, command: &Command) {
     object.text("subcommand_help_heading", command.get_subcommand_help_heading());
     object.list("visible_aliases", &visible, |out, it| quote(out, it));
     object.list("aliases", hidden, quote);
+}
+
+/// Returns the bin name of a command. A build gives each subcommand one that ends in its name, after
+/// those of the commands above and a space; it is not returned.
+fn own_bin_name(command: &Command) -> Option<&str> {
+    let is_added = |name: &&str| {
+        name.strip_suffix(command.get_name()).is_some_and(|above| above.ends_with(' '))
+    };
+    command.get_bin_name().filter(|name| !is_added(name))
 }
 
 fn version(command: &Command) -> Option<&str> {
@@ -153,39 +217,39 @@ fn command_flags(object: &mut Object<'_>, command: &Command, has_children: bool)
     object.flag("arg_required_else_help", command.is_arg_required_else_help_set());
 }
 
-/// The settings of an argument that building fills in if they are not declared.
-struct Declared {
-    num_args: Option<ValueRange>,
-    index: Option<usize>,
-    /// True if there is exactly one default value: a tree file cannot hold more.
-    default: bool,
-}
-
-impl Declared {
-    fn of(arg: &Arg) -> Declared {
-        Declared {
-            num_args: arg.get_num_args(),
-            index: arg.get_index(),
-            default: arg.get_default_values().len() == 1,
-        }
+/// Returns the number of values that building gives an argument without one.
+fn usual_range(arg: &Arg) -> ValueRange {
+    match arg.get_value_names().map_or(0, <[_]>::len) {
+        names @ 2.. => names.into(),
+        _ if arg.get_action().takes_values() => ValueRange::SINGLE,
+        _ => ValueRange::EMPTY,
     }
 }
 
+/// Returns the default value of an argument, unless building gives it to each argument with the same
+/// action. Returns `None` for several values, because a tree file cannot hold more than one.
+fn own_default(arg: &Arg) -> Option<&str> {
+    let [value] = arg.get_default_values() else {
+        return None;
+    };
+    let usual = match arg.get_action() {
+        ArgAction::SetTrue => "false",
+        ArgAction::SetFalse => "true",
+        ArgAction::Count => "0",
+        _ => return value.to_str(),
+    };
+    value.to_str().filter(|value| *value != usual)
+}
+
 /// Writes an argument of a built command as it was declared, with the words of the command that
-/// prints its values, if there are any.
-fn arg_object(
-    out: &mut String,
-    arg: &Arg,
-    declared: &Declared,
-    command: &Command,
-    words: &[String],
-) {
+/// prints its values, if there are any. `position` is its number among the positional arguments.
+fn arg_object(out: &mut String, arg: &Arg, position: usize, command: &Command, words: &[String]) {
     let mut object = Object::new(out);
     object.text("id", Some(arg.get_id().as_str()));
     arg_names(&mut object, arg);
     object.shown("help", arg.get_help());
     object.word("action", arg.get_action());
-    if let Some(range) = declared.num_args {
+    if let Some(range) = arg.get_num_args().filter(|range| *range != usual_range(arg)) {
         value_range(object.key("num_args"), range);
     }
     object.list("value_names", arg.get_value_names().unwrap_or(&[]), |out, it| quote(out, it));
@@ -198,11 +262,10 @@ fn arg_object(
         object.word("value_hint", hint);
     }
     object.text("value_terminator", arg.get_value_terminator().map(|it| it.as_str()));
-    let default = arg.get_default_values().first().filter(|_| declared.default);
-    object.text("default_value", default.and_then(|value| value.to_str()));
+    object.text("default_value", own_default(arg));
     let conflicts = command.get_arg_conflicts_with(arg);
     object.list("conflicts_with", conflicts, |out, it| quote(out, it.get_id().as_str()));
-    if let Some(index) = declared.index {
+    if let Some(index) = arg.get_index().filter(|index| *index != position) {
         object.number("index", index);
     }
     object.flag("required", arg.is_required_set());
@@ -313,7 +376,7 @@ impl<'o> Object<'o> {
         &mut self,
         key: &str,
         items: impl IntoIterator<Item = T>,
-        put: impl Fn(&mut String, T),
+        mut put: impl FnMut(&mut String, T),
     ) {
         let mut items = items.into_iter();
         let Some(first) = items.next() else {

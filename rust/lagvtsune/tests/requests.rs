@@ -18,6 +18,9 @@ fn main() {
             assert!(values().try_complete(args, None).unwrap(), "nothing is requested");
             return;
         }
+        Ok("other names") => {
+            CompleteEnv::with_factory(app).bin("other").completer("/opt/it").complete();
+        }
         Ok("no argument") => values().values_from(&["add", "s"], "level", &["x"]).complete(),
         _ => CompleteEnv::with_factory(app).complete(),
     }
@@ -94,6 +97,11 @@ fn a_registration_runs_the_program() {
     let program = env::current_exe().unwrap();
     assert!(fish.contains("COMPLETE=fish"), "{fish}");
     assert!(fish.contains(program.to_str().unwrap()), "{fish}");
+    assert!(fish.contains("--command app"), "{fish}");
+    let other = text("other names", &[("COMPLETE", "fish")], &[]);
+    assert!(other.contains("--command other") && other.contains("/opt/it"), "{other}");
+    let reply = text("other names", &[("COMPLETE", "fish")], &["--", "other", "t"]);
+    assert_eq!(reply, "t\n");
 }
 
 fn refusals() {

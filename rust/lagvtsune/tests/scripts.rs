@@ -1,7 +1,7 @@
 //! Tests the public calls.
 
-use clap::{Arg, Command, ValueEnum};
-use lagvtsune::aot::{try_generate, Bash, Generator};
+use clap::{Arg, ArgAction, Command, ValueEnum};
+use lagvtsune::aot::{try_generate, utils, Bash, Generator};
 use lagvtsune::{generate, generate_to, shells, Shell};
 use std::io::{self, ErrorKind, Write};
 use std::{env, fs, thread};
@@ -112,6 +112,82 @@ fn a_generator_of_the_program_s_own_is_handed_the_bin_name() {
 }
 
 #[test]
+fn a_generator_gets_a_built_command() {
+    struct Lists;
+    impl Generator for Lists {
+        fn file_name(&self, name: &str) -> String {
+            format!("{name}.txt")
+        }
+        fn generate(&self, cmd: &Command, buf: &mut dyn Write) {
+            let run = utils::find_subcommand_with_path(cmd, vec!["remote", "add"]);
+            let flags = utils::flags(run).into_iter().map(|arg| arg.get_id().to_string());
+            let values = cmd.get_arguments().filter_map(utils::possible_values).flatten();
+            let values = values.map(|value| value.get_name().to_owned());
+            writeln!(buf, "{:?}", utils::all_subcommands(cmd)).unwrap();
+            writeln!(buf, "{:?}", utils::longs_and_visible_aliases(cmd)).unwrap();
+            writeln!(buf, "{:?}", utils::shorts_and_visible_aliases(cmd)).unwrap();
+            writeln!(buf, "{:?}", flags.collect::<Vec<_>>()).unwrap();
+            writeln!(buf, "{:?}", values.collect::<Vec<_>>()).unwrap();
+        }
+    }
+    let color = Arg::new("color").long("color").visible_alias("colour").short('c');
+    let remote = Command::new("remote").visible_alias("r").disable_help_subcommand(true);
+    let mut command = Command::new("app")
+        .disable_help_subcommand(true)
+        .arg(color.visible_short_alias('k').value_parser(["auto", "never"]))
+        .arg(Arg::new("file"))
+        .subcommand(remote.subcommand(Command::new("add")));
+    let mut out = Vec::new();
+    generate(Lists, &mut command, "app", &mut out);
+    let expected = r#"[("remote", "app remote"), ("r", "app remote"), ("add", "app remote add")]
+["colour", "color", "help"]
+['k', 'c', 'h']
+["help"]
+["auto", "never"]
+"#;
+    assert_eq!(String::from_utf8(out).unwrap(), expected);
+}
+
+#[test]
+fn a_built_command_gives_the_same_script() {
+    let flag = |name, short| Arg::new(name).long(name).short(short).action(ArgAction::SetTrue);
+    let pair = Arg::new("pair").long("pair").num_args(2).value_names(["A", "B"]);
+    let command = Command::new("app")
+        .version("1")
+        .propagate_version(true)
+        .args([flag("all", 'a').global(true), flag("brief", 'b')])
+        .args([Arg::new("first").required(true), Arg::new("rest").num_args(0..)])
+        .subcommand(Command::new("run").arg(pair).subcommand(Command::new("deep")))
+        .subcommand(Command::new("own").disable_help_flag(true).arg(flag("help", '?')));
+    let mut built = command.clone();
+    built.set_bin_name("app");
+    built.build();
+    for shell in Shell::value_variants() {
+        assert_eq!(script(*shell, command.clone()), script(*shell, built.clone()), "{shell}");
+    }
+}
+
+#[test]
+fn each_shell_has_a_generator_of_its_own() {
+    let written = |generator: &dyn Fn(&mut Command, &mut Vec<u8>)| {
+        let mut out = Vec::new();
+        generator(&mut app(), &mut out);
+        String::from_utf8(out).unwrap()
+    };
+    let own = [
+        written(&|command, out| generate(shells::Bash, command, "app", out)),
+        written(&|command, out| generate(shells::Elvish, command, "app", out)),
+        written(&|command, out| generate(shells::Fish, command, "app", out)),
+        written(&|command, out| generate(shells::Nushell, command, "app", out)),
+        written(&|command, out| generate(shells::PowerShell, command, "app", out)),
+        written(&|command, out| generate(shells::Zsh, command, "app", out)),
+    ];
+    let expected = Shell::value_variants().iter().map(|shell| script(*shell, app()));
+    assert_eq!(own.to_vec(), expected.collect::<Vec<_>>());
+    assert_eq!(shells::PowerShell.file_name("app"), Shell::PowerShell.file_name("app"));
+}
+
+#[test]
 fn threads_may_call_at_once() {
     let calls = [(); 8].map(|()| thread::spawn(|| script(Shell::Bash, app())));
     let made = calls.map(|call| call.join().unwrap());
@@ -140,7 +216,6 @@ fn a_shell_is_known_by_its_name_and_its_program() {
         assert_eq!(shell.to_possible_value().unwrap().get_name(), shell.to_string());
     }
     assert_eq!("Bash".parse::<Shell>(), Err("invalid variant: Bash".to_owned()));
-    assert_eq!(shells::PowerShell, Shell::PowerShell);
     for path in ["/bin/bash/", "bash.exe"] {
         assert_eq!(Shell::from_shell_path(path), Some(Shell::Bash));
     }

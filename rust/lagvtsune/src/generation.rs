@@ -8,8 +8,34 @@ use std::path::PathBuf;
 
 /// Generates the scripts of a shell.
 ///
-/// The functions of this package pass it a command as the program declared it, with its bin name
-/// set. In `clap_complete`, the command is already built.
+/// [`generate`], [`try_generate`] and [`generate_to`] set the bin name of the command, and build it
+/// first, so that it has the arguments and subcommands that clap adds.
+///
+/// ```
+/// use clap::Command;
+/// use lagvtsune::aot::utils::longs_and_visible_aliases;
+/// use lagvtsune::{generate, Generator};
+/// use std::io::Write;
+///
+/// /// Lists the options of the program itself.
+/// struct Options;
+///
+/// impl Generator for Options {
+///     fn file_name(&self, name: &str) -> String {
+///         format!("{name}.txt")
+///     }
+///
+///     fn generate(&self, cmd: &Command, buf: &mut dyn Write) {
+///         for long in longs_and_visible_aliases(cmd) {
+///             writeln!(buf, "--{long}").expect("failed to write completion file");
+///         }
+///     }
+/// }
+///
+/// let mut list = Vec::new();
+/// generate(Options, &mut Command::new("app"), "app", &mut list);
+/// assert_eq!(list, b"--help\n");
+/// ```
 pub trait Generator {
     /// Returns the name of the file in which the shell looks for the script of the program `name`.
     fn file_name(&self, name: &str) -> String;
@@ -30,10 +56,25 @@ pub trait Generator {
         self.generate(cmd, buf);
         Ok(())
     }
+
+    /// Returns whether the generator writes the same script for a command that is not built. Such a
+    /// command is then not built, which saves time.
+    #[doc(hidden)]
+    fn takes_declared(&self) -> bool {
+        false
+    }
 }
 
-/// Writes the script of `cmd`, which must not be built yet, under the name `bin_name` to `buf`. The
-/// command keeps that name.
+/// Sets the bin name of a command, and builds it for generators that need that.
+fn prepare<G: Generator>(generator: &G, cmd: &mut Command, bin_name: impl Into<String>) {
+    cmd.set_bin_name(bin_name);
+    if !generator.takes_declared() {
+        cmd.build();
+    }
+}
+
+/// Writes the script of `cmd` under the name `bin_name` to `buf`. The command keeps that name. It
+/// may be built before, but need not be.
 ///
 /// # Panics
 ///
@@ -44,7 +85,7 @@ where
     G: Generator,
     S: Into<String>,
 {
-    cmd.set_bin_name(bin_name);
+    prepare(&generator, cmd, bin_name);
     generator.generate(cmd, buf);
 }
 
@@ -64,12 +105,12 @@ where
     G: Generator,
     S: Into<String>,
 {
-    cmd.set_bin_name(bin_name);
+    prepare(&generator, cmd, bin_name);
     generator.try_generate(cmd, buf)
 }
 
-/// Writes the script of `cmd`, which must not be built yet, under the name `bin_name`, to the file
-/// in `out_dir` in which the shell looks for it. Returns the path of the file.
+/// Writes the script of `cmd` under the name `bin_name` to the file in `out_dir` in which the shell
+/// looks for it. Returns the path of the file.
 ///
 /// # Errors
 ///
