@@ -52,12 +52,17 @@ SCRIPTS = {"ruff": ["generate-shell-completion", "bash"], "uv": ["generate-shell
 NO_VALUE = re.compile(r"value is required for|requires a value")
 LIMIT = 1 << 20
 SECONDS = 20
-ENVIRONMENT = {"PATH": "/usr/bin:/bin:/usr/sbin:/sbin", "HOME": "/tmp/home", "LANG": "C.UTF-8", "TERM": "dumb",
+# Directories that exist only inside the sandbox: an empty home, the scratch directory, and this directory.
+INSIDE = "/run/capture"
+HOME, OUT, BENCH = f"{INSIDE}/home", f"{INSIDE}/out", f"{INSIDE}/bench"
+# The directories of users, which programs see empty.
+HIDDEN = ("/home", os.path.expanduser("~"))
+ENVIRONMENT = {"PATH": ":".join([*FOLDERS, "/bin", "/sbin"]), "HOME": HOME, "LANG": "C.UTF-8", "TERM": "dumb",
                "COLUMNS": "200", "NO_COLOR": "1", "PAGER": "cat", "GIT_PAGER": "cat", "MANPAGER": "cat"}
 
 
 class Box:
-    """A scratch directory, and programs that run with it as /tmp/out and cannot write elsewhere."""
+    """A scratch directory, and programs that run with it as OUT and cannot write elsewhere."""
 
     def __init__(self, folder, runs=4000):
         self.folder, self.left = folder, runs
@@ -67,9 +72,9 @@ class Box:
         if self.left == 0:
             return None
         self.left -= 1
-        sealed = ["bwrap", "--ro-bind", "/", "/", "--dev", "/dev", "--proc", "/proc", "--tmpfs", "/tmp",
-                  "--tmpfs", "/run", "--tmpfs", "/root", "--tmpfs", "/home", "--dir", "/tmp/home",
-                  "--ro-bind", HERE, "/tmp/bench", "--bind", self.folder, "/tmp/out", "--chdir", "/tmp/home",
+        empty = [word for path in ("/tmp", "/run", *HIDDEN) for word in ("--tmpfs", path)]
+        sealed = ["bwrap", "--ro-bind", "/", "/", "--dev", "/dev", "--proc", "/proc", *empty, "--dir", HOME,
+                  "--ro-bind", HERE, BENCH, "--bind", self.folder, OUT, "--chdir", HOME,
                   "--unshare-all", "--die-with-parent", "--new-session", "timeout", str(seconds), *words]
         streams = [open(os.path.join(self.folder, name), "wb+") for name in ("stdout", "stderr")]
         process = subprocess.Popen(["prlimit", f"--fsize={LIMIT}", *sealed], stdin=subprocess.DEVNULL,
@@ -109,16 +114,16 @@ def node(options, commands=None, **more):
 def python(box, path):
     """Returns the parser of a Python program, with the texts of its subcommands."""
     name = os.path.basename(path)
-    text = box.help(["/usr/bin/python3", path, "--help"], TRUTHS="/tmp/out/truth", TRUTHS_NAME=name,
-                    PYTHONPATH="/tmp/bench/truths")
+    text = box.help(["/usr/bin/python3", path, "--help"], TRUTHS=f"{OUT}/truth", TRUTHS_NAME=name,
+                    PYTHONPATH=f"{BENCH}/truths")
     found = box.taken("truth")
     return {**json.loads(found), "text": text} if found else None
 
 
 def getopt(box, path):
     """Returns the options that a program gives to getopt."""
-    text = box.help([path, "--help"], TRUTHS="/tmp/out/truth", TRUTHS_PROGRAM=os.path.realpath(path),
-                    LD_PRELOAD="/tmp/out/getopt.so")
+    text = box.help([path, "--help"], TRUTHS=f"{OUT}/truth", TRUTHS_PROGRAM=os.path.realpath(path),
+                    LD_PRELOAD=f"{OUT}/getopt.so")
     options = {}
     for line in (box.taken("truth") or "").splitlines():
         name, _, value = line.rpartition(" ")

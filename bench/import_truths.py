@@ -50,7 +50,7 @@ sys.path.append(os.path.join(os.path.dirname(os.path.realpath(__file__)), "..", 
 import common
 
 PLAIN = re.compile(r"[A-Za-z0-9]+([-_][A-Za-z0-9]+)*")
-# The stated form of an option line: names, values, and a help after two blanks.
+# The stated form of an option line: names and values, then the end, or two spaces and the help text.
 NAME = r"(?:--(?:\[no-\])?[A-Za-z0-9]+(?:[-_.][A-Za-z0-9]+)*|-[A-Za-z0-9])(?![A-Za-z0-9_.:+-])"
 ANGLE, CURLY, GROUP, UPPER = r"<[^<>]*>", r"\{[^{}]*\}", r"\[[^\[\]]*\]", r"[A-Z][A-Z0-9_-]*"
 JOINED = rf"(?:{ANGLE}|{CURLY}|[A-Za-z0-9_:./+@%-]+)(?:\.\.\.)?"
