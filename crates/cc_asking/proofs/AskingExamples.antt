@@ -1,4 +1,4 @@
--- What answers a request that asks for values, and the words that a shell is to run, for some
+-- The answers to requests that ask for values, and the words that a shell is to run, for some
 -- arguments and texts.
 use Rattle.std.proofs.Common.{◌≡◌, true, false, [], ◌∷◌, Some, None, codes, refl}
 use Rattle.cc_arg.specs.declared.parts.ArgParts.{ArgParts as Arg}

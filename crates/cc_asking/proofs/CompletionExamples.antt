@@ -1,4 +1,4 @@
--- What lines change in a tree, for an argument that is asked for and for none.
+-- The change that lines make in a tree, for an argument that is asked for and for none.
 use Rattle.std.proofs.Common.{◌≡◌, List, [], ◌∷◌, None, Some, codes, refl}
 use Rattle.std.specs.Prelude.{⊤}
 use Rattle.cc_arg.specs.declared.parts.ArgParts.{ArgParts as Arg}

@@ -32,7 +32,7 @@ use Rattle.cc_asking.specs.declared.asking.Step.TheVariants.{ReadLines, Reply, R
 
 -- ---- the request
 
--- what the answer to a request depends on, apart from the command and the lines
+-- the parts of an answer to a request, apart from the command and the lines
 pub record Parts : Type 1 where
   pub shell : SafeShell
   -- the names in the registration of a program and a tree
@@ -41,7 +41,7 @@ pub record Parts : Type 1 where
   pub args : List (List ℕ)
   -- commands of the tree may be run
   pub trusted : Bool
-  -- what completers, lists and a folder may return
+  -- the possible results of completers, lists and a folder
   pub returned : MayReturn
 
 abbrev pub parts_of : {D C : Type 0} → Ghosts C CompletionCandidate → FolderFacts → Call
@@ -64,7 +64,7 @@ words_after (program ∷ rest) = after_dashes rest
 
 -- ---- the answer
 
--- what an answer tells the shell: a text, or the words of a command to run
+-- the content of an answer to the shell: a text, or the words of a command to run
 pub data Told : Type 0 where
   text : List ℕ → Told
   words : List (List ℕ) → Told

@@ -13,7 +13,7 @@ use Rattle.cc_asking.specs.declared.asking.Step.TheVariants.{Reply, Run, ReadLin
 
 -- ---- the argument
 
--- what a safe registration can do: run the words of an answer, or pass on what they printed
+-- the abilities of a safe registration: run the words of an answer, or pass on what they printed
 abbrev pub values_mode : EnvValues → Option (List ℕ)
 values_mode env = value_of (codes "_COMPLGEN_VALUES") env
 
@@ -34,13 +34,13 @@ IsOutOfRange tree [] = ⊥
 IsOutOfRange tree (word ∷ words) =
     is_in_range tree.node (length (word ∷ words)) (length (word ∷ words) - 1) ≡ false
 
--- how asking at the last word fails
+-- asking at the last word fails
 abbrev pub CannotAskAtLast : Tree → List (List ℕ) → Error → Type 0
 CannotAskAtLast tree words Memory = ⊤
 CannotAskAtLast tree words NoCompletion = IsOutOfRange tree words
 CannotAskAtLast tree words _ = ⊥
 
--- how asking fails
+-- asking fails
 abbrev pub CannotAsk : Option (List ℕ) → Tree → List (List ℕ) → Error → Type 0
 CannotAsk None tree words error = error ≡ Memory
 CannotAsk (Some mode) tree words error = CannotAskAtLast tree words error

@@ -19,7 +19,7 @@ abbrev pub tree_for : Option Arg → Tree → Tree
 tree_for None tree = tree
 tree_for (Some asked) tree = listed_tree asked lines_list tree
 
--- what may be returned, with the lines in that list
+-- the possible results, with the lines in that list
 abbrev pub returned_for : MayReturn → List ℕ → Option Arg → MayReturn
 returned_for returned lines None = returned
 returned_for returned lines (Some asked) =
@@ -34,7 +34,7 @@ pub record CompletesWith (returned : MayReturn) (lines : List ℕ) (tree : Tree)
   pub completes : Completes (returned_for returned lines asked) (built_tree (tree_for asked tree))
       words index found
 
--- How such a call ends without candidates: as `complete_from` does, or out of memory after some
+-- The ends of such a call without candidates: as `complete_from` does, or out of memory after some
 -- arguments got the list of the lines.
 abbrev pub RefusesWith : Tree → Tree → ℕ → ℕ → Error → Type 0
 RefusesWith old new count index error = Refuses old new count index error

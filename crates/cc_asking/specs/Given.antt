@@ -21,7 +21,7 @@ abbrev pub lists_with : (ℕ → List CompletionCandidate → Type 0) → List C
 lists_with may_list given which found =
     lists_when (which == lines_list.number) given (may_list which) found
 
--- what may be returned, with that list
+-- the possible results, with that list
 abbrev pub with_lines : MayReturn → List CompletionCandidate → MayReturn
 with_lines returned given = record {
   completes = returned.completes;

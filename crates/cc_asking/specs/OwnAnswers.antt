@@ -14,7 +14,7 @@ use Rattle.cc_asking.specs.declared.answers.Answer.{Answer}
 
 -- ---- the request
 
--- what the answer of a program for a shell depends on: its own tree is trusted
+-- the parts of the answer of a program for a shell: its own tree is trusted
 abbrev pub own_parts : (List ℕ → Tree → Names) → EnvValues → List (List ℕ) → MayReturn → SafeShell
     → Parts
 own_parts names env args returned shell = record {

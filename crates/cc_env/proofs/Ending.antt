@@ -24,7 +24,7 @@ module _ {S : Type 0} (taken : S → List ℕ) (failed : S → Failures) where
       text_written made makes (writes.ok ∙ ap (λ t. taken old ++ t) same) writes.failures
 
   module _ {C : Type 0} (spec : C → CompleterSpec) (shells : List C) (Makes : C → Result (List ℕ) Error → Type 0) (old new : S) where
-    -- what a name requests
+    -- the request that a name makes
     abbrev wanted_by : List ℕ → Option C → Wanted C
     wanted_by name found = elim found [
       | Some shell ↦ known shell

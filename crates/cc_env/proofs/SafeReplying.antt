@@ -6,6 +6,7 @@ use Rattle.cc_env.specs.declared.builtin.Builtin.{Builtin}
 use Rattle.cc_env.specs.declared.builtin.Builtin.TheVariants.{Bash, Elvish, Fish}
 use Rattle.cc_env.specs.declared.builtin.Builtin.TheVariants.{Powershell, Zsh}
 use Rattle.cc_candidates.specs.declared.candidate.CompletionCandidate.{CompletionCandidate}
+use Rattle.cc_replies.proofs.EntryReadings.{entries_back}
 use Rattle.cc_replies.proofs.ReplyReadings.{lines_back, values_back, zsh_back}
 use Rattle.cc_replies.proofs.BashReadings as bash
 use Rattle.cc_replies.proofs.PowershellReadings as powershell
@@ -29,7 +30,7 @@ builtin_back : (shell : Builtin) (env : EnvValues) (found : List CompletionCandi
 builtin_back Bash env found = values_back (separator_of env) found
 builtin_back Elvish env found = values_back (separator_of env) found
 builtin_back Fish env found = lines_back found
-builtin_back Powershell env found = lines_back found
+builtin_back Powershell env found = entries_back found
 builtin_back Zsh env found = zsh_back (separator_of env) found
 
 pub back_when : (safe : Bool) (shell : Builtin) (env : EnvValues)

@@ -8,6 +8,7 @@ use Rattle.cc_env.specs.declared.builtin.Builtin.TheVariants.{Bash, Elvish, Fish
 use Rattle.cc_env.specs.declared.builtin.Builtin.TheVariants.{Powershell, Zsh}
 use Rattle.cc_candidates.specs.declared.candidate.CompletionCandidate.{CompletionCandidate}
 use Rattle.cc_replies.specs.Environment.{separator_of}
+use Rattle.cc_replies.specs.PowershellEntries.{EntriesRead}
 use Rattle.cc_replies.specs.Reply.{LinesRead, ValuesRead, ZshReplyRead}
 use Rattle.cc_replies.specs.Reply.{lines_reply, values_reply, zsh_reply}
 use Rattle.cc_replies.specs.declared.environment.EnvValues.{EnvValues}
@@ -21,7 +22,7 @@ use Rattle.cc_registrations.specs.ZshRegistration.{ZshReads, zsh_registration}
 abbrev pub all_builtins : List Builtin
 all_builtins = Bash ∷ Elvish ∷ Fish ∷ Powershell ∷ Zsh ∷ []
 
--- what is said of an adapter
+-- the specification of an adapter
 pub record CompleterSpec : Type 1 where
   -- its name
   pub name : List ℕ
@@ -29,13 +30,13 @@ pub record CompleterSpec : Type 1 where
   pub named : List ℕ → Bool
   -- the registration of a variable, a name, a binary and a completer
   pub registration : List ℕ → List ℕ → List ℕ → List ℕ → List ℕ
-  -- what it is read as
+  -- its reading
   pub Reads : List ℕ → List ℕ → List ℕ → List ℕ → Type 0
   -- the words of the command line, and the index of the one to complete
   pub Wants : EnvValues → List (List ℕ) → List (List ℕ) → ℕ → Type 0
   -- the reply of some candidates
   pub reply : EnvValues → List CompletionCandidate → List ℕ
-  -- what it is read as
+  -- its reading
   pub ReplyReads : EnvValues → List CompletionCandidate → Type 0
 
 abbrev pub bash_spec : CompleterSpec
@@ -79,7 +80,7 @@ powershell_spec = record {
   Reads = λ variable name bin completer. PowershellReads variable bin completer;
   Wants = λ env words wanted index. WantsAtLast words wanted index;
   reply = λ env found. lines_reply found;
-  ReplyReads = λ env found. LinesRead found;
+  ReplyReads = λ env found. EntriesRead found;
 }
 
 abbrev pub zsh_spec : CompleterSpec

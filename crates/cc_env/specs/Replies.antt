@@ -34,7 +34,7 @@ IsReply Wants Offers reply text = IsWanted Wants
     (λ words index.
     (found : List CompletionCandidate) × Offers words index found × (text ≡ reply found))
 
--- How the call fails: out of memory, with nothing taken and the tree as it was, or built; with
+-- The call fails: out of memory, with nothing taken and the tree as it was, or built; with
 -- nothing taken, because the index is out of range; or by a put that failed.
 abbrev pub FailsToReply : {S : Type 0} → S → S → Tree → Tree → (List (List ℕ) → ℕ → Type 0) → Error
     → Type 0

@@ -40,7 +40,7 @@ safe_registration Powershell variable name bins completer =
     safe_powershell variable name bins completer
 safe_registration Zsh variable name bins completer = safe_zsh variable name bins completer
 
--- what it is read as
+-- its reading
 abbrev pub SafeReads : Builtin → List ℕ → List ℕ → List (List ℕ) → List ℕ → Type 0
 SafeReads Bash variable name bins completer = SafeBashReads variable name bins completer
 SafeReads Elvish variable name bins completer = SafeElvishReads variable name bins completer
@@ -58,7 +58,7 @@ safe_reply Fish kept quote found = safe_lines_reply found
 safe_reply Powershell kept quote found = powershell_words_reply found
 safe_reply Zsh kept quote found = safe_zsh_reply found
 
--- what it is read as
+-- its reading
 abbrev pub SafeReplyReads : Builtin → List ℕ → OpenQuote → List CompletionCandidate → Type 0
 SafeReplyReads Bash kept quote found = BashWordsRead kept quote found
 SafeReplyReads Elvish kept quote found = SafeValuesRead found
@@ -79,12 +79,12 @@ abbrev pub reply_when : Bool → Builtin → EnvValues → List CompletionCandid
 reply_when true shell env found = safe_reply shell (kept_of env) (quote_of env) found
 reply_when false shell env found = (builtin_spec shell).reply env found
 
--- what the reply is read as, by the same choice
+-- the reading of the reply, by the same choice
 abbrev pub ReplyReadsWhen : Bool → Builtin → EnvValues → List CompletionCandidate → Type 0
 ReplyReadsWhen true shell env found = SafeReplyReads shell (kept_of env) (quote_of env) found
 ReplyReadsWhen false shell env found = (builtin_spec shell).ReplyReads env found
 
--- what is said of a safe adapter
+-- the specification of a safe adapter
 abbrev pub safe_spec : SafeShell → CompleterSpec
 safe_spec safe = record {
   name = (builtin_spec safe.shell).name;

@@ -47,7 +47,7 @@ pub record IsRegistration (shell : CompleterSpec) (names : Names) (text : List �
 
 -- ---- the reply
 
--- How the reply ends, over a built tree. Either the index is in range, the text is the reply of
+-- The ends of a reply, over a built tree. Either the index is in range, the text is the reply of
 -- candidates that may be offered there, and what replies are read as holds; or the index is out of
 -- range; or memory ran out.
 abbrev pub RepliesAs : CompleterSpec → EnvValues → List (List ℕ)
@@ -72,7 +72,7 @@ BuiltUnlessMemory (Err _) Built = ⊥
 
 -- ---- the text
 
--- How making the text ends for a known shell. `Makes` is true of what the factory may return,
+-- The ends of making the text for a known shell. `Makes` is true of what the factory may return,
 -- `names` are those in the registration of a program and a tree, and `Offers` is true of the
 -- candidates that may be offered over a tree.
 pub data MakesText (Makes : Result Tree Error → Type 0) (shell : CompleterSpec)
@@ -111,7 +111,7 @@ made_bytes (Err error) = Err error
 
 -- ---- the whole call
 
--- How the whole call ends for a known shell. The text is made first. If that fails, nothing is
+-- The ends of the whole call for a known shell. The text is made first. If that fails, nothing is
 -- written, and no write failed.
 pub data Ends {S : Type 0} (taken : S → List ℕ) (failed : S → Failures)
     (Makes : Result (List ℕ) Error → Type 0) (old new : S) : Result Bool Error → Type 0 where

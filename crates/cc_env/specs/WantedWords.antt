@@ -1,5 +1,5 @@
--- What adapters complete, by an environment and some words: the words of a command line, and the
--- index of one of them.
+-- The words of a command line, and the index of the one to complete, by an environment and the
+-- words that an adapter gets.
 use Rattle.std.specs.Prelude.{◌≡◌, ◌==◌, ◌-◌, ◌++◌, ℕ, List, [], ◌∷◌, length, if◌then◌else◌}
 use Rattle.cc_replies.specs.Environment.{IsIndex, index_name, value_of}
 use Rattle.cc_replies.specs.declared.environment.EnvValues.{EnvValues}

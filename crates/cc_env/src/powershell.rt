@@ -13,7 +13,8 @@ use std::alloc::Global;
 
 /// The adapter for PowerShell.
 ///
-/// Completes the last word, and replies with a line for each value, its help after a tab.
+/// Completes the last word, and replies with a line for each value, its help after a tab. PowerShell
+/// shows the value instead of a help text with a tab.
 #[derive(Clone, Copy, PartialEq, Eq, Debug)]
 pub struct Powershell;
 
@@ -40,7 +41,7 @@ impl EnvCompleter for Powershell {
         write_powershell(alloc, sink, variable, bin, completer)
     }
 
-    #[tactic(auto, using(cc_replies::proofs::ReplyReadings::lines_back))]
+    #[tactic(auto, using(cc_replies::proofs::EntryReadings::entries_back))]
     fn write_complete_from<L: Lookup, W: Sink>(
         &self,
         alloc: Global,

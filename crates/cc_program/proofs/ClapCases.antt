@@ -1,4 +1,4 @@
--- What `clap` promises of a parse, by its outcome.
+-- The promises of `clap` for a parse, by its outcome.
 use Rattle.std.proofs.Common.{◌≡◌, ℕ, List, true, false, Result, Ok, Err, IfOk}
 use Rattle.std.specs.Prelude.{IfErr}
 use Rattle.clap.specs.Faults.{fault_of, is_simple_and_free}

@@ -1,4 +1,4 @@
--- What `clap` makes of words by the command that it has for a tree.
+-- The parses of words by the command that `clap` has for a tree.
 use Rattle.std.specs.Prelude.{◌≡◌, ⊤, ℕ, List, [], false, true, Result, Ok, Err}
 use Rattle.clap.specs.Faults.{fault_of, is_simple_and_free}
 use Rattle.clap.specs.Kinds.{HasKind}
@@ -22,7 +22,7 @@ pub record IsCommandOf (tree : Tree) (command : Command) : Type 0 where
   pub taken : has_globals tree ≡ false → fits_parser tree ≡ true
       → TakesOffered tree (app_of command)
 
--- What a parse of words by a built tree may return.
+-- The possible results of a parse of words by a built tree.
 pub data ParsesWithClap (tree : Tree) (words : List (List ℕ))
     : Result ArgMatches Error → Type 0 where
   -- there is no memory for the command
@@ -43,7 +43,7 @@ pub data ParsesWithClap (tree : Tree) (words : List (List ℕ))
       → (is_simple_and_free (app_of command) ≡ true → HasKind (fault_of (app_of command) words) error)
       → ParsesWithClap tree words (Err error)
 
--- what is known of a parse of these words: `clap` has no clause on its texts
+-- the facts of a parse of these words: `clap` has no clause on its texts
 abbrev pub clap_facts : List (List ℕ) → ParserFacts
 clap_facts words =
     record { Parses = λ tree result. ParsesWithClap tree words result; Says = λ error text. ⊤ }

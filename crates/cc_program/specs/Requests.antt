@@ -18,7 +18,7 @@ system_facts home = record {
   home = home;
 }
 
--- How a call ends that completes words by an environment: memory ran out before anything was
+-- The ends of a call that completes words by an environment: memory ran out before anything was
 -- written; or it ended so for some values of environment variables, some current folder and some
 -- home folder, with the commands that the factory makes, the variable `COMPLETE`, neither a binary
 -- nor a completer set, and the safe shells.

@@ -5,7 +5,7 @@ use Rattle.cc_base.specs.declared.failures.Failures.{Failures}
 use Rattle.cc_base.specs.declared.sink.Sink.{Ghosts}
 use Rattle.cc_program.specs.declared.streams.Streams.{Streams}
 
--- what a stream has taken, and its failures
+-- the bytes that a stream has taken, and its failures
 pub record Seen : Type 0 where
   pub bytes : List ℕ
   pub failures : Failures

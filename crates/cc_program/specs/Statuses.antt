@@ -27,7 +27,8 @@ Carries Done (Ok code) = Done (Ok tt) × (exit_status code ≡ 0)
 Carries Done (Err (Own error)) = Done (Err error)
 Carries Done (Err _) = ⊥
 
--- what a parse of some words by a built tree may return, and the texts that its errors may have
+-- the possible results of a parse of some words by a built tree, and the texts that its errors may
+-- have
 pub record ParserFacts : Type 1 where
   pub Parses : Tree → Result ArgMatches ClapError → Type 0
   pub Says : ClapError → List ℕ → Type 0

@@ -25,8 +25,8 @@ use clap::ArgMatches;
 use std::alloc::Global;
 use std::process::ExitCode;
 
-/// What a program does with its words: how it completes and parses them, and its own work on the
-/// matches.
+/// The parts of a program that treat its words: the completion, the parser, and the program's own
+/// work on the matches.
 #[derive(Drop)]
 pub struct Program<'s, P, F, C> {
     /// Completes the command that its factory makes, which is also the command that is parsed.

@@ -27,8 +27,8 @@ pub trait WordParser {
     ///
     /// # Errors
     ///
-    /// What the words ask for, if it is a help text or the version, or what is wrong with them. The
-    /// kind is `OutOfMemory` if an allocation fails.
+    /// An error of the words, whose text is a help text or the version if they ask for it. Its kind
+    /// is `OutOfMemory` if an allocation fails.
     fn parse<'a>(
         &self,
         alloc: Global,

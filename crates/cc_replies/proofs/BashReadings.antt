@@ -12,10 +12,11 @@ use Rattle.cc_candidates.specs.declared.candidate.CompletionCandidate.{Completio
 use Rattle.cc_quote.specs.BashDouble.{is_double_marked}
 use Rattle.cc_quote.specs.Escapes.{marked}
 use Rattle.cc_replies.specs.BashWords.{BashWordsRead, OpenQuote, Bare, Single, Double, bare_read, bare_text, bare_word_read, bash_line_word, bash_text, bash_word_line, double_read, exclamation, holds, holds_rest, home_start, is_bare_byte, is_bare_escaped, is_bare_marked, is_bash_insertable, is_double_kept, single_read, start_text, word_read}
+use Rattle.cc_replies.specs.Reply.{lines_from}
 use Rattle.cc_replies.specs.SafeValues.{is_safe_text}
 use Rattle.cc_replies.proofs.FirstLines.{IsWithout}
 use Rattle.cc_replies.proofs.ReplyReadings.{marked_without, without}
-use Rattle.cc_replies.proofs.SafeReadings.{IsUncontrolled, ReadsLine, lines_back, safe_uncontrolled, uncontrolled_without}
+use Rattle.cc_replies.proofs.SafeReadings.{IsUncontrolled, ReadsLine, feed_first, lines_back, safe_uncontrolled, uncontrolled_without}
 
 -- ---- a text with backslashes
 
@@ -165,7 +166,7 @@ text_without (byte ∷ kept) Bare rest h = marked_without line_feed is_bare_mark
 abbrev reads_word : List ℕ → OpenQuote → List ℕ → Option (List ℕ)
 reads_word kept quote line = option_map (λ rest. kept ++ rest) (bash_line_word kept quote line)
 
-word_reads : (kept : List ℕ) (quote : OpenQuote) (value : List ℕ) → is_bash_insertable kept quote value ≡ true → ReadsLine (reads_word kept quote) (bash_word_line kept quote value) (Some value)
+word_reads : (kept : List ℕ) (quote : OpenQuote) (value : List ℕ) → is_bash_insertable kept quote value ≡ true → ReadsLine (IsWithout line_feed) (reads_word kept quote) (bash_word_line kept quote value) (Some value)
 unfolding bash_word_line
 word_reads kept quote value e =
     let parts = and_parts (is_safe_text value) (holds_rest quote (after kept value)) e in
@@ -186,7 +187,7 @@ word_reads kept quote value e =
     ]
 
 pub words_read_back : (kept : List ℕ) (quote : OpenQuote) (candidates : List CompletionCandidate) → BashWordsRead kept quote candidates
-unfolding BashWordsRead
+unfolding BashWordsRead lines_from
 words_read_back kept quote candidates =
-    lines_back (reads_word kept quote) (λ candidate. Some candidate.value) (λ candidate. is_bash_insertable kept quote candidate.value)
+    lines_back (IsWithout line_feed) (lines_from []) refl feed_first (reads_word kept quote) (λ candidate. Some candidate.value) (λ candidate. is_bash_insertable kept quote candidate.value)
     (λ candidate. bash_word_line kept quote candidate.value) (λ candidate e. word_reads kept quote candidate.value e) candidates

@@ -43,7 +43,7 @@ and_not : (a b : Bool) → (not a && not b) ≡ not (a || b)
 and_not true b = refl
 and_not false b = refl
 
--- what is unseen after one more value
+-- the entries that are unseen after one more value
 unseen_more : (before after : BTreeSet (List ℕ)) (value : List ℕ) (entries : List Entry) → IsAdded before after value →
     unseen before (filter (λ other. not (bytes_eq value other.value)) entries) ≡ unseen after entries
 unseen_more before after value entries added =

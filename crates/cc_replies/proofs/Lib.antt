@@ -1,6 +1,8 @@
 pub mod BashReadings
 pub mod Beginnings
 pub mod Cutting
+mod EntryExamples
+pub mod EntryReadings
 mod Examples
 pub mod FirstLines
 pub mod FirstOfValues

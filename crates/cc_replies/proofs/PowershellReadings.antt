@@ -1,9 +1,10 @@
 -- The text that PowerShell reads from the lines of its reply.
-use Rattle.std.proofs.Common.{◌≡◌, ◌==◌, ℕ, Bool, true, false, cond, not, List, [], ◌∷◌, ◌++◌, Some, None, option_map, codes, refl, sym, ◌∙◌, ap, append_assoc, append-nil}
+use Rattle.std.proofs.Common.{◌≡◌, ◌==◌, ℕ, Bool, true, false, cond, not, List, [], ◌∷◌, ◌++◌, Option, Some, None, option_map, codes, refl, sym, ◌∙◌, ap, append_assoc, append-nil, arith}
 use Rattle.std.proofs.lemmas.Bool.{and_parts, ne_eqb}
 use Rattle.std.specs.List.{list_all}
+use Rattle.std.specs.Prelude.{length}
 use Rattle.cc_base.specs.Bytes.{line_feed, single_quote, space, tab}
-use Rattle.cc_base.specs.Found.{after, cut_at, with_front}
+use Rattle.cc_base.specs.Found.{after, cut_at, ended, with_front}
 use Rattle.cc_base.proofs.Cases.{choose}
 use Rattle.cc_base.proofs.Finding.{past_lacking}
 use Rattle.cc_base.proofs.Members.{AllByRecursion-append}
@@ -11,12 +12,14 @@ use Rattle.cc_candidates.specs.declared.candidate.CompletionCandidate.{Completio
 use Rattle.cc_quote.specs.PowershellQuote.{begins_right_quote, powershell_escaped, powershell_escaped_byte, powershell_word_of}
 use Rattle.cc_quote.specs.QuotedWord.{line_feeds_as_spaces}
 use Rattle.cc_quote.proofs.PowershellWords.{powershell_reads_back}
-use Rattle.cc_replies.specs.PowershellWords.{PowershellWordsRead, begins_other_quote, inserted, inserted_from, is_powershell_bare, is_powershell_byte, is_powershell_insertable, is_split_parameter, powershell_line, powershell_line_read, powershell_typed, powershell_word, quoted_whole}
-use Rattle.cc_replies.specs.Reply.{Shown, line_shown}
-use Rattle.cc_replies.specs.SafeValues.{is_found, is_safe_text, safe_shown}
+use Rattle.cc_replies.specs.PowershellEntries.{entry_of, entry_shown, has_byte, output_lines, tooltip_of}
+use Rattle.cc_replies.specs.PowershellWords.{PowershellWordsRead, begins_other_quote, is_powershell_bare, is_powershell_byte, is_powershell_insertable, is_split_parameter, powershell_line, powershell_line_read, powershell_typed, powershell_word, quoted_whole, typed_as, typed_entry, word_entry}
+use Rattle.cc_replies.specs.Reply.{Shown, carriage_return, line_shown, shown_line}
+use Rattle.cc_replies.specs.SafeValues.{begins_control, is_found, is_safe_text, safe_help, safe_shown}
+use Rattle.cc_replies.proofs.EntryReadings.{IsOutputLine, entry_made, output_first}
 use Rattle.cc_replies.proofs.FirstLines.{IsWithout}
-use Rattle.cc_replies.proofs.ReplyReadings.{false_not, lacks}
-use Rattle.cc_replies.proofs.SafeReadings.{ReadsLine, lines_back, listed_line, safe_without}
+use Rattle.cc_replies.proofs.ReplyReadings.{body_read, false_not, lacks, line_body}
+use Rattle.cc_replies.proofs.SafeReadings.{ReadsLine, lines_back, safe_line_without, safe_without}
 
 -- ---- the word contains neither a tab nor a line feed
 
@@ -75,40 +78,63 @@ word_typed value h e = by_test (is_powershell_bare value) refl
 
 -- ---- a line
 
--- a word, a tab, and the entry to list
-typed_line : (word value listed : List ℕ) (item : Shown) → IsWithout tab word → powershell_typed word ≡ Some value → line_shown listed ≡ item
-    → powershell_line_read (word ++ tab ∷ listed) ≡ Some (record { typed = value; listed = item })
-unfolding powershell_line_read inserted_from after cut_at with_front
-typed_line word value listed item h e f =
-    ap inserted_from (past_lacking tab [] word (tab ∷ listed) (lacks tab word h))
-    ∙ ap (λ word. option_map (λ typed. record { typed = typed; listed = line_shown listed }) (powershell_typed word)) (append-nil word)
-    ∙ ap (option_map (λ typed. record { typed = typed; listed = line_shown listed })) e
-    ∙ ap (λ item. Some (record { typed = value; listed = item })) f
+some_byte : (byte : ℕ) (text : List ℕ) → has_byte (byte ∷ text) ≡ true
+some_byte byte text = ap not (ne_eqb (length (byte ∷ text)) 0 (λ none. omega arith))
 
-line_reads : (candidate : CompletionCandidate) → is_powershell_insertable candidate.value ≡ true → ReadsLine powershell_line_read (powershell_line (safe_shown candidate)) (Some (inserted candidate))
-unfolding powershell_line
+word_byte : (word value : List ℕ) → powershell_typed word ≡ Some value → has_byte word ≡ true
+unfolding powershell_typed
+word_byte [] value e = cc
+word_byte (byte ∷ word) value e = some_byte byte word
+
+tooltip_byte : (value : List ℕ) (help : Option (List ℕ)) → has_byte value ≡ true → has_byte (tooltip_of value help) ≡ true
+unfolding tooltip_of
+tooltip_byte value None h = h
+tooltip_byte value (Some []) h = h
+tooltip_byte value (Some (byte ∷ help)) h = some_byte byte help
+
+-- a word, a tab, and the entry to list
+typed_line : (word value listed : List ℕ) (item : Shown) → IsWithout tab word → powershell_typed word ≡ Some value → line_shown listed ≡ item → has_byte item.value ≡ true
+    → powershell_line_read (word ++ tab ∷ listed) ≡ Some (record { inserted = value; listed = item.value; tooltip = tooltip_of item.value item.help })
+unfolding powershell_line_read word_entry typed_entry after cut_at with_front
+typed_line word value listed item h e f k =
+    ap word_entry (past_lacking tab [] word (tab ∷ listed) (lacks tab word h))
+    ∙ ap (λ word. word_entry (Some (word, listed))) (append-nil word)
+    ∙ ap (λ item. typed_entry (powershell_typed word) (entry_of word item.value (tooltip_of item.value item.help))) f
+    ∙ ap (λ typed. typed_entry typed (entry_of word item.value (tooltip_of item.value item.help))) e
+    ∙ ap (option_map (typed_as value))
+    (entry_made word item.value (tooltip_of item.value item.help) (word_byte word value e) k (tooltip_byte item.value item.help k))
+
+line_reads : (candidate : CompletionCandidate) → is_powershell_insertable candidate.value ≡ true
+    → ReadsLine IsOutputLine powershell_line_read (powershell_line (safe_shown candidate)) (Some (entry_shown (safe_shown candidate)))
+unfolding powershell_line shown_line
 line_reads candidate e =
     let value : List ℕ = candidate.value in
     let parts = and_parts (is_safe_text value) (not (is_found begins_other_quote value)) e in
+    let has : has_byte value ≡ true = (and_parts (not (length value == 0)) (not (is_found begins_control value)) parts.0).0 in
     let word : List ℕ = powershell_word value in
-    let listed = listed_line candidate parts.0 in
+    let listed : List ℕ = line_body (safe_shown candidate) in
     let no_feed : IsWithout line_feed value = safe_without line_feed refl value parts.0 in
+    let no_return : IsWithout carriage_return value = safe_without carriage_return refl value parts.0 in
     record {
-      body = word ++ tab ∷ listed.body;
+      body = word ++ tab ∷ listed;
       whole =
-          ap (λ line. word ++ codes "\t" ++ line) listed.whole
-          ∙ sym (append_assoc (word ++ codes "\t") listed.body (codes "\n"))
-          ∙ ap (λ text. text ++ codes "\n") (append_assoc word (codes "\t") listed.body);
-      one_line =
-          AllByRecursion-append (λ b. (b == line_feed) ≡ false) word (tab ∷ listed.body)
-          (word_without line_feed refl refl value no_feed) (refl, listed.one_line);
+          sym (append_assoc (word ++ codes "\t") listed (codes "\n"))
+          ∙ ap (λ text. text ++ codes "\n") (append_assoc word (codes "\t") listed);
+      one_line = (
+        AllByRecursion-append (λ b. (b == line_feed) ≡ false) word (tab ∷ listed)
+            (word_without line_feed refl refl value no_feed) (refl, safe_line_without line_feed refl refl candidate parts.0),
+        AllByRecursion-append (λ b. (b == carriage_return) ≡ false) word (tab ∷ listed)
+            (word_without carriage_return refl refl value no_return) (refl, safe_line_without carriage_return refl refl candidate parts.0),
+      );
       reads =
-          typed_line word value listed.body (safe_shown candidate) (word_without tab refl refl value (safe_without tab refl value parts.0))
-          (word_typed value no_feed (false_not (is_found begins_other_quote value) parts.1)) listed.reads;
+          typed_line word value listed (safe_shown candidate) (word_without tab refl refl value (safe_without tab refl value parts.0))
+          (word_typed value no_feed (false_not (is_found begins_other_quote value) parts.1))
+          (body_read value (safe_help candidate.help) (safe_without tab refl value parts.0)) has;
     }
 
 pub words_read_back : (candidates : List CompletionCandidate) → PowershellWordsRead candidates
-unfolding PowershellWordsRead
+unfolding PowershellWordsRead output_lines ended
 words_read_back candidates =
-    lines_back powershell_line_read (λ candidate. Some (inserted candidate)) (λ candidate. is_powershell_insertable candidate.value)
+    lines_back IsOutputLine (output_lines false []) refl output_first powershell_line_read (λ candidate. Some (entry_shown (safe_shown candidate)))
+    (λ candidate. is_powershell_insertable candidate.value)
     (λ candidate. powershell_line (safe_shown candidate)) line_reads candidates

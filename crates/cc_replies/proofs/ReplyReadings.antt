@@ -65,7 +65,7 @@ each_text test P f p (candidate ∷ candidates) e =
 -- ---- pieces
 
 -- a piece continues
-piece_on : (separator : ℕ) (piece text rest : List ℕ) → IsWithout separator text → pieces_from separator piece (text ++ rest) ≡ pieces_from separator (piece ++ text) rest
+pub piece_on : (separator : ℕ) (piece text rest : List ℕ) → IsWithout separator text → pieces_from separator piece (text ++ rest) ≡ pieces_from separator (piece ++ text) rest
 piece_on separator piece [] rest h = ap (λ p. pieces_from separator p rest) (sym (append-nil piece))
 piece_on separator piece (byte ∷ text) rest h =
     ap (λ b. choose b (piece ∷ pieces_from separator [] (text ++ rest)) (pieces_from separator (piece ++ byte ∷ []) (text ++ rest))) h.0
@@ -73,7 +73,7 @@ piece_on separator piece (byte ∷ text) rest h =
     ∙ ap (λ p. pieces_from separator p rest) (append_assoc piece (byte ∷ []) text)
 
 -- a piece ends
-piece_ends : (separator : ℕ) (piece rest : List ℕ) → pieces_from separator piece (separator ∷ rest) ≡ piece ∷ pieces_from separator [] rest
+pub piece_ends : (separator : ℕ) (piece rest : List ℕ) → pieces_from separator piece (separator ∷ rest) ≡ piece ∷ pieces_from separator [] rest
 piece_ends separator piece rest = ap (λ b. choose b (piece ∷ pieces_from separator [] rest) (pieces_from separator (piece ++ separator ∷ []) rest)) ((Decides-eqb separator separator).1 refl)
 
 -- texts that are joined

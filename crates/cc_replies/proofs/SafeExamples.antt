@@ -6,10 +6,11 @@ use Rattle.cc_candidates.specs.declared.candidate.CompletionCandidate.{Completio
 use Rattle.cc_quote.specs.PowershellQuote.{powershell_signs, sign_before}
 use Rattle.cc_quote.specs.Signs.{sign}
 use Rattle.cc_replies.specs.BashWords.{Bare, Single, Double, bare_read, bare_text, bare_word_read, bash_line_word, bash_text, bash_word_line, bash_words_reply, double_read, is_bash_insertable, open_quote, single_read, start_text, word_read}
-use Rattle.cc_replies.specs.PowershellWords.{inserted, inserted_from, is_powershell_insertable, powershell_line, powershell_line_read, powershell_typed, powershell_word, powershell_words_reply, quoted_whole}
+use Rattle.cc_replies.specs.PowershellEntries.{entry_of, entry_shown, tooltip_of}
+use Rattle.cc_replies.specs.PowershellWords.{is_powershell_insertable, powershell_line, powershell_line_read, powershell_typed, powershell_word, powershell_words_reply, quoted_whole, typed_entry, word_entry}
 use Rattle.cc_replies.specs.Reply.{colon_help, first_line, line_shown, shown_line, tab_help, without_return, zsh_item}
 use Rattle.cc_replies.specs.SafeReplies.{is_fish_insertable, safe_lines_reply, safe_values_reply, safe_zsh_reply}
-use Rattle.cc_replies.specs.SafeValues.{is_safe_text, safe_help}
+use Rattle.cc_replies.specs.SafeValues.{is_safe_text, safe_help, safe_shown}
 
 -- a candidate with a help text
 abbrev helped : List ℕ → List ℕ → CompletionCandidate
@@ -144,8 +145,13 @@ unfolding safe_help after cut_at with_front first_line without_return powershell
 powershell_row = refl
 
 powershell_reads :
-    (powershell_line_read (codes "--all\t--all\tAll") ≡ Some (inserted (helped (codes "--all") (codes "All"))))
-    × (powershell_line_read (codes "'it''s'\tit's") ≡ Some (inserted (new_candidate (codes "it's"))))
+    (powershell_line_read (codes "--all\t--all\tAll") ≡ Some (entry_shown (safe_shown (helped (codes "--all") (codes "All")))))
+    × (powershell_line_read (codes "'it''s'\tit's") ≡ Some (entry_shown (safe_shown (new_candidate (codes "it's")))))
+    -- a third piece that is empty: the value is the tooltip; a missing or an empty value is refused
+    × (powershell_line_read (codes "a\tb\t") ≡ Some (record { inserted = codes "a"; listed = codes "b"; tooltip = codes "b" }))
+    × (powershell_line_read (codes "a\tb\tc\td") ≡ Some (record { inserted = codes "a"; listed = codes "b"; tooltip = codes "c\td" }))
+    × (powershell_line_read (codes "a") ≡ None)
+    × (powershell_line_read (codes "a\t\tc") ≡ None)
     × (powershell_typed (codes "$(touch hit)") ≡ None)
     × (powershell_typed (codes "a b") ≡ None)
     × (powershell_typed (codes "-a.b") ≡ None)
@@ -153,5 +159,5 @@ powershell_reads :
     × (powershell_typed (codes "'a'b") ≡ None)
     × (powershell_typed (39 ∷ 226 ∷ 128 ∷ 152 ∷ 39 ∷ []) ≡ None)
     × (powershell_typed [] ≡ None)
-unfolding safe_help after cut_at with_front first_line without_return powershell_line_read inserted_from powershell_typed quoted_whole powershell_signs sign_before sign line_shown
-powershell_reads = (refl, refl, refl, refl, refl, refl, refl, refl, refl)
+unfolding safe_help after cut_at with_front first_line without_return powershell_line_read word_entry typed_entry entry_of tooltip_of powershell_typed quoted_whole powershell_signs sign_before sign line_shown
+powershell_reads = (refl, refl, refl, refl, refl, refl, refl, refl, refl, refl, refl, refl, refl)

@@ -13,37 +13,44 @@ use Rattle.cc_quote.specs.ZshReply.{is_reply_value_marked, zsh_replied_value}
 use Rattle.cc_replies.specs.Reply.{Shown, colon_help, first_line, line_shown, lines_from, lines_read, shown_from, shown_line, tab_help, zsh_item}
 use Rattle.cc_replies.specs.SafeReplies.{SafeLinesRead, SafeValuesRead, SafeZshRead, is_fish_insertable, is_tilde_plain, safe_line, safe_zsh_line, value_line}
 use Rattle.cc_replies.specs.SafeValues.{begins_control, ends_control, is_found, is_safe_text, safe_help, safe_shown}
-use Rattle.cc_replies.proofs.FirstLines.{IsWithout, first_line_without}
+use Rattle.cc_replies.proofs.EntryReadings.{tab_help_without}
+use Rattle.cc_replies.proofs.FirstLines.{IsWithout}
 use Rattle.cc_replies.proofs.ReplyReadings.{IsHelpWithout, body_read, colon_help_without, false_not, item_read, line_body, line_on, marked_without}
 
 -- ---- a reply of lines
 
--- a line without its line feed, and what it is read as
-pub record ReadsLine {A : Type 0} (read : List ℕ → A) (line : List ℕ) (says : A) : Type 0 where
+-- a line without its line feed, and the value that it is read as
+pub record ReadsLine {A : Type 0} (IsLine : List ℕ → Type 0) (read : List ℕ → A) (line : List ℕ) (says : A) : Type 0 where
   pub body : List ℕ
   pub whole : line ≡ body ++ codes "\n"
-  pub one_line : IsWithout line_feed body
+  pub one_line : IsLine body
   pub reads : read body ≡ says
 
-module _ {A C : Type 0} (read : List ℕ → A) (says : C → A) (test : C → Bool) (line : C → List ℕ) (each : (item : C) → test item ≡ true → ReadsLine read (line item) (says item)) where
+-- a reader of lines, `split`, ends one at a line feed
+module _ {A C : Type 0} (IsLine : List ℕ → Type 0) (split : List ℕ → List (List ℕ)) (none : split [] ≡ [])
+    (first : (body rest : List ℕ) → IsLine body → split (body ++ line_feed ∷ rest) ≡ body ∷ split rest)
+    (read : List ℕ → A) (says : C → A) (test : C → Bool) (line : C → List ℕ) (each : (item : C) → test item ≡ true → ReadsLine IsLine read (line item) (says item)) where
   -- so there is a line for each item that passes
-  pub lines_back : (items : List C) → map read (lines_from [] (flat_map line (filter test items))) ≡ map says (filter test items)
-  unfolding lines_from
-  lines_back [] = refl
+  pub lines_back : (items : List C) → map read (split (flat_map line (filter test items))) ≡ map says (filter test items)
+  lines_back [] = ap (map read) none
   lines_back (item ∷ items) = by_test (test item) refl (lines_back items)
     where
       rest : List C
       rest = filter test items
 
-      by_test : (b : Bool) → test item ≡ b → map read (lines_from [] (flat_map line rest)) ≡ map says rest
-          → map read (lines_from [] (flat_map line (cond b (item ∷ rest) rest))) ≡ map says (cond b (item ∷ rest) rest)
+      by_test : (b : Bool) → test item ≡ b → map read (split (flat_map line rest)) ≡ map says rest
+          → map read (split (flat_map line (cond b (item ∷ rest) rest))) ≡ map says (cond b (item ∷ rest) rest)
       by_test false e below = below
       by_test true e below =
           let one = each item e in
-          ap (λ text. map read (lines_from [] (text ++ flat_map line rest))) one.whole
-          ∙ ap (λ text. map read (lines_from [] text)) (append_assoc one.body (codes "\n") (flat_map line rest))
-          ∙ ap (map read) (line_on [] one.body (line_feed ∷ flat_map line rest) one.one_line)
+          ap (λ text. map read (split (text ++ flat_map line rest))) one.whole
+          ∙ ap (λ text. map read (split text)) (append_assoc one.body (codes "\n") (flat_map line rest))
+          ∙ ap (map read) (first one.body (flat_map line rest) one.one_line)
           ∙ ap₂ (λ first others. first ∷ others) one.reads below
+
+pub feed_first : (body rest : List ℕ) → IsWithout line_feed body → lines_from [] (body ++ line_feed ∷ rest) ≡ body ∷ lines_from [] rest
+unfolding lines_from
+feed_first body rest h = line_on [] body (line_feed ∷ rest) h
 
 -- ---- texts without control characters
 
@@ -68,49 +75,48 @@ uncontrolled_without special is text h =
 pub safe_without : (special : ℕ) → is_ascii_control special ≡ true → (text : List ℕ) → is_safe_text text ≡ true → IsWithout special text
 safe_without special is text e = uncontrolled_without special is text (safe_uncontrolled text e)
 
--- the help text that is shown is one line
-pub safe_help_without : (help : Option (List ℕ)) → IsHelpWithout line_feed (safe_help help)
+-- the help text that is shown has no control character
+pub safe_help_without : (special : ℕ) → is_ascii_control special ≡ true → (help : Option (List ℕ)) → IsHelpWithout special (safe_help help)
 unfolding safe_help
-safe_help_without None = tt
-safe_help_without (Some help) = by_test (is_safe_text (first_line help))
+safe_help_without special is None = tt
+safe_help_without special is (Some help) = by_test (is_safe_text (first_line help)) refl
   where
-    by_test : (b : Bool) → IsHelpWithout line_feed (cond b (Some (first_line help)) None)
-    by_test true = first_line_without help
-    by_test false = tt
+    by_test : (b : Bool) → is_safe_text (first_line help) ≡ b → IsHelpWithout special (cond b (Some (first_line help)) None)
+    by_test true e = safe_without special is (first_line help) e
+    by_test false e = tt
 
 -- ---- Elvish
 
 pub values_read_back : (candidates : List CompletionCandidate) → SafeValuesRead candidates
-unfolding SafeValuesRead
+unfolding SafeValuesRead lines_from
 values_read_back candidates =
     sym (map-id (lines_from [] (flat_map value_line (filter (λ candidate. is_safe_text candidate.value) candidates))))
-    ∙ lines_back (λ line. line) (λ candidate. candidate.value) (λ candidate. is_safe_text candidate.value) value_line
+    ∙ lines_back (IsWithout line_feed) (lines_from []) refl feed_first (λ line. line) (λ candidate. candidate.value) (λ candidate. is_safe_text candidate.value) value_line
     (λ candidate e. record { body = candidate.value; whole = refl; one_line = safe_without line_feed refl candidate.value e; reads = refl })
     candidates
 
 -- ---- fish
 
-tab_help_without : (help : Option (List ℕ)) → IsHelpWithout line_feed help → IsWithout line_feed (tab_help help)
-unfolding tab_help
-tab_help_without None h = tt
-tab_help_without (Some help) h = (refl, h)
+-- the line of a candidate with a safe value has no control character but a tab
+pub safe_line_without : (special : ℕ) → is_ascii_control special ≡ true → (tab == special) ≡ false → (candidate : CompletionCandidate) → is_safe_text candidate.value ≡ true
+    → IsWithout special (line_body (safe_shown candidate))
+safe_line_without special is e candidate safe =
+    AllByRecursion-append (λ byte. (byte == special) ≡ false) candidate.value (tab_help (safe_help candidate.help))
+    (safe_without special is candidate.value safe) (tab_help_without special e (safe_help candidate.help) (safe_help_without special is candidate.help))
 
--- the entry to list for a candidate with a safe value
-pub listed_line : (candidate : CompletionCandidate) → is_safe_text candidate.value ≡ true → ReadsLine line_shown (safe_line candidate) (safe_shown candidate)
+listed_line : (candidate : CompletionCandidate) → is_safe_text candidate.value ≡ true → ReadsLine (IsWithout line_feed) line_shown (safe_line candidate) (safe_shown candidate)
 unfolding shown_line
 listed_line candidate e = record {
   body = line_body (safe_shown candidate);
   whole = refl;
-  one_line =
-      AllByRecursion-append (λ byte. (byte == line_feed) ≡ false) candidate.value (tab_help (safe_help candidate.help))
-      (safe_without line_feed refl candidate.value e) (tab_help_without (safe_help candidate.help) (safe_help_without candidate.help));
+  one_line = safe_line_without line_feed refl refl candidate e;
   reads = body_read candidate.value (safe_help candidate.help) (safe_without tab refl candidate.value e);
 }
 
 pub lines_read_back : (candidates : List CompletionCandidate) → SafeLinesRead candidates
-unfolding SafeLinesRead lines_read
+unfolding SafeLinesRead lines_read lines_from
 lines_read_back candidates =
-    lines_back line_shown safe_shown (λ candidate. is_fish_insertable candidate.value) safe_line
+    lines_back (IsWithout line_feed) (lines_from []) refl feed_first line_shown safe_shown (λ candidate. is_fish_insertable candidate.value) safe_line
     (λ candidate e. listed_line candidate (and_parts (is_safe_text candidate.value) (is_tilde_plain candidate.value) e).0)
     candidates
 
@@ -123,13 +129,13 @@ zsh_item_without item h k =
     (marked_without line_feed is_reply_value_marked item.value refl h) (colon_help_without line_feed item.help refl refl k)
 
 pub zsh_read_back : (candidates : List CompletionCandidate) → SafeZshRead candidates
-unfolding SafeZshRead
+unfolding SafeZshRead lines_from
 zsh_read_back candidates =
-    lines_back (λ line. shown_from [] (marks line)) (λ candidate. Some (safe_shown candidate)) (λ candidate. is_safe_text candidate.value) safe_zsh_line
+    lines_back (IsWithout line_feed) (lines_from []) refl feed_first (λ line. shown_from [] (marks line)) (λ candidate. Some (safe_shown candidate)) (λ candidate. is_safe_text candidate.value) safe_zsh_line
     (λ candidate e. record {
       body = zsh_item (safe_shown candidate);
       whole = refl;
-      one_line = zsh_item_without (safe_shown candidate) (safe_without line_feed refl candidate.value e) (safe_help_without candidate.help);
+      one_line = zsh_item_without (safe_shown candidate) (safe_without line_feed refl candidate.value e) (safe_help_without line_feed refl candidate.help);
       reads = item_read (safe_shown candidate);
     })
     candidates

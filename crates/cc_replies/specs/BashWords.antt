@@ -26,7 +26,7 @@ open_quote text =
 abbrev pub home_start : List ℕ
 home_start = codes "~/"
 
--- ---- how bash reads the text after the part that it keeps
+-- ---- bash's reader of the text after the part that it keeps
 
 -- In a bare word, bash reads the byte as itself: an ASCII letter or digit, one of these, or a byte
 -- of a character that is not ASCII.

@@ -1,6 +1,7 @@
 pub mod BashWords
 pub mod Environment
 pub mod GivenLines
+pub mod PowershellEntries
 pub mod PowershellWords
 pub mod Reply
 pub mod SafeReplies

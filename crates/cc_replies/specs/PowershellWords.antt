@@ -7,10 +7,11 @@ use Rattle.cc_base.specs.Bytes.{colon, dash, right_quote_first, right_quote_seco
 use Rattle.cc_base.specs.Found.{cut_at}
 use Rattle.cc_candidates.specs.declared.candidate.CompletionCandidate.{CompletionCandidate}
 use Rattle.cc_quote.specs.PowershellQuote.{powershell_escaped, powershell_word_of}
-use Rattle.cc_replies.specs.Reply.{Shown, line_shown, lines_from, shown_line}
+use Rattle.cc_replies.specs.PowershellEntries.{Entry, entry_of, entry_shown, output_lines, tooltip_of}
+use Rattle.cc_replies.specs.Reply.{Shown, line_shown, shown_line}
 use Rattle.cc_replies.specs.SafeValues.{is_found, is_safe_text, safe_shown}
 
--- ---- how PowerShell reads a word
+-- ---- PowerShell's reader of words
 
 -- in a bare word, PowerShell reads the byte as itself: an ASCII letter or digit, or one of these
 abbrev pub is_powershell_byte : ℕ → Bool
@@ -61,19 +62,30 @@ powershell_typed (byte ∷ word) = elim (byte == single_quote) [
   ]
 ]
 
--- the content of a line of the reply: the text of the word before the first tab, and the entry to
--- list
-pub record Inserted : Type 0 where
-  pub typed : List ℕ
-  pub listed : Shown
+-- ---- the safe registration's reader of lines
 
-unfoldable pub inserted_from : Option (List ℕ × List ℕ) → Option Inserted
-inserted_from None = None
-inserted_from (Some (word, rest)) =
-    option_map (λ typed. record { typed = typed; listed = line_shown rest }) (powershell_typed word)
+-- an entry whose word is read as this text
+abbrev pub typed_as : List ℕ → Entry → Entry
+typed_as typed entry = record entry { inserted = typed }
 
-unfoldable pub powershell_line_read : List ℕ → Option Inserted
-powershell_line_read line = inserted_from (cut_at (tab ∷ []) line)
+-- the same, if there is a text and an entry
+unfoldable pub typed_entry : Option (List ℕ) → Option Entry → Option Entry
+typed_entry None entry = None
+typed_entry (Some typed) entry = option_map (typed_as typed) entry
+
+-- a word to insert, and the rest of its line: the value to list, and the tooltip
+unfoldable pub word_entry : Option (List ℕ × List ℕ) → Option Entry
+word_entry None = None
+word_entry (Some (word, rest)) =
+    typed_entry (powershell_typed word)
+    (entry_of word (line_shown rest).value
+    (tooltip_of (line_shown rest).value (line_shown rest).help))
+
+-- The entry of a line, which the registration splits into at most three pieces at its tabs. If the
+-- third is missing or empty, the second is the tooltip. `None` is a line that is refused, and one
+-- whose word PowerShell would not read as a word.
+unfoldable pub powershell_line_read : List ℕ → Option Entry
+powershell_line_read line = word_entry (cut_at (tab ∷ []) line)
 
 -- ---- the text that is written
 
@@ -101,12 +113,9 @@ powershell_words_reply candidates =
 -- ---- the law
 
 -- PowerShell inserts the value of each such candidate, and lists the value with the help that is
--- shown
-abbrev pub inserted : CompletionCandidate → Inserted
-inserted candidate = record { typed = candidate.value; listed = safe_shown candidate }
-
+-- shown; no line is refused
 unfoldable pub PowershellWordsRead : List CompletionCandidate → Type 0
 PowershellWordsRead candidates =
-    map powershell_line_read (lines_from [] (powershell_words_reply candidates))
-    ≡ map (λ candidate. Some (inserted candidate))
+    map powershell_line_read (output_lines false [] (powershell_words_reply candidates))
+    ≡ map (λ candidate. Some (entry_shown (safe_shown candidate)))
     (filter (λ candidate. is_powershell_insertable candidate.value) candidates)

@@ -70,7 +70,7 @@ candidate_line candidate = shown_line (shown candidate)
 abbrev pub lines_reply : List CompletionCandidate → List ℕ
 lines_reply candidates = flat_map candidate_line candidates
 
--- ---- how they are read
+-- ---- the readers
 
 -- the values of a reply; an empty one has none
 unfoldable pub values_read : ℕ → List ℕ → List (List ℕ)

@@ -28,7 +28,9 @@ pub use crate::bash_words::{OpenQuote, write_bash_words};
 pub use crate::environment::EnvValues;
 pub use crate::lines::GivenLines;
 pub use crate::powershell_words::write_powershell_words;
-pub use crate::readable::{are_readable_lines, are_readable_values, are_readable_zsh_items};
+pub use crate::readable::{
+    are_readable_entries, are_readable_lines, are_readable_values, are_readable_zsh_items,
+};
 pub use crate::reply::{write_lines, write_values, write_zsh_items};
 pub use crate::safe_replies::{write_safe_lines, write_safe_values, write_safe_zsh_items};
 pub use crate::system::{home, variables, words};

@@ -3,6 +3,7 @@
 ghost use Rattle.std.specs.Prelude.{◌≡◌, IfErr, option_map};
 ghost use Rattle.std.specs.Option.{option_copied};
 ghost use Rattle.cc_base.specs.Writes.{IsWrite, Writes, as_write};
+ghost use Rattle.cc_replies.specs.PowershellEntries.{EntriesRead};
 ghost use Rattle.cc_replies.specs.Reply.{LinesRead, ValuesRead, ZshReplyRead, candidate_line};
 ghost use Rattle.cc_replies.specs.Reply.{colon_help, first_line, lines_reply, shown, tab_help};
 ghost use Rattle.cc_replies.specs.Reply.{values_reply, without_return, zsh_item, zsh_reply};
@@ -52,17 +53,18 @@ pub fn write_zsh_items<W: Sink>(
 }
 
 /// Writes a line for each candidate: its value, a tab, and the first line of its help text. fish
-/// and PowerShell get this reply.
+/// and PowerShell get this reply, and read it by rules of their own.
 ///
 /// # Errors
 ///
 /// `Write` if the sink fails.
-#[tactic(auto, using(crate::proofs::ReplyReadings::lines_back))]
+#[tactic(auto, using(crate::proofs::ReplyReadings::lines_back, crate::proofs::EntryReadings::entries_back))]
 pub fn write_lines<W: Sink>(sink: &mut W, candidates: &[CompletionCandidate]) -> Result<(), Error>
     ensures written { Writes W.taken W.failed result sink.old sink.new
         (lines_reply candidates.now) }
     ensures write_only { IfErr result IsWrite }
     ensures read_back { LinesRead candidates.now }
+    ensures entries { EntriesRead candidates.now }
 {
     Ok(put_lines(sink, candidates)?)
 }

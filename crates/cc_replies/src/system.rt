@@ -15,6 +15,8 @@ use std::path::PathBuf;
 ///
 /// - `OutOfMemory` if an allocation fails.
 /// - `InvalidData` if a word is not UTF-8.
+//
+// There is no clause: the standard library states nothing of the words that it returns.
 pub fn words<R: Env + AllocGlobal>(rt: &R) -> io::Result<Vec<String>> {
     Ok(env::args(rt)?.collect(rt.alloc())?)
 }
@@ -57,6 +59,8 @@ fn variable<R: Env + AllocGlobal>(
 /// # Errors
 ///
 /// `AllocError` if an allocation fails.
+//
+// There is no clause: the standard library states nothing of the directory that it returns.
 pub fn home<R: Env + AllocGlobal>(rt: &R) -> Result<Option<String>, AllocError> {
     match env::home_dir(rt) {
         Ok(home) => Ok(home.map(PathBuf::into_string)),

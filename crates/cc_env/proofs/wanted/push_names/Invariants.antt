@@ -3,7 +3,7 @@ use Rattle.cc_base.specs.Joined.{joined_after}
 use Rattle.cc_env.specs.Wanted.{quoted_name}
 use Rattle.cc_env.proofs.wanted.push_names.Given as goal
 
--- what was appended, and the names of the shells that are left, make the whole
+-- the text that was appended, and the names of the shells that are left, make the whole
 abbrev pub invariant-loop-shell : goal.invariant-loop-shell
 invariant-loop-shell g l =
     string_bytes l.text
