@@ -7,7 +7,7 @@ use Rattle.complgen_live.specs.Folders.{tree_folders}
 use Rattle.complgen_live.specs.KnownNames.{each_once, is_other_name}
 use Rattle.complgen_live.specs.Origins.{is_trusted}
 use Rattle.complgen_live.specs.Requests.{is_request, request_words}
-use Rattle.complgen_live.specs.TreeFiles.{stems, tree_paths, tree_stem}
+use Rattle.complgen_live.specs.TreeFiles.{is_file_name, stems, tree_paths, tree_stem}
 use Rattle.complgen_live.specs.declared.requests.Origin.{Origin}
 use Rattle.complgen_live.specs.declared.requests.Origin.TheVariants.{File, Program}
 
@@ -103,6 +103,15 @@ outside_row = refl
 dots_row : tree_paths (codes "..") (codes "/f" ∷ []) ≡ []
 unfolding path_file_name rsplit_once split_last_component trim_trailing path_join
 dots_row = refl
+
+file_name_row :
+    (is_file_name (codes "python3.11") ≡ true)
+    × (is_file_name (codes "...") ≡ true)
+    × (is_file_name (codes "..") ≡ false)
+    × (is_file_name (codes ".") ≡ false)
+    × (is_file_name (codes "../x") ≡ false)
+    × (is_file_name (codes "a/") ≡ false)
+file_name_row = (refl, refl, refl, refl, refl, refl)
 
 -- the whole base name counts
 version_row : tree_paths (codes "/usr/bin/python3.11") (codes "/f" ∷ []) ≡ codes "/f/python3.11.json" ∷ []

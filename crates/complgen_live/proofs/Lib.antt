@@ -1,5 +1,6 @@
 mod AnswerLemmas
 mod Examples
+mod FileNames
 mod Names
 mod PlainKnown
 mod PreparedLemmas

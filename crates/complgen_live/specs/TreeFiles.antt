@@ -1,7 +1,7 @@
 -- The names and the paths of tree files.
-use Rattle.std.specs.Prelude.{ℕ, List, [], ◌∷◌, ◌++◌, ◌-◌, length, map, take, Option, None, Some, codes, if◌then◌else◌, nat_eq}
+use Rattle.std.specs.Prelude.{◌≡◌, ◌⊎◌, ◌&&◌, ℕ, Bool, IsTrue, not, List, [], ◌∷◌, ◌++◌, ◌-◌, bytes_eq, length, map, take, Option, None, Some, codes, if◌then◌else◌, nat_eq}
 use Rattle.std.specs.List.{ends_with, flat_map}
-use Rattle.std.specs.Path.{path_file_name, path_join}
+use Rattle.std.specs.Path.{cur_dir, has_no_slash, parent_dir, path_file_name, path_join, with_separator}
 
 -- the end of a tree file's name
 abbrev pub ending : List ℕ
@@ -10,6 +10,19 @@ ending = codes ".json"
 -- the path of the tree file of a program in a directory
 abbrev pub tree_path : List ℕ → List ℕ → List ℕ
 tree_path folder name = path_join folder name ++ ending
+
+-- the name of a file in a directory: it has no slash, and is neither `.` nor `..`
+abbrev pub is_file_name : List ℕ → Bool
+is_file_name name =
+    has_no_slash name && not (bytes_eq name cur_dir) && not (bytes_eq name parent_dir)
+
+-- Each path is that of one name of a file, directly in the directory at its place. If there is no
+-- such name, there are no paths.
+abbrev pub AreInFolders : List (List ℕ) → List (List ℕ) → Type 0
+AreInFolders folders paths =
+    (paths ≡ [])
+    ⊎ ((name : List ℕ) × IsTrue (is_file_name name)
+    × (paths ≡ map (λ folder. with_separator folder ++ name ++ ending) folders))
 
 -- the paths of the tree files of a program in some directories, if it has a name
 abbrev pub paths_of : Option (List ℕ) → List (List ℕ) → List (List ℕ)

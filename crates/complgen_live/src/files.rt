@@ -1,10 +1,11 @@
 //! The names and the paths of tree files.
 
-ghost use Rattle.std.specs.Prelude.{◌≡◌, IfOk, filter, map, string_bytes};
+ghost use Rattle.std.specs.Prelude.{◌≡◌, IfOk, IfSome, IsTrue, filter, map, string_bytes};
 ghost use Rattle.std.specs.Option.{option_copied};
 ghost use Rattle.std.specs.Path.{path_file_name};
 ghost use Rattle.cc_base.specs.PlainName.{is_plain_name};
-ghost use Rattle.complgen_live.specs.TreeFiles.{tree_path, tree_paths, tree_stem};
+ghost use Rattle.complgen_live.specs.TreeFiles.{AreInFolders, is_file_name, tree_path, tree_paths};
+ghost use Rattle.complgen_live.specs.TreeFiles.{tree_stem};
 
 use cc_base::is_plain_name;
 use cc_paths::join;
@@ -17,8 +18,10 @@ const ENDING: &str = ".json";
 /// Returns the name under which the tree file of a program is looked up. It is the last component
 /// of `word`, which calls the program, and contains no slash. Returns `None` if `word` has no such
 /// component, as in `..`.
+#[tactic(auto, using(crate::proofs::FileNames::file_name))]
 pub fn command_name(word: &str) -> Option<&str>
-    ensures { option_copied result ≡ path_file_name word.now }
+    ensures value { option_copied result ≡ path_file_name word.now }
+    ensures plain { IfSome (path_file_name word.now) (λ name. IsTrue (is_file_name name)) }
 {
     Path::new(word).file_name()
 }
@@ -37,14 +40,18 @@ pub fn tree_path(alloc: Global, folder: &str, name: &str) -> Result<String, Allo
 }
 
 /// Returns the paths of the tree files of the program that `word` calls: one in each directory of
-/// `folders`, in their order. The list is empty if `word` calls no program.
+/// `folders`, in their order. The list is empty if `word` calls no program. No path leads out of
+/// its directory.
 ///
 /// # Errors
 ///
 /// `AllocError` if an allocation fails.
+#[tactic(auto, using(crate::proofs::FileNames::inside))]
 pub fn tree_paths(alloc: Global, folders: &[String], word: &str) -> Result<Vec<String>, AllocError>
-    ensures { IfOk result (λ paths. map string_bytes paths.items
+    ensures paths { IfOk result (λ paths. map string_bytes paths.items
         ≡ tree_paths word.now (map string_bytes folders.now)) }
+    ensures inside { AreInFolders (map string_bytes folders.now)
+        (tree_paths word.now (map string_bytes folders.now)) }
 {
     match command_name(word) {
         Some(name) => paths_of(alloc, folders, name),
