@@ -1,3 +1,5 @@
+pub mod Accumulated
+pub mod Joined
 pub mod Conflicts
 pub mod PremisesFound
 pub mod Steps

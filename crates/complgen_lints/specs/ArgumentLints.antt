@@ -1,5 +1,5 @@
 -- Findings about an argument: what clap refuses, and settings with no effect or a surprising one.
-use Rattle.std.specs.Prelude.{ℕ, suc, Bool, true, false, not, ◌&&◌, ◌==◌, nat_lt, List, [], ◌∷◌, ◌++◌, codes, length, if◌then◌else◌, is_some, Option, Some, None}
+use Rattle.std.specs.Prelude.{ℕ, Bool, true, false, not, ◌&&◌, ◌==◌, nat_lt, List, [], ◌∷◌, ◌++◌, codes, find, if◌then◌else◌, length, option_map, reverse, is_some, Option, Some, None}
 use Rattle.std.specs.Str.{bytes_eq}
 use Rattle.cc_arg.specs.declared.action.ArgAction.{ArgAction}
 use Rattle.cc_arg.specs.declared.action.ArgAction.TheVariants.{Version}
@@ -11,7 +11,7 @@ use Rattle.cc_arg.specs.Arguments.{is_positional, range_of, takes_values}
 use Rattle.cc_command.specs.declared.node.Node.{Node}
 use Rattle.cc_command.specs.Tree.{Tree, has_nodes}
 use Rattle.complgen_lints.specs.Findings.{finding}
-use Rattle.complgen_lints.specs.Walk.{each_from, when}
+use Rattle.complgen_lints.specs.Walk.{each_after, each_from, when}
 use Rattle.complgen_lints.specs.declared.argument_lints.AddedFlag.{AddedFlag}
 use Rattle.complgen_lints.specs.declared.argument_lints.AddedFlag.TheVariants as added
 use Rattle.complgen_lints.specs.declared.found.Finding.{Finding}
@@ -136,11 +136,14 @@ argument_list tree index argument = (((((kinds_list (Argument index) argument)
 abbrev pub is_needed : Arg → Bool
 is_needed argument = is_positional argument && (argument.required && not argument.last)
 
--- the id of the last optional positional up to an argument, given the last one before it; a
--- positional with `last` counts as optional
-abbrev pub optional_after : Option (List ℕ) → Arg → Option (List ℕ)
-optional_after before argument =
-    if is_positional argument && not (is_needed argument) then Some argument.id else before
+-- an optional positional; one with `last` counts as optional
+abbrev pub is_optional : Arg → Bool
+is_optional argument = is_positional argument && not (is_needed argument)
+
+-- the id of the last optional positional among some arguments
+abbrev pub last_optional : List Arg → Option (List ℕ)
+last_optional arguments =
+    option_map (λ argument. argument.id) (find is_optional (reverse arguments))
 
 -- a required positional, if an optional one comes before it
 abbrev pub needed_list : ℕ → Option (List ℕ) → Bool → List Finding
@@ -148,14 +151,12 @@ needed_list index (Some id) true =
     finding (Argument index) key.Required None (RequiredAfterOptional id) ∷ []
 needed_list index _ _ = []
 
--- each required positional after an optional one, among the arguments from this index on
-abbrev pub order_list : Option (List ℕ) → ℕ → List Arg → List Finding
-order_list before index [] = []
-order_list before index (argument ∷ arguments) =
-    needed_list index before (is_needed argument)
-    ++ order_list (optional_after before argument) (suc index) arguments
+-- each required positional with an optional one among the arguments before it
+abbrev pub order_list : List Arg → List Finding
+order_list arguments = each_after (λ before argument.
+    needed_list (length before) (last_optional before) (is_needed argument)) [] arguments
 
 -- findings about each argument of a command, then about their order
 abbrev pub arguments_list : Tree → List Finding
 arguments_list tree = each_from (argument_list tree) 0 tree.node.arguments
-    ++ order_list None 0 tree.node.arguments
+    ++ order_list tree.node.arguments

@@ -1,16 +1,17 @@
 -- Findings about the positionals of a command together, which clap refuses.
-use Rattle.std.specs.Prelude.{ℕ, suc, Bool, true, false, not, ◌&&◌, ◌||◌, ◌==◌, ◌+◌, ◌-◌, nat_lt, List, [], ◌∷◌, ◌++◌, decimal, fold, if◌then◌else◌, is_some, Option, Some, None, unwrap_or}
+use Rattle.std.specs.Prelude.{ℕ, suc, Bool, true, false, not, ◌&&◌, ◌||◌, ◌==◌, ◌+◌, ◌-◌, nat_lt, List, [], ◌∷◌, ◌++◌, decimal, fold, length, slice_get, count_by, if◌then◌else◌, is_some, Option, Some, None, unwrap_or}
+use Rattle.std.specs.List.{list_any}
 use Rattle.cc_arg.specs.declared.action.ArgAction.{ArgAction}
 use Rattle.cc_arg.specs.declared.action.ArgAction.TheVariants.{Append}
 use Rattle.cc_arg.specs.declared.parts.ArgParts.{ArgParts as Arg}
 use Rattle.cc_arg.specs.Arguments.{is_positional, range_of}
-use Rattle.cc_command.specs.Built.{lacks_index, next_index}
+use Rattle.cc_command.specs.Built.{lacks_index}
 use Rattle.cc_command.specs.Tree.{Tree}
 use Rattle.complgen_lints.specs.ArgumentNames.{all_names, index_name}
 use Rattle.complgen_lints.specs.ArgumentLints.{count_key}
 use Rattle.complgen_lints.specs.Findings.{finding}
 use Rattle.complgen_lints.specs.PlacedNames.{taken_from}
-use Rattle.complgen_lints.specs.Walk.{each_from, when}
+use Rattle.complgen_lints.specs.Walk.{each_after, each_from, when}
 use Rattle.complgen_lints.specs.declared.found.Finding.{Finding}
 use Rattle.complgen_lints.specs.declared.found.Spot.TheVariants.{Argument}
 use Rattle.complgen_lints.specs.declared.names.PlacedName.{PlacedName}
@@ -40,12 +41,14 @@ outside_list count argument _ _ = []
 abbrev pub index_of : ℕ → Arg → ℕ
 index_of number argument = unwrap_or argument.index number
 
--- what a function lists for each argument; the function gets the next index to count and the
--- argument's place in the list, which begin with these
-abbrev pub each_numbered : {B : Type 0} → (ℕ → ℕ → Arg → List B) → ℕ → ℕ → List Arg → List B
-each_numbered f number index [] = []
-each_numbered f number index (argument ∷ arguments) = f number index argument
-    ++ each_numbered f (next_index number argument) (suc index) arguments
+-- the index that counting gives next after some arguments: those of positionals are counted from 1
+abbrev pub counted_after : List Arg → ℕ
+counted_after arguments = suc (count_by lacks_index arguments)
+
+-- what a function lists for each argument, by the next index to count and its place in the list
+abbrev pub each_numbered : {B : Type 0} → (ℕ → ℕ → Arg → List B) → List Arg → List B
+each_numbered f arguments = each_after (λ before argument.
+    f (counted_after before) (length before) argument) [] arguments
 
 -- the counted index of a positional without a set one, as a name
 abbrev pub counted_index : ℕ → ℕ → Arg → List PlacedName
@@ -62,12 +65,14 @@ is_append _ = false
 abbrev pub takes_many : Arg → Bool
 takes_many argument = nat_lt 1 (range_of argument).greatest || is_append argument.action
 
--- the first positional with an index
-abbrev pub with_index : ℕ → ℕ → List Arg → Option Arg
-with_index wanted number [] = None
-with_index wanted number (argument ∷ arguments) =
-    if is_positional argument && (index_of number argument == wanted) then Some argument
-    else with_index wanted (next_index number argument) arguments
+-- the positionals with an index
+abbrev pub all_with_index : ℕ → List Arg → List Arg
+all_with_index wanted arguments = each_numbered (λ number index argument.
+    when (is_positional argument && (index_of number argument == wanted)) argument) arguments
+
+-- the first of them
+abbrev pub with_index : ℕ → List Arg → Option Arg
+with_index wanted arguments = slice_get (all_with_index wanted arguments) 0
 
 -- clap can tell where many values end if the last positional is missing, required or has `last`
 abbrev pub ends_before : Option Arg → Bool
@@ -80,8 +85,8 @@ ends_itself None = false
 ends_itself (Some argument) = argument.last || is_some argument.value_terminator
 
 abbrev pub many_end : ℕ → List Arg → Bool
-many_end count arguments = ends_before (with_index count 1 arguments)
-    || ends_itself (with_index (count - 1) 1 arguments)
+many_end count arguments = ends_before (with_index count arguments)
+    || ends_itself (with_index (count - 1) arguments)
 
 -- a positional of many values before the last positional, unless clap can tell where the values end
 abbrev pub many_list : ℕ → Bool → ℕ → ℕ → Arg → List Finding
@@ -94,22 +99,21 @@ many_list count end number index argument =
 abbrev pub is_last : Arg → Bool
 is_last argument = is_positional argument && argument.last
 
--- each such positional except the first, among the arguments from this index on
-abbrev pub last_list : Bool → ℕ → List Arg → List Finding
-last_list before index [] = []
-last_list before index (argument ∷ arguments) = when (before && is_last argument)
-    (finding (Argument index) key.Last None SecondLast)
-    ++ last_list (before || is_last argument) (suc index) arguments
+-- each such positional with another one among the arguments before it
+abbrev pub last_list : List Arg → List Finding
+last_list arguments = each_after (λ before argument.
+    when (list_any is_last before && is_last argument)
+    (finding (Argument (length before)) key.Last None SecondLast)) [] arguments
 
 -- for arguments with this number of positionals: indexes that no positional can have, indexes that
 -- another one has, positionals of many values, and positionals with `last`
 abbrev pub counted_list : ℕ → List Arg → List Finding
 counted_list count arguments = ((each_from (λ index argument. outside_list count index
     (is_positional argument) argument.index) 0 arguments
-    ++ taken_from named.Index (each_numbered counted_index 1 0 arguments)
+    ++ taken_from named.Index (each_numbered counted_index arguments)
     (all_names named.Index arguments))
-    ++ each_numbered (many_list count (many_end count arguments)) 1 0 arguments)
-    ++ last_list false 0 arguments
+    ++ each_numbered (many_list count (many_end count arguments)) arguments)
+    ++ last_list arguments
 
 abbrev pub positional_list : List Arg → List Finding
 positional_list arguments = counted_list (count_positionals arguments) arguments

@@ -1,13 +1,13 @@
 //! Finds what clap refuses about an argument, and settings with no effect or a surprising one.
 
-ghost use Rattle.std.specs.Prelude.{◌≡◌, ◌++◌, None, OnOk};
+ghost use Rattle.std.specs.Prelude.{◌≡◌, ◌++◌, OnOk, Some, if◌then◌else◌};
 ghost use Rattle.std.specs.Option.{option_copied};
 ghost use Rattle.complgen_lints.specs.ArgumentLints.{added_kind, added_list, added_name};
 ghost use Rattle.complgen_lints.specs.ArgumentLints.{added_short, argument_list, arguments_list};
 ghost use Rattle.complgen_lints.specs.ArgumentLints.{count_key, counts_list, has_command_hint};
 ghost use Rattle.complgen_lints.specs.ArgumentLints.{is_added, is_empty_list, is_needed, is_short};
 ghost use Rattle.complgen_lints.specs.ArgumentLints.{is_text, is_version, kinds_list};
-ghost use Rattle.complgen_lints.specs.ArgumentLints.{missing_list, needed_list, optional_after};
+ghost use Rattle.complgen_lints.specs.ArgumentLints.{is_optional, missing_list, needed_list};
 ghost use Rattle.complgen_lints.specs.ArgumentLints.{order_list, values_list};
 ghost use Rattle.complgen_lints.specs.Walk.{each_from};
 
@@ -219,8 +219,9 @@ fn shows_version(argument: &Arg) -> bool
 }
 
 // Adds a finding for each required positional after an optional one.
+#[tactic(auto, using(crate::proofs::Accumulated::order_listed))]
 fn push_order(found: &mut Found, arguments: &[Arg]) -> Added
-    ensures { OnOk result (found.new ≡ found.old ++ order_list None 0 arguments.now) }
+    ensures { OnOk result (found.new ≡ found.old ++ order_list arguments.now) }
 {
     let mut before = None;
     for (index, argument) in arguments.iter().enumerate() {
@@ -247,8 +248,8 @@ fn push_if_needed(found: &mut Found, index: usize, before: Option<&str>, argumen
 // Returns the id of the last optional positional up to `argument`. `before` is the last one before
 // it. A positional with `last` counts as optional.
 fn optional_after<'a>(before: Option<&'a str>, argument: &'a Arg) -> Option<&'a str>
-    ensures { option_copied result
-        ≡ optional_after (option_copied before.entry) argument.now }
+    ensures { option_copied result ≡ (if is_optional argument.now then Some argument.now.id
+        else option_copied before.entry) }
 {
     if argument.is_positional() && !is_needed(argument) {
         Some(argument.get_id())

@@ -104,7 +104,7 @@ fn outside_kind(alloc: Global, index: usize, count: usize) -> Result<Kind, Alloc
 // positional without one gets it by counting.
 fn push_taken_indexes(found: &mut Found, arguments: &[Arg]) -> Added
     ensures { OnOk result (found.new ≡ found.old
-        ++ taken_from named.Index (each_numbered counted_index 1 0 arguments.now)
+        ++ taken_from named.Index (each_numbered counted_index arguments.now)
         (all_names named.Index arguments.now)) }
 {
     let alloc = found.allocator();
@@ -116,9 +116,10 @@ fn push_taken_indexes(found: &mut Found, arguments: &[Arg]) -> Added
 }
 
 // Adds the counted indexes of the positionals for which none is set.
+#[tactic(auto, using(crate::proofs::Accumulated::numbered_listed))]
 fn push_counted<'a>(names: &mut Vec<PlacedName<'a>>, alloc: Global, arguments: &'a [Arg]) -> Added
     ensures { OnOk result (names.new.items
-        ≡ names.old.items ++ each_numbered counted_index 1 0 arguments.now) }
+        ≡ names.old.items ++ each_numbered counted_index arguments.now) }
 {
     let mut number = 1;
     for (index, argument) in arguments.iter().enumerate() {
@@ -158,9 +159,10 @@ fn next_index(number: usize, argument: &Arg) -> usize
 
 // Adds a finding for each positional of many values before the last positional, unless `many_end`
 // holds.
+#[tactic(auto, using(crate::proofs::Accumulated::numbered_listed))]
 fn push_many(found: &mut Found, count: usize, arguments: &[Arg]) -> Added
     ensures { OnOk result (found.new ≡ found.old
-        ++ each_numbered (many_list count (many_end count arguments.now)) 1 0 arguments.now) }
+        ++ each_numbered (many_list count (many_end count arguments.now)) arguments.now) }
 {
     let end = many_end(count, arguments);
     let mut number = 1;
@@ -236,8 +238,9 @@ fn ends_itself(argument: Option<&Arg>) -> bool
 }
 
 // Returns the first positional with the index `wanted`, if there is one.
+#[tactic(auto, using(crate::proofs::Accumulated::with_index_listed))]
 fn with_index(wanted: usize, arguments: &[Arg]) -> Option<&Arg>
-    ensures { option_copied result ≡ with_index wanted 1 arguments.now }
+    ensures { option_copied result ≡ with_index wanted arguments.now }
 {
     let mut number = 1;
     for argument in arguments {
@@ -250,8 +253,9 @@ fn with_index(wanted: usize, arguments: &[Arg]) -> Option<&Arg>
 }
 
 // Adds a finding for each positional with `last` except the first.
+#[tactic(auto, using(crate::proofs::Accumulated::last_listed))]
 fn push_last(found: &mut Found, arguments: &[Arg]) -> Added
-    ensures { OnOk result (found.new ≡ found.old ++ last_list false 0 arguments.now) }
+    ensures { OnOk result (found.new ≡ found.old ++ last_list arguments.now) }
 {
     let mut before = false;
     for (index, argument) in arguments.iter().enumerate() {
