@@ -2,4 +2,5 @@ mod BashEnd
 mod Examples
 mod HiddenBuilt
 mod Offers
+mod Reaching
 mod Together

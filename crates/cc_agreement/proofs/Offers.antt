@@ -285,7 +285,7 @@ module _ (tree : Tree) (app : App) (takes : TakesOffered tree app) (tidy : list_
 
 -- ---- THE PARSER ACCEPTS EACH CANDIDATE AT THE ROOT
 
-all_taken : (tree : Tree) (app : App) → TakesOffered tree app → list_all has_index_or_name tree.node.arguments ≡ true
+pub all_taken : (tree : Tree) (app : App) → TakesOffered tree app → list_all has_index_or_name tree.node.arguments ≡ true
     → (state : State) (word : List ℕ) (returned : Returned)
     → AllByRecursion (IsTaken tree app word (values_among tree state word returned)) (candidates_for tree state word returned)
 all_taken tree app takes tidy state word returned =

@@ -1,2 +1,3 @@
 pub mod BashAgreement
 pub mod ParserAgreement
+pub mod Reached

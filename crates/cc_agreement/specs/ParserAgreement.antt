@@ -80,6 +80,19 @@ pub record AgreesWithParser (sources : MayReturn) (root : Tree) (app : App) (wor
   pub taken : tree ≡ root → AllByRecursion (IsTaken root app (get_or words index [])
       (values_among tree state (get_or words index []) offers.0)) found
 
+-- The words before the index lead to this tree in one state, and to no other tree or state. The
+-- candidates are some that may be offered there. If no argument of the tree is global and the tree
+-- fits its own parser, this parser accepts each of them.
+pub record AgreesWhereWordsLead (sources : MayReturn) (root tree : Tree) (app : App)
+    (words : List (List ℕ)) (index : ℕ) (found : List CompletionCandidate) : Type 0 where
+  pub state : State
+  pub leads : WordsLeadTo root (words_before root.node words index) tree state
+  pub only : WordsLeadOnlyTo root (words_before root.node words index) tree state
+  pub offers : Offers sources tree state (get_or words index []) found
+  pub taken : has_globals tree ≡ false → fits_parser tree ≡ true
+      → AllByRecursion (IsTaken tree app (get_or words index [])
+      (values_among tree state (get_or words index []) offers.0)) found
+
 -- The parser with this reading is the parser of the tree, if the tree has no global arguments.
 -- `globals` tells whether it has some.
 pub record IsParserOf (tree : Tree) (app : App) (globals : Bool) : Type 0 where

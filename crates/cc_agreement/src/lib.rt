@@ -23,9 +23,11 @@
 #![tactic(auto)]
 
 mod hidden;
+mod reached;
 mod with_bash;
 mod with_parser;
 
 pub use crate::hidden::has_no_hidden_alias;
+pub use crate::reached::candidates_and_reached_parser;
 pub use crate::with_bash::bash_script_and_candidates;
 pub use crate::with_parser::candidates_and_parser;

@@ -125,7 +125,7 @@ fn complete_in_range<L: Lookup>(
 }
 
 /// Returns the words before the index, without the program's name.
-pub(crate) fn words_before<'w>(command: &Command, words: &'w [String], index: usize) -> &'w [String]
+pub fn words_before<'w>(command: &Command, words: &'w [String], index: usize) -> &'w [String]
     requires { is_in_range command.now.node (length words.now) index ≡ true }
     ensures { map string_bytes result.now
         ≡ words_before command.now.node (map string_bytes words.now) index }

@@ -30,6 +30,6 @@ mod open_lists;
 mod sources;
 
 pub use crate::asked::asked_argument;
-pub use crate::completion::{complete, complete_from};
+pub use crate::completion::{complete, complete_from, words_before};
 pub use crate::lookup::Lookup;
 pub use crate::sources::Sources;

@@ -179,6 +179,7 @@ pub use Rattle.cc_replies.specs.Environment as EnvironmentValues
 pub use Rattle.cc_replies.specs.declared.environment.EnvValues
 pub use Rattle.cc_replies.specs.Reply as ShellReplies
 pub use Rattle.cc_replies.specs.BashWords as InsertedBashWords
+pub use Rattle.cc_replies.specs.PowershellEntries as PowershellEntries
 pub use Rattle.cc_replies.specs.PowershellWords as InsertedPowershellWords
 pub use Rattle.cc_replies.specs.SafeReplies
 pub use Rattle.cc_replies.specs.SafeValues
