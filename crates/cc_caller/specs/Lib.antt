@@ -1,3 +1,4 @@
+pub mod Branches
 pub mod KnownNames
 pub mod PlainScript
 pub mod QuietScript

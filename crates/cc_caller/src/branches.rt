@@ -1,11 +1,14 @@
 //! An argument whose values a command lists, and a program that completes itself with them.
 
+ghost use Rattle.std.specs.Prelude.{◌≡◌, IfErr, IfOk, map};
+ghost use Rattle.cc_caller.specs.Branches.{branch_arg};
+
 use clap_complete::aot::Collected;
 use clap_complete::command::{Arg, Command, Text};
 use clap_complete::engine::{Completers, Folder, Sources};
 use clap_complete::env::{Called, PassedLines, try_complete_asking};
 use clap_complete::{CompleteEnv, Error};
-use std::alloc::Global;
+use std::alloc::{AllocError, Global};
 
 // The command that prints the branches of a repository, one on each line.
 const BRANCHES: [&str; 3] = ["git", "branch", "--format=%(refname:short)"];
@@ -15,13 +18,23 @@ const BRANCHES: [&str; 3] = ["git", "branch", "--format=%(refname:short)"];
 /// # Errors
 ///
 /// `Memory` if an allocation fails.
-pub fn branch(alloc: Global) -> Result<Arg, Error> {
-    let mut words = Vec::new(alloc);
-    for word in BRANCHES.as_slice() {
-        words.push(Text::copy_of(alloc, word)?)?;
-    }
+pub fn branch(alloc: Global) -> Result<Arg, Error>
+    ensures ok { IfOk result (λ arg. arg ≡ branch_arg) }
+    ensures memory { IfErr result (λ error. error ≡ Error.Memory) }
+{
+    let words = copies_of(alloc, BRANCHES.as_slice())?;
     let id = String::from_str(alloc, "branch")?;
     Ok(Arg::new(alloc, id).values_from(words))
+}
+
+fn copies_of(alloc: Global, words: &[&str]) -> Result<Vec<Text>, AllocError>
+    ensures { IfOk result (λ copies. copies.items ≡ map (λ word. word.now) words.now) }
+{
+    let mut copies = Vec::new(alloc);
+    for word in words {
+        copies.push(Text::copy_of(alloc, word)?)?;
+    }
+    Ok(copies)
 }
 
 /// Appends what the shell that `called` comes from is to get to `out`, and returns the exit status,

@@ -1,5 +1,8 @@
 //! Small trees, as tree files and as commands.
 
+ghost use Rattle.std.specs.Prelude.{◌≡◌, IfErr, IfOk, Some};
+ghost use Rattle.complgen_tree_file.specs.TreeFile.{Describes};
+
 use cc_base::Error;
 use cc_command::Command;
 use complgen_tree_file::read_tree;
@@ -70,7 +73,10 @@ pub const ANY: &str = r#"{"name": "app", "disable_help_flag": true, "args": [
 /// # Errors
 ///
 /// `Memory`, whatever failed.
-pub fn read(alloc: Global, text: &str) -> Result<Command, Error> {
+pub fn read(alloc: Global, text: &str) -> Result<Command, Error>
+    ensures tree { IfOk result (λ command. Describes text.now (Some command)) }
+    ensures memory { IfErr result (λ error. error ≡ Error.Memory) }
+{
     match read_tree(alloc, text.as_bytes()) {
         Ok(command) => Ok(command),
         Err(_) => Err(Error::Memory),
