@@ -10,10 +10,12 @@ use Rattle.complgen_import.specs.declared.class.Class.TheVariants.{Blank as Blan
 use Rattle.complgen_import.specs.declared.commands.Command.{Command}
 use Rattle.complgen_import.specs.declared.commands.Entry.{Entry}
 use Rattle.complgen_import.specs.declared.sections.Section.{Section}
-use Rattle.complgen_import.specs.declared.sections.Section.TheVariants.{Other, Opened, Entries, Listed, Positional}
+use Rattle.complgen_import.specs.declared.sections.Section.TheVariants.{Other, Opened, Entries, Listed}
 use Rattle.complgen_import.specs.Aliases.{before_help, names_after, names_in, note_in, noted_names, text_before}
-use Rattle.complgen_import.specs.Braces.{brace_names}
+use Rattle.complgen_import.specs.Braces.{brace_names, braces_of}
 use Rattle.complgen_import.specs.Classes.{begins, is_list_mark, past, run}
+use Rattle.complgen_import.specs.CommandWord.{command_word, is_over_entries}
+use Rattle.complgen_import.specs.Dots.{dots_before}
 use Rattle.complgen_import.specs.Commands.{HasCommandsOnce, HasEachEntry, HasNamesOf, IsPiece, alone, command_names, commands_from, commands_of, entries_of, entry_at, entry_names, entry_of, line_entries, named, text_entries}
 use Rattle.complgen_import.specs.Entries.{entry_help, entry_name, entry_rest, entry_text, from_gap, help_in, if_named, indent_of, is_usage, past_bullet, past_dash, past_mark, past_marks, past_program}
 use Rattle.complgen_import.specs.Lines.{IsAmong, lines_of}
@@ -80,7 +82,6 @@ plain_in : (program : List ℕ) (section : Section) (line : List ℕ) → may_be
 unfolding may_be_entry
 plain_in program Other line h = cc
 plain_in program (Listed indent) line h = cc
-plain_in program Positional line h = cc
 plain_in program Opened line h = (both _ _ (both _ _ h).1).0
 plain_in program (Entries columns) line h = (both _ _ (both _ _ (both _ _ h).1).1).0
 
@@ -278,13 +279,22 @@ IsInLine lines entry = (before : List (List ℕ)) × (line : List ℕ) × (behin
 in_later : (line : List ℕ) (lines : List (List ℕ)) (entry : Entry) → IsInLine lines entry → IsInLine (line ∷ lines) entry
 in_later line lines entry is = (line ∷ is.0, is.1, is.2, ap (λ ls. line ∷ ls) is.3, is.4)
 
-of_line : (program : List ℕ) (section : Section) (lines : List (List ℕ)) (entry : Entry) → IsAmong entry (entries_of program section lines) → IsInLine lines entry
-unfolding IsAmong entries_of
-of_line program section [] entry h = absurd h
-of_line program section (line ∷ lines) entry h = elim (among_split entry (line_entries program section line lines) (entries_of program (section_next program section line lines) lines) h) [
+at_line : (b : Bool) (program : List ℕ) (section : Section) (line : List ℕ) (lines : List (List ℕ)) (entry : Entry) (below after_it : List Entry) →
+    (IsAmong entry below → IsInLine lines entry) → (IsAmong entry after_it → IsInLine lines entry) →
+    IsAmong entry (elim b [ true ↦ below | false ↦ line_entries program section line lines ++ after_it ]) → IsInLine (line ∷ lines) entry
+at_line true program section line lines entry below after_it over later h = in_later line lines entry (over h)
+at_line false program section line lines entry below after_it over later h = elim (among_split entry (line_entries program section line lines) after_it h) [
   | inl here ↦ ([], line, lines, refl, pieces_at program section line lines entry here)
-  | inr later ↦ in_later line lines entry (of_line program (section_next program section line lines) lines entry later)
+  | inr behind ↦ in_later line lines entry (later behind)
 ]
+
+of_line : (program word : List ℕ) (section : Section) (lines : List (List ℕ)) (entry : Entry) → IsAmong entry (entries_of program word section lines) → IsInLine lines entry
+unfolding IsAmong entries_of
+of_line program word section [] entry h = absurd h
+of_line program word section (line ∷ lines) entry h =
+    let next = section_next program section line lines in
+    at_line (is_over_entries program word line lines) program section line lines entry (entries_of program word Opened lines) (entries_of program word next lines)
+    (of_line program word Opened lines entry) (of_line program word next lines entry) h
 
 pieces_alone : (line name : List ℕ) (lines : List (List ℕ)) → IsPlainIn line name → HasPieces line lines (alone name)
 pieces_alone line name lines is other k =
@@ -292,21 +302,22 @@ pieces_alone line name lines is other k =
     subst Q (sym (among_one other name k)) (piece_more name line (help_of (indent_of line) lines) is.0, is.1)
 
 -- a name in braces is in one of the lines
-of_braces : (lines : List (List ℕ)) (name : List ℕ) → IsAmong name (flat_map brace_names lines) → IsInLine lines (alone name)
-unfolding IsAmong
+of_braces : (lines : List (List ℕ)) (name : List ℕ) → IsAmong name (braces_of lines) → IsInLine lines (alone name)
+unfolding IsAmong braces_of
 of_braces [] name h = absurd h
-of_braces (line ∷ lines) name h = elim (among_split name (brace_names line) (flat_map brace_names lines) h) [
-  | inl here ↦ ([], line, lines, refl, pieces_alone line name lines (brace_piece line name here))
+of_braces (line ∷ lines) name h = elim (among_split name (brace_names (dots_before lines) line) (braces_of lines) h) [
+  | inl here ↦ ([], line, lines, refl, pieces_alone line name lines (brace_piece (dots_before lines) line name here))
   | inr later ↦ in_later line lines (alone name) (of_braces lines name later)
 ]
 
 of_text : (program text : List ℕ) (entry : Entry) → IsAmong entry (text_entries program text) → IsInLine (lines_of text) entry
 of_text program text entry h =
     let lines = lines_of text in
-    elim (among_split entry (entries_of program Other lines) (map alone (flat_map brace_names lines)) h) [
-      | inl here ↦ of_line program Other lines entry here
+    let word = command_word lines in
+    elim (among_split entry (entries_of program word Other lines) (map alone (braces_of lines)) h) [
+      | inl here ↦ of_line program word Other lines entry here
       | inr later ↦
-          let found = of_alone (flat_map brace_names lines) entry later in
+          let found = of_alone (braces_of lines) entry later in
           let P : Entry → Type 0 = λ e. IsInLine lines e in
           subst P (sym found.2) (of_braces lines found.0 found.1)
     ]

@@ -1,9 +1,11 @@
 -- The entries of a text, line by line, and the commands with their new names.
 use Rattle.std.specs.BTreeSet.{BTreeSet}
-use Rattle.std.proofs.Common.{◌≡◌, ◌∷◌, ◌++◌, ◌∙◌, ℕ, List, [], ap, append_assoc, append-nil, sym}
+use Rattle.std.proofs.Common.{◌≡◌, ◌∷◌, ◌++◌, ◌∙◌, ℕ, true, false, List, [], ap, append_assoc, append-nil, refl, sym}
 use Rattle.complgen_import.specs.declared.commands.Command.{Command}
 use Rattle.complgen_import.specs.declared.commands.Entry.{Entry}
 use Rattle.complgen_import.specs.declared.sections.Section.{Section}
+use Rattle.complgen_import.specs.declared.sections.Section.TheVariants.{Opened}
+use Rattle.complgen_import.specs.CommandWord.{is_over_entries}
 use Rattle.complgen_import.specs.Commands.{commands_from, entries_of, line_entries, named}
 use Rattle.complgen_import.specs.NameLists.{section_next}
 use Rattle.complgen_import.specs.Names.{Holds, new_names, said_after}
@@ -11,16 +13,26 @@ use Rattle.complgen_import.proofs.NamesRead.{holds_none}
 
 -- ---- line by line
 
-pub entries_more : (program : List ℕ) (whole done : List Entry) (section : Section) (line : List ℕ) (all lines : List (List ℕ)) → all ≡ line ∷ lines →
-    done ++ entries_of program section all ≡ whole → (done ++ line_entries program section line lines) ++ entries_of program (section_next program section line lines) lines ≡ whole
+pub entries_over : (program word : List ℕ) (whole done : List Entry) (section : Section) (line : List ℕ) (all lines : List (List ℕ)) → all ≡ line ∷ lines →
+    is_over_entries program word line lines ≡ true → done ++ entries_of program word section all ≡ whole → done ++ entries_of program word Opened lines ≡ whole
 unfolding entries_of
-entries_more program whole done section line all lines e is =
-    append_assoc done (line_entries program section line lines) (entries_of program (section_next program section line lines) lines)
-    ∙ ap (λ ls. done ++ entries_of program section ls) (sym e) ∙ is
+entries_over program word whole done section line all lines e over is =
+    let here : entries_of program word section (line ∷ lines) ≡ entries_of program word Opened lines = rw (entries_of, over) refl in
+    ap (λ es. done ++ es) (sym here) ∙ ap (λ ls. done ++ entries_of program word section ls) (sym e) ∙ is
 
-pub entries_end : (program : List ℕ) (whole done : List Entry) (section : Section) (all : List (List ℕ)) → all ≡ [] → done ++ entries_of program section all ≡ whole → done ≡ whole
+pub entries_more : (program word : List ℕ) (whole done : List Entry) (section : Section) (line : List ℕ) (all lines : List (List ℕ)) → all ≡ line ∷ lines →
+    is_over_entries program word line lines ≡ false → done ++ entries_of program word section all ≡ whole →
+    (done ++ line_entries program section line lines) ++ entries_of program word (section_next program section line lines) lines ≡ whole
 unfolding entries_of
-entries_end program whole done section all e is = sym (append-nil done) ∙ ap (λ ls. done ++ entries_of program section ls) (sym e) ∙ is
+entries_more program word whole done section line all lines e plain is =
+    let next = entries_of program word (section_next program section line lines) lines in
+    let here : entries_of program word section (line ∷ lines) ≡ line_entries program section line lines ++ next = rw (entries_of, plain) refl in
+    append_assoc done (line_entries program section line lines) next
+    ∙ ap (λ es. done ++ es) (sym here) ∙ ap (λ ls. done ++ entries_of program word section ls) (sym e) ∙ is
+
+pub entries_end : (program word : List ℕ) (whole done : List Entry) (section : Section) (all : List (List ℕ)) → all ≡ [] → done ++ entries_of program word section all ≡ whole → done ≡ whole
+unfolding entries_of
+entries_end program word whole done section all e is = sym (append-nil done) ∙ ap (λ ls. done ++ entries_of program word section ls) (sym e) ∙ is
 
 -- ---- new names
 

@@ -76,7 +76,7 @@ longer : (byte : ℕ) (line : List ℕ) (lines : List (List ℕ)) → with_byte 
 unfolding with_byte
 longer byte line lines = refl
 
-first_line : (line rest : List ℕ) → IsLine line → lines_of (line ++ 10 ∷ rest) ≡ line ∷ lines_of rest
+pub first_line : (line rest : List ℕ) → IsLine line → lines_of (line ++ 10 ∷ rest) ≡ line ∷ lines_of rest
 first_line [] rest all = lines-end 10 rest refl
 first_line (byte ∷ line) rest all =
     lines-more byte (line ++ 10 ∷ rest) all.0 ∙ ap (with_byte byte) (first_line line rest all.1) ∙ longer byte line (lines_of rest)

@@ -10,6 +10,7 @@ pub mod CleanSteps
 pub mod CommandLaws
 pub mod CommandRows
 pub mod CommandSteps
+pub mod CommandWordSteps
 pub mod Complete
 pub mod Cutting
 pub mod DotsRead

@@ -13,6 +13,7 @@ use Rattle.complgen_import.specs.declared.positionals.Place.{Place}
 use Rattle.complgen_import.specs.declared.positionals.Place.TheVariants.{Outside}
 use Rattle.complgen_import.specs.declared.tree_argument.TreeArgument.{TreeArgument}
 use Rattle.complgen_import.specs.Classes.{begins, past, run}
+use Rattle.complgen_import.specs.CommandWord.{command_word}
 use Rattle.complgen_import.specs.Form.{is_tail}
 use Rattle.complgen_import.specs.Lines.{IsAmong, lines_of}
 use Rattle.complgen_import.specs.Names.{is_said, said_after}
@@ -132,33 +133,33 @@ of_unless true x a h = absurd h
 of_unless false x a (inl here) = here
 of_unless false x a (inr later) = absurd later
 
-of_found : (text line : List ℕ) (lines : List (List ℕ)) (found : Option (Value × List ℕ)) (a : TreeArgument) → label_at (past BlankByte line) ≡ found →
-    IsAmong a (elim found [ Some read ↦ of_entry text line lines read | None ↦ [] ]) → IsEntry a (line ∷ lines)
+of_found : (word line : List ℕ) (lines : List (List ℕ)) (found : Option (Value × List ℕ)) (a : TreeArgument) → label_at (past BlankByte line) ≡ found →
+    IsAmong a (elim found [ Some read ↦ of_entry word line lines read | None ↦ [] ]) → IsEntry a (line ∷ lines)
 unfolding IsAmong of_entry
-of_found text line lines None a is h = absurd h
-of_found text line lines (Some read) a is h = record {
+of_found word line lines None a is h = absurd h
+of_found word line lines (Some read) a is h = record {
   line = line;
   among = inl refl;
   read = read;
   reads = is;
   help = label_help read.1 line lines;
-  made = of_unless (stands_for_commands text read.0.mark line lines) (positional read.0 (label_help read.1 line lines)) a h;
+  made = of_unless (stands_for_commands word read.0.mark line lines) (positional read.0 (label_help read.1 line lines)) a h;
 }
 
-of_text : (text : List ℕ) (place : Place) (lines : List (List ℕ)) (a : TreeArgument) → IsAmong a (positionals_from text place lines) → IsEntry a lines
+of_text : (word : List ℕ) (place : Place) (lines : List (List ℕ)) (a : TreeArgument) → IsAmong a (positionals_from word place lines) → IsEntry a lines
 unfolding IsAmong positionals_from of_line
-of_text text place [] a h = absurd h
-of_text text place (line ∷ lines) a h = elim (among_split a (positional_at text place line lines) (positionals_from text (place_past place line) lines) h) [
-  | inl here ↦ of_found text line lines (label_at (past BlankByte line)) a refl (of_if _ (of_line text line lines) a here)
+of_text word place [] a h = absurd h
+of_text word place (line ∷ lines) a h = elim (among_split a (positional_at word place line lines) (positionals_from word (place_past place line) lines) h) [
+  | inl here ↦ of_found word line lines (label_at (past BlankByte line)) a refl (of_if _ (of_line word line lines) a here)
   | inr later ↦
-      let more = of_text text (place_past place line) lines a later in
+      let more = of_text word (place_past place line) lines a later in
       record { line = more.line; among = inr more.among; read = more.read; reads = more.reads; help = more.help; made = more.made }
 ]
 
 -- ---- the label of an entry
 
 -- the name that a reader finds is a piece of the text
-abbrev FindsName : (List ℕ → Read Mark) → Type 0
+abbrev pub FindsName : (List ℕ → Read Mark) → Type 0
 FindsName reader = (text : List ℕ) (read : Mark × List ℕ) → reader text ≡ Some read → IsPieceOf (mark_held read.0) text
 
 name_or : (one other : List ℕ → Read Mark) → FindsName one → FindsName other → FindsName (λ text. option_or (one text) (other text))
@@ -186,15 +187,18 @@ name_bare first others text read is =
     let P : List ℕ → Type 0 = λ t. IsPieceOf t text in
     subst P same (run_piece others text)
 
-name_label : FindsName label_mark
-unfolding label_mark square_mark mark_at angle_at curly_at mark_held
-name_label =
-    name_or square_mark (mark_at Letter PlainByte) (name_held Angle (λ held. refl) InSquares (codes "[") (codes "]"))
-    (name_or (λ text. option_or (angle_at text) (curly_at text)) (bare_at Letter PlainByte)
+pub name_mark : FindsName (mark_at Letter PlainByte)
+unfolding mark_at angle_at curly_at mark_held
+name_mark =
+    name_or (λ text. option_or (angle_at text) (curly_at text)) (bare_at Letter PlainByte)
     (name_or angle_at curly_at (name_held Angle (λ held. refl) InAngles (codes "<") (codes ">")) (name_held Curly (λ held. refl) InCurlies (codes "{") (codes "}")))
-    (name_bare Letter PlainByte))
+    (name_bare Letter PlainByte)
 
-same_mark : (read : Mark × List ℕ) (found : Option (List ℕ)) → after_dots read.1 ≡ found → (with_label_dots read).0.mark ≡ read.0
+name_label : FindsName label_mark
+unfolding label_mark square_mark mark_held
+name_label = name_or square_mark (mark_at Letter PlainByte) (name_held Angle (λ held. refl) InSquares (codes "[") (codes "]")) name_mark
+
+pub same_mark : (read : Mark × List ℕ) (found : Option (List ℕ)) → after_dots read.1 ≡ found → (with_label_dots read).0.mark ≡ read.0
 unfolding with_label_dots
 same_mark read (Some rest) is = rw (with_label_dots, is) refl
 same_mark read None is = rw (with_label_dots, is) refl
@@ -212,13 +216,13 @@ label_found text read is =
 
 -- ---- the positionals of a text
 
-abbrev Made : List TreeArgument → List ℕ → List TreeArgument → Type 0
+abbrev pub Made : List TreeArgument → List ℕ → List TreeArgument → Type 0
 Made options text made = made ≡ positionals_of options text
 
-entry_of : (options : List TreeArgument) (text : List ℕ) (made : List TreeArgument) → Made options text made → (a : TreeArgument) → IsAmong a made → IsEntry a (lines_of text)
+pub entry_of : (options : List TreeArgument) (text : List ℕ) (made : List TreeArgument) → Made options text made → (a : TreeArgument) → IsAmong a made → IsEntry a (lines_of text)
 entry_of options text made is a h =
     let P : List TreeArgument → Type 0 = λ all. IsAmong a all in
-    of_text text Outside (lines_of text) a (among_firsts (said_after [] (ids_of options)) (positionals_from text Outside (lines_of text)) a (subst P is h))
+    of_text (command_word (lines_of text)) Outside (lines_of text) a (among_firsts (said_after [] (ids_of options)) (positionals_from (command_word (lines_of text)) Outside (lines_of text)) a (subst P is h))
 
 pub labels : (options : List TreeArgument) (text : List ℕ) (made : List TreeArgument) → Made options text made → HaveLabelsOf text made
 labels options text made is a h =
@@ -236,18 +240,18 @@ no_names options text made is a h =
 pub ids_once : (options : List TreeArgument) (text : List ℕ) (made : List TreeArgument) → Made options text made → HaveIdsOnce made
 ids_once options text made is =
     let P : List TreeArgument → Type 0 = λ all. HaveIdsOnce all in
-    subst P (sym is) (firsts_once (said_after [] (ids_of options)) (positionals_from text Outside (lines_of text)))
+    subst P (sym is) (firsts_once (said_after [] (ids_of options)) (positionals_from (command_word (lines_of text)) Outside (lines_of text)))
 
 pub apart : (options : List TreeArgument) (text : List ℕ) (made : List TreeArgument) → Made options text made → DifferFrom options made
 apart options text made is option a among h =
     let P : List TreeArgument → Type 0 = λ all. IsAmong a all in
-    let new = unsaid (said_after [] (ids_of options)) (positionals_from text Outside (lines_of text)) a (subst P is h) in
+    let new = unsaid (said_after [] (ids_of options)) (positionals_from (command_word (lines_of text)) Outside (lines_of text)) a (subst P is h) in
     differs [] (ids_of options) a.names.id option.names.id new (among_ids options option among)
 
 pub ends : (options : List TreeArgument) (text : List ℕ) (made : List TreeArgument) → Made options text made → EndWithRest made
 ends options text made is =
     let P : List TreeArgument → Type 0 = λ all. EndWithRest all in
-    subst P (sym is) (firsts_end (said_after [] (ids_of options)) (positionals_from text Outside (lines_of text)))
+    subst P (sym is) (firsts_end (said_after [] (ids_of options)) (positionals_from (command_word (lines_of text)) Outside (lines_of text)))
 
 -- ---- their possible values
 

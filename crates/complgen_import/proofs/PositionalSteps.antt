@@ -11,21 +11,21 @@ use Rattle.complgen_import.specs.declared.positionals.Place.{Place}
 use Rattle.complgen_import.specs.declared.tree_argument.TreeArgument.{TreeArgument}
 use Rattle.complgen_import.specs.Classes.{past}
 use Rattle.complgen_import.specs.Names.{Holds, said_after}
-use Rattle.complgen_import.specs.Positionals.{first_positionals, has_rest_at, holds_rest, ids_of, label_at, label_help, new_positional, of_entry, of_line, place_past, positional, positional_at, positionals_from, stands_for_commands, takes_rest, up_to_rest}
+use Rattle.complgen_import.specs.Positionals.{first_positionals, ids_of, label_at, label_help, new_positional, of_entry, of_line, place_past, positional, positional_at, positionals_from, stands_for_commands, takes_rest, up_to_rest}
 use Rattle.complgen_import.proofs.NamesRead.{holds_none, not_false, not_true}
 
 -- ---- line by line
 
-pub positionals_more : (whole done : List TreeArgument) (text : List ℕ) (place : Place) (line : List ℕ) (all lines : List (List ℕ)) → all ≡ line ∷ lines →
-    done ++ positionals_from text place all ≡ whole → (done ++ positional_at text place line lines) ++ positionals_from text (place_past place line) lines ≡ whole
+pub positionals_more : (whole done : List TreeArgument) (word : List ℕ) (place : Place) (line : List ℕ) (all lines : List (List ℕ)) → all ≡ line ∷ lines →
+    done ++ positionals_from word place all ≡ whole → (done ++ positional_at word place line lines) ++ positionals_from word (place_past place line) lines ≡ whole
 unfolding positionals_from
-positionals_more whole done text place line all lines e is =
-    append_assoc done (positional_at text place line lines) (positionals_from text (place_past place line) lines)
-    ∙ ap (λ ls. done ++ positionals_from text place ls) (sym e) ∙ is
+positionals_more whole done word place line all lines e is =
+    append_assoc done (positional_at word place line lines) (positionals_from word (place_past place line) lines)
+    ∙ ap (λ ls. done ++ positionals_from word place ls) (sym e) ∙ is
 
-pub positionals_end : (whole done : List TreeArgument) (text : List ℕ) (place : Place) (all : List (List ℕ)) → all ≡ [] → done ++ positionals_from text place all ≡ whole → done ≡ whole
+pub positionals_end : (whole done : List TreeArgument) (word : List ℕ) (place : Place) (all : List (List ℕ)) → all ≡ [] → done ++ positionals_from word place all ≡ whole → done ≡ whole
 unfolding positionals_from
-positionals_end whole done text place all e is = sym (append-nil done) ∙ ap (λ ls. done ++ positionals_from text place ls) (sym e) ∙ is
+positionals_end whole done word place all e is = sym (append-nil done) ∙ ap (λ ls. done ++ positionals_from word place ls) (sym e) ∙ is
 
 -- ---- the ids of options
 
@@ -124,36 +124,18 @@ pub firsts_done : (whole : List TreeArgument) (seen : BTreeSet (List ℕ)) (kept
 unfolding first_positionals
 firsts_done whole seen kept left none k = sym (append-nil kept) ∙ ap (λ l. kept ++ first_positionals k.so_far l) (sym none) ∙ k.all
 
--- ---- dots in the usage
-
-pub rest_found : (held text : List ℕ) (i : ℕ) (whole : Bool) → i < length text → has_rest_at held (drop i text) ≡ true → holds_rest held (drop i text) ≡ whole → true ≡ whole
-unfolding holds_rest
-rest_found held text i whole below found is =
-    let here : has_rest_at held (get_or text i 0 ∷ drop (i + 1) text) ≡ true = sym (at_drop_more (has_rest_at held) text i 0 below) ∙ found in
-    sym (at_drop_more (holds_rest held) text i 0 below ∙ ap (λ b. b || holds_rest held (drop (i + 1) text)) here) ∙ is
-
-pub rest_passed : (held text : List ℕ) (i : ℕ) (whole : Bool) → i < length text → has_rest_at held (drop i text) ≡ false → holds_rest held (drop i text) ≡ whole → holds_rest held (drop (i + 1) text) ≡ whole
-unfolding holds_rest
-rest_passed held text i whole below found is =
-    let here : has_rest_at held (get_or text i 0 ∷ drop (i + 1) text) ≡ false = sym (at_drop_more (has_rest_at held) text i 0 below) ∙ found in
-    sym (at_drop_more (holds_rest held) text i 0 below ∙ ap (λ b. b || holds_rest held (drop (i + 1) text)) here) ∙ is
-
-pub rest_none : (held text : List ℕ) (i : ℕ) (whole : Bool) → length text ≤ i → holds_rest held (drop i text) ≡ whole → false ≡ whole
-unfolding holds_rest
-rest_none held text i whole over is = sym (at_drop_all (holds_rest held) text i over) ∙ is
-
 -- ---- the argument of a line
 
-pub line_stands : (text line : List ℕ) (lines : List (List ℕ)) (read : Value × List ℕ) → Some read ≡ label_at (past BlankByte line) → stands_for_commands text read.0.mark line lines ≡ true →
-    [] ≡ of_line text line lines
+pub line_stands : (word line : List ℕ) (lines : List (List ℕ)) (read : Value × List ℕ) → Some read ≡ label_at (past BlankByte line) → stands_for_commands word read.0.mark line lines ≡ true →
+    [] ≡ of_line word line lines
 unfolding of_entry of_line
-line_stands text line lines read is stands =
+line_stands word line lines read is stands =
     ap (λ b. if b then [] else positional read.0 (label_help read.1 line lines) ∷ []) (sym stands)
-    ∙ ap (λ found. elim found [ Some read ↦ of_entry text line lines read | None ↦ [] ]) is
+    ∙ ap (λ found. elim found [ Some read ↦ of_entry word line lines read | None ↦ [] ]) is
 
-pub line_made : (text line : List ℕ) (lines : List (List ℕ)) (read : Value × List ℕ) → Some read ≡ label_at (past BlankByte line) → stands_for_commands text read.0.mark line lines ≡ false →
-    positional read.0 (label_help read.1 line lines) ∷ [] ≡ of_line text line lines
+pub line_made : (word line : List ℕ) (lines : List (List ℕ)) (read : Value × List ℕ) → Some read ≡ label_at (past BlankByte line) → stands_for_commands word read.0.mark line lines ≡ false →
+    positional read.0 (label_help read.1 line lines) ∷ [] ≡ of_line word line lines
 unfolding of_entry of_line
-line_made text line lines read is stands =
+line_made word line lines read is stands =
     ap (λ b. if b then [] else positional read.0 (label_help read.1 line lines) ∷ []) (sym stands)
-    ∙ ap (λ found. elim found [ Some read ↦ of_entry text line lines read | None ↦ [] ]) is
+    ∙ ap (λ found. elim found [ Some read ↦ of_entry word line lines read | None ↦ [] ]) is

@@ -153,7 +153,7 @@ sound_dotted_letter text read h =
     let a = and_then-some if_letter (dotted_at text) read h in
     letter_before text a.0 (only_letter a.0.0) read (sound_dotted text a.0 a.1) refl a.2
 
-sound_name : Sound name_at name_text IsName
+pub sound_name : Sound name_at name_text IsName
 unfolding name_at repeated_long_at repeated_short_at name_text IsName
 sound_name =
     either (λ text. option_or (once_name_at text) (repeated_long_at text)) repeated_short_at name_text IsName

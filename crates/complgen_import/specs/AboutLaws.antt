@@ -1,4 +1,4 @@
--- What holds for the description of a program.
+-- Laws of the description of a program.
 use Rattle.std.specs.Prelude.{◌≡◌, ◌⊎◌, ℕ, true, List, [], ◌∷◌, ◌++◌, codes}
 use Rattle.std.specs.List.{flat_map}
 use Rattle.complgen_import.specs.declared.class.Class.TheVariants.{Blank as BlankByte}

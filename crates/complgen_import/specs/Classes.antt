@@ -3,7 +3,7 @@ use Rattle.std.specs.Prelude.{ℕ, Bool, true, false, not, ◌||◌, ◌==◌, L
 use Rattle.std.specs.List.{list_any}
 use Rattle.std.specs.Char.{is_ascii_alphabetic, is_ascii_alphanumeric, is_ascii_digit, is_ascii_lowercase, is_ascii_uppercase}
 use Rattle.complgen_import.specs.declared.class.Class.{Class}
-use Rattle.complgen_import.specs.declared.class.Class.TheVariants.{Blank, NameByte, ValueByte, Capital, CapitalByte, Small, SmallByte, InLine, InAngles, InCurlies, InSquares, PlainByte, Opening, HeadingByte, BeforeNote, InParentheses, Letter, QuietByte, Padding, BeforeBar, InChoice, WordByte, ListMark, ListByte, LabelByte}
+use Rattle.complgen_import.specs.declared.class.Class.TheVariants.{Blank, NameByte, ValueByte, Capital, CapitalByte, Small, SmallByte, InLine, InAngles, InCurlies, InSquares, PlainByte, Opening, HeadingByte, BeforeNote, InParentheses, Letter, QuietByte, Padding, BeforeBar, InChoice, WordByte, ListMark, ListByte, LabelByte, ForeignByte, HelpMark}
 
 -- a letter, a digit, or one of `_.:+-`
 abbrev pub is_name_byte : ℕ → Bool
@@ -50,6 +50,16 @@ is_padding byte = byte == 32 || byte == 39 || byte == 34 || byte == 96
 abbrev pub is_list_mark : ℕ → Bool
 is_list_mark byte = byte == 44 || byte == 124
 
+-- a space, or one of `,|/=[<`, at which a word with a hyphen that is no name ends
+abbrev pub is_foreign_end : ℕ → Bool
+is_foreign_end byte =
+    byte == 32 || byte == 44 || byte == 124 || byte == 47 || byte == 61 || byte == 91 || byte == 60
+
+-- a space, or one of `:=)-,|`, which may come before a help text
+abbrev pub is_help_mark : ℕ → Bool
+is_help_mark byte =
+    byte == 32 || byte == 58 || byte == 61 || byte == 41 || byte == 45 || byte == 44 || byte == 124
+
 -- the byte is in the class
 unfoldable pub in_class : Class → ℕ → Bool
 in_class Blank byte = byte == 32
@@ -77,6 +87,8 @@ in_class WordByte byte = not (byte == 32)
 in_class ListMark byte = is_list_mark byte
 in_class ListByte byte = is_plain_byte byte || byte == 32 || is_list_mark byte
 in_class LabelByte byte = is_label_byte byte
+in_class ForeignByte byte = not (is_foreign_end byte)
+in_class HelpMark byte = is_help_mark byte
 
 -- the text begins with a byte of the class
 unfoldable pub begins : Class → List ℕ → Bool

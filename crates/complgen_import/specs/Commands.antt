@@ -1,14 +1,15 @@
 -- The commands in a help text.
-use Rattle.std.specs.Prelude.{◌≡◌, ℕ, true, List, [], ◌∷◌, ◌++◌, ◌==◌, if◌then◌else◌, length, map}
+use Rattle.std.specs.Prelude.{◌≡◌, ℕ, true, false, List, [], ◌∷◌, ◌++◌, ◌==◌, if◌then◌else◌, length, map}
 use Rattle.std.specs.List.{flat_map}
 use Rattle.cc_base.specs.Differ.{AllDifferBy}
 use Rattle.cc_base.specs.PlainName.{is_plain_name}
 use Rattle.complgen_import.specs.declared.commands.Command.{Command}
 use Rattle.complgen_import.specs.declared.commands.Entry.{Entry}
 use Rattle.complgen_import.specs.declared.sections.Section.{Section}
-use Rattle.complgen_import.specs.declared.sections.Section.TheVariants.{Other}
+use Rattle.complgen_import.specs.declared.sections.Section.TheVariants.{Other, Opened}
 use Rattle.complgen_import.specs.Aliases.{names_after, note_in, noted_names, without_note}
-use Rattle.complgen_import.specs.Braces.{brace_names}
+use Rattle.complgen_import.specs.Braces.{braces_of}
+use Rattle.complgen_import.specs.CommandWord.{command_word, is_over_entries}
 use Rattle.complgen_import.specs.Entries.{entry_help, entry_name, entry_rest, indent_of}
 use Rattle.complgen_import.specs.Lines.{IsAmong, lines_of}
 use Rattle.complgen_import.specs.NameLists.{listed_names, section_next}
@@ -49,12 +50,15 @@ line_entries program section line lines =
     if length (listed_names section line lines) == 0 then entry_at program section line lines
     else map alone (listed_names section line lines)
 
--- the entries of all lines, from a section on
-unfoldable pub entries_of : List ℕ → Section → List (List ℕ) → List Entry
-entries_of program section [] = []
-entries_of program section (line ∷ lines) =
-    line_entries program section line lines
-    ++ entries_of program (section_next program section line lines) lines
+-- The entries of all lines, from a section on. A line above subcommands, as `word` in the usage of
+-- argparse, begins a section.
+unfoldable pub entries_of : List ℕ → List ℕ → Section → List (List ℕ) → List Entry
+entries_of program word section [] = []
+entries_of program word section (line ∷ lines) = elim (is_over_entries program word line lines) [
+  | true ↦ entries_of program word Opened lines
+  | false ↦ line_entries program section line lines
+      ++ entries_of program word (section_next program section line lines) lines
+]
 
 -- the command with these names, if there are any
 unfoldable pub named : List (List ℕ) → List ℕ → List Command
@@ -72,7 +76,8 @@ commands_from said (entry ∷ entries) =
 -- so an entry with the same name comes first.
 abbrev pub text_entries : List ℕ → List ℕ → List Entry
 text_entries program text =
-    entries_of program Other (lines_of text) ++ map alone (flat_map brace_names (lines_of text))
+    entries_of program (command_word (lines_of text)) Other (lines_of text)
+    ++ map alone (braces_of (lines_of text))
 
 -- the commands of a text that a program prints
 abbrev pub commands_of : List ℕ → List ℕ → List Command

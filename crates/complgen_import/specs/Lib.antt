@@ -5,7 +5,9 @@ pub mod Arguments
 pub mod Braces
 pub mod Classes
 pub mod Clean
+pub mod CommandWord
 pub mod Commands
+pub mod Dots
 pub mod Dropped
 pub mod Entries
 pub mod Form

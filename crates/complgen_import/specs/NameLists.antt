@@ -3,11 +3,10 @@ use Rattle.std.specs.Prelude.{ℕ, Bool, false, not, ◌&&◌, ◌||◌, ◌==�
 use Rattle.std.specs.List.{flat_map, list_all}
 use Rattle.cc_base.specs.Bytes.{colon}
 use Rattle.complgen_import.specs.declared.sections.Section.{Section}
-use Rattle.complgen_import.specs.declared.sections.Section.TheVariants.{Other, Opened, Entries, Listed, Positional}
+use Rattle.complgen_import.specs.declared.sections.Section.TheVariants.{Other, Opened, Entries, Listed}
 use Rattle.complgen_import.specs.Aliases.{part_name, parts_by}
-use Rattle.complgen_import.specs.Braces.{section_in}
 use Rattle.complgen_import.specs.Entries.{indent_of}
-use Rattle.complgen_import.specs.Sections.{ends_in, is_heading}
+use Rattle.complgen_import.specs.Sections.{ends_in, is_heading, section_after}
 use Rattle.complgen_import.specs.Spread.{has_phrase, is_between}
 use Rattle.complgen_import.specs.Unfolded.{is_dashed}
 
@@ -28,7 +27,6 @@ unfoldable pub may_list : Section → ℕ → List ℕ → Bool
 may_list Other count line = false
 may_list Opened count line = nat_lt 2 count
 may_list (Entries columns) count line = false
-may_list Positional count line = false
 may_list (Listed indent) count line = not (nat_lt (indent_of line) indent)
 
 -- the line is one of a list
@@ -44,5 +42,5 @@ listed_names section line lines = if is_in_list section line lines then words_na
 -- the section after a line, which may be one of a list
 abbrev pub section_next : List ℕ → Section → List ℕ → List (List ℕ) → Section
 section_next program section line lines =
-    if length (listed_names section line lines) == 0 then section_in program section line lines
+    if length (listed_names section line lines) == 0 then section_after program section line lines
     else Listed (indent_of line)

@@ -1,4 +1,4 @@
--- What holds for the positionals of a text.
+-- Laws of the positionals of a text.
 use Rattle.std.specs.Prelude.{◌≡◌, ◌≢◌, ℕ, true, List, [], ◌∷◌}
 use Rattle.cc_base.specs.Differ.{AllDifferBy}
 use Rattle.complgen_import.specs.declared.tree_argument.TreeArgument.{TreeArgument}

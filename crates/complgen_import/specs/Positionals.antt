@@ -1,5 +1,5 @@
 -- The positionals in a help text.
-use Rattle.std.specs.Prelude.{ℕ, Bool, true, false, not, ◌||◌, ◌&&◌, ◌==◌, ◌-◌, List, [], ◌∷◌, ◌++◌, Option, Some, None, codes, if◌then◌else◌, is_some, length, map, nat_lt}
+use Rattle.std.specs.Prelude.{ℕ, Bool, true, false, not, ◌||◌, ◌&&◌, ◌==◌, List, [], ◌∷◌, ◌++◌, Option, Some, None, bytes_eq, codes, if◌then◌else◌, length, map, nat_lt}
 use Rattle.std.specs.List.{list_any}
 use Rattle.std.specs.Option.{option_or, option_and_then, option_map}
 use Rattle.std.specs.Str.{str_eq_ignore_ascii_case}
@@ -15,13 +15,14 @@ use Rattle.complgen_import.specs.declared.tree_argument.TreeArgument.{TreeArgume
 use Rattle.complgen_import.specs.declared.tree_argument.TreeNames.{TreeNames}
 use Rattle.complgen_import.specs.declared.tree_argument.TreeValues.{TreeValues}
 use Rattle.complgen_import.specs.Classes.{past}
+use Rattle.complgen_import.specs.CommandWord.{command_word}
 use Rattle.complgen_import.specs.Entries.{indent_of}
 use Rattle.complgen_import.specs.Form.{is_tail}
 use Rattle.complgen_import.specs.Lines.{lines_of}
 use Rattle.complgen_import.specs.Names.{is_said, said_after}
 use Rattle.complgen_import.specs.Possible.{first_list, help_choices, mark_choices}
 use Rattle.complgen_import.specs.Reading.{Read, held_at, mark_at, read_as}
-use Rattle.complgen_import.specs.Sections.{is_blank, next_indent}
+use Rattle.complgen_import.specs.Sections.{has_entries_below, is_blank}
 use Rattle.complgen_import.specs.TreeArguments.{mark_held, singled}
 use Rattle.complgen_import.specs.Unfolded.{help_of}
 use Rattle.complgen_import.specs.ValueHints.{hint_beside}
@@ -92,30 +93,22 @@ may_be_entry (Inside entry) indent = indent == entry
 
 -- ---- subcommands in such a section
 
--- argparse lists subcommands two columns deeper, below an entry for all
-abbrev pub has_entries_below : List ℕ → List (List ℕ) → Bool
-has_entries_below line lines = next_indent lines - indent_of line == 2
+-- the text after a brace and these names
+unfoldable pub past_names : List ℕ → List ℕ → Option (List ℕ)
+past_names names word = option_and_then (after names) (after (codes "{") word)
 
 -- argparse has dots after the names of all subcommands, in the usage: `{a,b} ...`
-unfoldable pub rest_at : List ℕ → List ℕ → Option (List ℕ)
-rest_at held text = option_and_then (after (codes "} ..."))
-    (option_and_then (after held) (after (codes "{") text))
-
-abbrev pub has_rest_at : List ℕ → List ℕ → Bool
-has_rest_at held text = is_some (rest_at held text)
-
-unfoldable pub holds_rest : List ℕ → List ℕ → Bool
-holds_rest held [] = false
-holds_rest held (byte ∷ text) = has_rest_at held (byte ∷ text) || holds_rest held text
-
 unfoldable pub is_parser : List ℕ → Mark → Bool
-is_parser text (Curly held) = holds_rest held text
-is_parser text (Angle held) = false
-is_parser text (Word word) = false
+is_parser word (Curly held) = elim (past_names held word) [
+  | Some rest ↦ bytes_eq rest (codes "}")
+  | None ↦ false
+]
+is_parser word (Angle held) = false
+is_parser word (Word name) = false
 
--- the entry stands for subcommands
+-- The entry stands for subcommands. `word` is the word before dots in the usage.
 abbrev pub stands_for_commands : List ℕ → Mark → List ℕ → List (List ℕ) → Bool
-stands_for_commands text mark line lines = is_parser text mark || has_entries_below line lines
+stands_for_commands word mark line lines = is_parser word mark || has_entries_below line lines
 
 -- ---- arguments
 
@@ -153,26 +146,26 @@ positional value help = record {
 
 -- the argument of an entry, unless it stands for subcommands
 unfoldable pub of_entry : List ℕ → List ℕ → List (List ℕ) → Value × List ℕ → List TreeArgument
-of_entry text line lines read =
-    if stands_for_commands text read.0.mark line lines then []
+of_entry word line lines read =
+    if stands_for_commands word read.0.mark line lines then []
     else positional read.0 (label_help read.1 line lines) ∷ []
 
 unfoldable pub of_line : List ℕ → List ℕ → List (List ℕ) → List TreeArgument
-of_line text line lines = elim (label_at (past BlankByte line)) [
-  | Some read ↦ of_entry text line lines read
+of_line word line lines = elim (label_at (past BlankByte line)) [
+  | Some read ↦ of_entry word line lines read
   | None ↦ []
 ]
 
 abbrev pub positional_at : List ℕ → Place → List ℕ → List (List ℕ) → List TreeArgument
-positional_at text place line lines =
+positional_at word place line lines =
     if not (is_of_positionals line) && may_be_entry place (indent_of line)
-    then of_line text line lines else []
+    then of_line word line lines else []
 
--- the arguments of all entries of a text, from a place on
+-- the arguments of all entries, from a place on
 unfoldable pub positionals_from : List ℕ → Place → List (List ℕ) → List TreeArgument
-positionals_from text place [] = []
-positionals_from text place (line ∷ lines) =
-    positional_at text place line lines ++ positionals_from text (place_past place line) lines
+positionals_from word place [] = []
+positionals_from word place (line ∷ lines) =
+    positional_at word place line lines ++ positionals_from word (place_past place line) lines
 
 -- ---- the arguments that are kept
 
@@ -204,4 +197,5 @@ ids_of arguments = map (λ argument. argument.names.id) arguments
 
 abbrev pub positionals_of : List TreeArgument → List ℕ → List TreeArgument
 positionals_of options text =
-    first_positionals (said_after [] (ids_of options)) (positionals_from text Outside (lines_of text))
+    first_positionals (said_after [] (ids_of options))
+    (positionals_from (command_word (lines_of text)) Outside (lines_of text))

@@ -1,4 +1,4 @@
--- What holds for the possible values of arguments.
+-- Laws of the possible values of arguments.
 use Rattle.std.specs.Prelude.{◌≡◌, ◌⊎◌, ℕ, Bool, true, false, List, [], ◌∷◌, ◌++◌, None}
 use Rattle.std.specs.List.{list_all}
 use Rattle.cc_base.specs.Differ.{AllDifferBy}

@@ -1,5 +1,5 @@
 -- Headings, and the sections of commands that they begin.
-use Rattle.std.specs.Prelude.{ℕ, Bool, true, false, not, ◌||◌, ◌&&◌, ◌==◌, List, [], ◌∷◌, bytes_eq, codes, if◌then◌else◌, is_some, length, nat_lt}
+use Rattle.std.specs.Prelude.{ℕ, Bool, true, false, not, ◌||◌, ◌&&◌, ◌==◌, ◌-◌, List, [], ◌∷◌, codes, if◌then◌else◌, is_some, length, nat_lt}
 use Rattle.std.specs.Char.{is_ascii_lowercase}
 use Rattle.std.specs.List.{list_any}
 use Rattle.std.specs.Str.{str_to_ascii_lowercase}
@@ -7,7 +7,7 @@ use Rattle.cc_base.specs.Bytes.{colon}
 use Rattle.cc_base.specs.Found.{after}
 use Rattle.complgen_import.specs.declared.class.Class.TheVariants.{Blank as BlankByte, HeadingByte, BeforeNote}
 use Rattle.complgen_import.specs.declared.sections.Section.{Section}
-use Rattle.complgen_import.specs.declared.sections.Section.TheVariants.{Other, Opened, Entries, Listed, Positional}
+use Rattle.complgen_import.specs.declared.sections.Section.TheVariants.{Other, Opened, Entries, Listed}
 use Rattle.complgen_import.specs.Classes.{begins, past, run}
 use Rattle.complgen_import.specs.Entries.{columns_of, indent_of, is_entry}
 use Rattle.complgen_import.specs.Spread.{has_phrase}
@@ -39,6 +39,10 @@ next_indent (line ∷ lines) = elim (is_blank line) [
 -- the next line that is not blank is deeper than the line
 abbrev pub is_above : List ℕ → List (List ℕ) → Bool
 is_above line lines = nat_lt (indent_of line) (next_indent lines)
+
+-- the next line that is not blank is two columns deeper, as argparse lists subcommands
+abbrev pub has_entries_below : List ℕ → List (List ℕ) → Bool
+has_entries_below line lines = next_indent lines - indent_of line == 2
 
 -- `Commands:`, before deeper lines or without an indent
 abbrev pub is_labelled : List ℕ → List (List ℕ) → Bool
@@ -101,10 +105,6 @@ says_other text = says_options text || says_notes text
 abbrev pub is_of_commands : List ℕ → Bool
 is_of_commands text = says_commands (lower text) && not (says_other (lower text))
 
--- the heading that argparse writes over positional arguments
-abbrev pub is_of_positionals : List ℕ → Bool
-is_of_positionals text = bytes_eq (lower text) (codes "positional arguments:")
-
 -- A heading among commands, such as `work on the current change (see also: git help everyday)`. The
 -- words in parentheses do not count.
 abbrev pub is_among_commands : List ℕ → Bool
@@ -118,13 +118,12 @@ is_other Other = true
 is_other Opened = false
 is_other (Entries columns) = false
 is_other (Listed indent) = false
-is_other Positional = true
 
 -- the section that a heading begins
 abbrev pub section_of : Section → List ℕ → Section
 section_of section text =
-    if is_of_commands text || (not (is_other section) && is_among_commands text) then Opened else
-    (if is_of_positionals text then Positional else Other)
+    if is_of_commands text || (not (is_other section) && is_among_commands text) then Opened
+    else Other
 
 -- the line belongs to an entry, or begins one
 abbrev pub is_below : Section → List ℕ → Bool
@@ -136,7 +135,6 @@ unfoldable pub may_be_entry : List ℕ → Section → List ℕ → Bool
 may_be_entry program Other line = false
 may_be_entry program Opened line = is_entry program 0 line
 may_be_entry program (Listed indent) line = false
-may_be_entry program Positional line = false
 may_be_entry program (Entries columns) line =
     indent_of line == columns.entry && is_entry program columns.help line
 
@@ -148,7 +146,6 @@ is_entry_of program section line lines =
 -- a line that is neither in a list of entries nor a heading ends it
 abbrev pub section_left : Section → Section
 section_left Opened = Opened
-section_left Positional = Positional
 section_left section = Other
 
 -- the next line may be one of a list of names

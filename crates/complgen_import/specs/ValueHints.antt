@@ -39,7 +39,9 @@ directory_words =
     ∷ codes "srcdir" ∷ codes "tmpdir" ∷ codes "workdir" ∷ codes "sysroot" ∷ []
 
 unfoldable pub path_words : List (List ℕ)
-path_words = codes "path" ∷ codes "pathname" ∷ codes "pathspec" ∷ []
+path_words =
+    codes "path" ∷ codes "pathname" ∷ codes "pathspec" ∷ codes "source" ∷ codes "src"
+    ∷ codes "destination" ∷ codes "dest" ∷ codes "dst" ∷ codes "input" ∷ codes "output" ∷ []
 
 unfoldable pub program_words : List (List ℕ)
 program_words =

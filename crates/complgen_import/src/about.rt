@@ -17,7 +17,7 @@ use crate::tree_argument::singled;
 use cc_base::Items;
 use std::alloc::{AllocError, Global};
 
-/// How far the description was read.
+/// The part of the description that was read.
 #[derive(Clone, Copy, Drop)]
 pub(crate) enum Progress {
     /// It was not found yet.

@@ -1,66 +1,71 @@
 //! Classes of bytes.
 
 ghost use Rattle.std.specs.Prelude.{◌≡◌};
-ghost use Rattle.complgen_import.specs.Classes.{in_class, is_capital_byte, is_label_byte, is_list_mark, is_name_byte, is_opening, is_padding, is_plain_byte, is_quiet_byte, is_small_byte};
+ghost use Rattle.complgen_import.specs.Classes.{in_class, is_capital_byte, is_foreign_end, is_help_mark, is_label_byte, is_list_mark, is_name_byte, is_opening, is_padding, is_plain_byte, is_quiet_byte, is_small_byte};
 
 /// A class of bytes.
 #[derive(Clone, Copy, Drop)]
-pub(crate) enum Class {
+pub enum Class {
+    /// A space.
     Blank,
-    // a letter, a digit, or one of `_.:+-`
+    /// A letter, a digit, or one of `_.:+-`.
     NameByte,
-    // a name byte, or one of `/@%`
+    /// A name byte, or one of `/@%`.
     ValueByte,
-    // `A` to `Z`
+    /// `A` to `Z`.
     Capital,
-    // a capital, a digit, `_` or `-`
+    /// A capital, a digit, `_` or `-`.
     CapitalByte,
-    // `a` to `z`
+    /// `a` to `z`.
     Small,
-    // a letter, a digit, or one of `_-.:/`
+    /// A letter, a digit, or one of `_-.:/`.
     SmallByte,
-    // any byte except a line feed
+    /// Any byte except a line feed.
     InLine,
-    // any byte except `<` and `>`
+    /// Any byte except `<` and `>`.
     InAngles,
-    // any byte except `{` and `}`
+    /// Any byte except `{` and `}`.
     InCurlies,
-    // any byte except `[` and `]`
+    /// Any byte except `[` and `]`.
     InSquares,
-    // a letter, a digit, `-` or `_`
+    /// A letter, a digit, `-` or `_`.
     PlainByte,
-    // one of `<[{`
+    /// One of `<[{`.
     Opening,
-    // any byte except `-` and one of `<[{`
+    /// Any byte except `-` and one of `<[{`.
     HeadingByte,
-    // any byte except `(`
+    /// Any byte except `(`.
     BeforeNote,
-    // any byte except `(` and `)`
+    /// Any byte except `(` and `)`.
     InParentheses,
-    // `A` to `Z`, or `a` to `z`
+    /// `A` to `Z`, or `a` to `z`.
     Letter,
-    // a letter, a digit, or one of `+-./:@_,=`
+    /// A letter, a digit, or one of `+-./:@_,=`.
     QuietByte,
-    // a space or a quote
+    /// A space or a quote.
     Padding,
-    // any byte except `|`
+    /// Any byte except `|`.
     BeforeBar,
-    // any byte except `|` and `,`
+    /// Any byte except `|` and `,`.
     InChoice,
-    // any byte except a space
+    /// Any byte except a space.
     WordByte,
-    // a comma or a bar
+    /// A comma or a bar.
     ListMark,
-    // a plain byte, a space, a comma or a bar
+    /// A plain byte, a space, a comma or a bar.
     ListByte,
-    // a letter, a digit, a space, or one of `-_./=,|`
+    /// A letter, a digit, a space, or one of `-_./=,|`.
     LabelByte,
+    /// Any byte except a space and one of `,|/=[<`.
+    ForeignByte,
+    /// A space, or one of `:=)-,|`.
+    HelpMark,
 }
 
 impl Class {
     /// Returns whether the byte is in this class.
     #[tactic(auto, unfolding(crate::specs::Classes::in_class))]
-    pub(crate) fn has(self, byte: u8) -> bool
+    pub fn has(self, byte: u8) -> bool
         ensures { result ≡ in_class self byte }
     {
         match self {
@@ -89,6 +94,8 @@ impl Class {
             Class::ListMark => is_list_mark(byte),
             Class::ListByte => is_plain_byte(byte) || byte == b' ' || is_list_mark(byte),
             Class::LabelByte => is_label_byte(byte),
+            Class::ForeignByte => !is_foreign_end(byte),
+            Class::HelpMark => is_help_mark(byte),
         }
     }
 }
@@ -149,4 +156,16 @@ fn is_list_mark(byte: u8) -> bool
     ensures { result ≡ is_list_mark byte }
 {
     matches!(byte, b',' | b'|')
+}
+
+fn is_foreign_end(byte: u8) -> bool
+    ensures { result ≡ is_foreign_end byte }
+{
+    matches!(byte, b' ' | b',' | b'|' | b'/' | b'=' | b'[' | b'<')
+}
+
+fn is_help_mark(byte: u8) -> bool
+    ensures { result ≡ is_help_mark byte }
+{
+    matches!(byte, b' ' | b':' | b'=' | b')' | b'-' | b',' | b'|')
 }

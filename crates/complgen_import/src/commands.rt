@@ -1,13 +1,15 @@
 //! The commands in a help text.
 
 ghost use Rattle.std.specs.Prelude.{◌≡◌, ◌++◌, [], IfOk, OnOk, map};
-ghost use Rattle.complgen_import.specs.declared.sections.Section.TheVariants.{Other as InOther};
+ghost use Rattle.complgen_import.specs.declared.sections.Section.TheVariants.{Other as InOther, Opened as InOpened};
+ghost use Rattle.complgen_import.specs.CommandWord.{command_word};
 ghost use Rattle.complgen_import.specs.Commands.{HasCommandsOnce, HasEachEntry, HasNamesOf, about_of, alone, commands_from, commands_of, entries_of, entry_at, entry_names, entry_of, line_entries, named};
 ghost use Rattle.complgen_import.specs.Lines.{lines_left, lines_of};
 ghost use Rattle.complgen_import.specs.NameLists.{section_next};
 
 use crate::aliases::{push_names_after, push_noted_names, without_note};
-use crate::braces::{brace_names, section_in};
+use crate::braces::brace_names;
+use crate::command_word::{command_word, is_over_entries};
 use crate::entries::{entry_help, indent_of, split_entry};
 use crate::lines::Lines;
 use crate::name_lists::listed_names;
@@ -40,9 +42,11 @@ pub(crate) struct Entry {
 }
 
 /// Reads the subcommands in the help text `text`: the entries of the sections whose headings are of
-/// commands, and the names in braces of usage lines such as `sew {hem,knot} ...`. If several entries have the same name, the first keeps it. An entry without a name of
-/// its own is left out. `program` is the name of the program and of the command that printed the text,
-/// such as `git remote`, which may be before the name of an entry.
+/// commands, those below a line that stands for all, as argparse writes it, and the names in braces
+/// of usage lines such as `sew {hem,knot} ...`. If several entries have the same name, the first
+/// keeps it. An entry without a name of its own is left out. `program` is the name of the program
+/// and of the command that printed the text, such as `git remote`, which may be before the name of
+/// an entry.
 ///
 /// # Errors
 ///
@@ -60,19 +64,29 @@ pub fn read_commands(
     // No name appears twice.
     ensures once { IfOk result (λ commands. HasCommandsOnce commands) }
 {
-    let mut entries = entries(alloc, program, text)?;
+    let mut entries = entries(alloc, program, command_word(text), text)?;
     push_alone(alloc, &mut entries, brace_names(alloc, text)?)?;
     Ok(commands_from(alloc, entries)?)
 }
 
-// Returns the entries of all sections of commands.
-fn entries(alloc: Global, program: &[u8], text: &[u8]) -> Result<Vec<Entry>, AllocError>
-    ensures { IfOk result (λ entries. entries.items ≡ entries_of program.now InOther (lines_of text.now)) }
+// Returns the entries of all sections of commands. `word` stands for all subcommands.
+fn entries(
+    alloc: Global,
+    program: &[u8],
+    word: &[u8],
+    text: &[u8],
+) -> Result<Vec<Entry>, AllocError>
+    ensures { IfOk result (λ entries. entries.items
+        ≡ entries_of program.now word.now InOther (lines_of text.now)) }
 {
     let mut entries = Vec::new(alloc);
     let mut section = Section::Other;
     let mut lines = Lines::new(text);
     while let Some(line) = lines.next() {
+        if is_over_entries(program, word, line.as_slice(), &lines) {
+            section = Section::Opened;
+            continue;
+        }
         section = read_line(
             alloc,
             &mut entries,
@@ -101,7 +115,7 @@ fn read_line(
     let names = listed_names(alloc, section, line, lines)?;
     if names.is_empty() {
         push_entry(alloc, entries, section, program, line, lines)?;
-        return section_in(alloc, section, program, line, lines);
+        return section.after(alloc, program, line, lines);
     }
     push_alone(alloc, entries, names)?;
     Ok(Section::Listed(indent_of(line)))

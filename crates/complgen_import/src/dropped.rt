@@ -24,11 +24,11 @@ pub struct DroppedLine {
     pub number: usize,
     /// Its first word, without control characters.
     pub word: Items<u8>,
-    /// Why it gives no name.
+    /// The reason.
     pub reason: DropReason,
 }
 
-/// Why a line gives no name.
+/// A reason for which a line gives no name.
 #[derive(Clone, Copy, Drop)]
 pub enum DropReason {
     /// A word of several letters has one hyphen, as in `-Xmx`.

@@ -36,7 +36,7 @@ impl Columns {
 }
 
 /// Returns the number of spaces before the line.
-pub(crate) fn indent_of(line: &[u8]) -> usize
+pub fn indent_of(line: &[u8]) -> usize
     ensures { result ≡ indent_of line.now }
 {
     let (blanks, _) = split_run(Class::Blank, line);

@@ -10,7 +10,7 @@ use crate::class::Class;
 
 /// Returns the text after `front`, or `None` if the text does not begin with it.
 #[tactic(auto, using(crate::proofs::FrontsRead::after_stripped))]
-pub(crate) fn after<'a>(front: &[u8], text: &'a [u8]) -> Option<&'a [u8]>
+pub fn after<'a>(front: &[u8], text: &'a [u8]) -> Option<&'a [u8]>
     ensures { option_copied result ≡ after front.now text.now }
 {
     text.strip_prefix(front)
@@ -18,7 +18,7 @@ pub(crate) fn after<'a>(front: &[u8], text: &'a [u8]) -> Option<&'a [u8]>
 
 /// Returns the text before `ending`, or `None` if the text does not end with it.
 #[tactic(auto, using(crate::proofs::DotsRead::ending_stripped))]
-pub(crate) fn before_ending<'a>(ending: &[u8], text: &'a [u8]) -> Option<&'a [u8]>
+pub fn before_ending<'a>(ending: &[u8], text: &'a [u8]) -> Option<&'a [u8]>
     ensures { option_copied result ≡ before_ending ending.now text.now }
 {
     text.strip_suffix(ending)
@@ -26,7 +26,7 @@ pub(crate) fn before_ending<'a>(ending: &[u8], text: &'a [u8]) -> Option<&'a [u8
 
 /// Returns whether the text begins with a byte of the class.
 #[tactic(auto, unfolding(crate::specs::Classes::begins))]
-pub(crate) fn begins(class: Class, text: &[u8]) -> bool
+pub fn begins(class: Class, text: &[u8]) -> bool
     ensures { result ≡ begins class text.now }
 {
     match text.split_first() {
@@ -37,7 +37,7 @@ pub(crate) fn begins(class: Class, text: &[u8]) -> bool
 
 /// Returns the bytes of the class at the beginning of the text, and the text after them.
 #[tactic(auto, using(crate::proofs::FrontsRead::take_run, crate::proofs::FrontsRead::drop_run))]
-pub(crate) fn split_run<'a>(class: Class, text: &'a [u8]) -> (Bytes<'a>, Bytes<'a>)
+pub fn split_run<'a>(class: Class, text: &'a [u8]) -> (Bytes<'a>, Bytes<'a>)
     ensures front { result.0 ≡ run class text.now }
     ensures rest { result.1 ≡ past class text.now }
 {

@@ -4,7 +4,7 @@ ghost use Rattle.std.specs.Prelude.{◌≡◌, IfOk};
 ghost use Rattle.std.specs.Char.{is_ascii_lowercase};
 ghost use Rattle.std.specs.List.{list_any};
 ghost use Rattle.complgen_import.specs.Lines.{lines_left};
-ghost use Rattle.complgen_import.specs.Sections.{ends_in, holds, is_above, is_above_names, is_among_commands, is_bare, is_blank, is_heading, is_labelled, is_of_commands, is_of_positionals, is_over_names, is_title, is_upper, next_indent, says_commands, says_notes, says_options, says_other};
+ghost use Rattle.complgen_import.specs.Sections.{ends_in, has_entries_below, holds, is_above, is_above_names, is_among_commands, is_bare, is_blank, is_heading, is_labelled, is_of_commands, is_over_names, is_title, is_upper, next_indent, says_commands, says_notes, says_options, says_other};
 
 use crate::class::Class;
 use crate::entries::indent_of;
@@ -23,7 +23,7 @@ pub(crate) fn is_heading(line: &[u8], lines: &Lines) -> bool
 }
 
 /// Returns whether the line has no text.
-pub(crate) fn is_blank(line: &[u8]) -> bool
+pub fn is_blank(line: &[u8]) -> bool
     ensures { result ≡ is_blank line.now }
 {
     let (_, text) = split_run(Class::Blank, line);
@@ -72,8 +72,15 @@ fn is_above(line: &[u8], lines: &Lines) -> bool
     indent_of(line) < next_indent(lines.ahead())
 }
 
-/// Returns the indent of the next line with a text.
-pub(crate) fn next_indent(lines: Lines) -> usize
+/// Returns whether the next line with a text is two columns deeper, as argparse lists subcommands.
+pub(crate) fn has_entries_below(line: &[u8], lines: &Lines) -> bool
+    ensures { result ≡ has_entries_below line.now (lines_left lines.now) }
+{
+    next_indent(lines.ahead()).saturating_sub(indent_of(line)) == 2
+}
+
+// Returns the indent of the next line with a text.
+fn next_indent(lines: Lines) -> usize
     ensures { result ≡ next_indent (lines_left lines.entry) }
 {
     for line in lines {
@@ -93,7 +100,7 @@ fn is_title(text: &[u8]) -> bool
 }
 
 /// Returns whether the text has no lower-case letter.
-pub(crate) fn is_upper(text: &[u8]) -> bool
+pub fn is_upper(text: &[u8]) -> bool
     ensures { result ≡ is_upper text.now }
 {
     !has_lower(text)
@@ -106,7 +113,7 @@ fn has_lower(text: &[u8]) -> bool
 }
 
 /// Returns whether the text ends in the byte `last`.
-pub(crate) fn ends_in(last: u8, text: &[u8]) -> bool
+pub fn ends_in(last: u8, text: &[u8]) -> bool
     ensures { result ≡ ends_in last text.now }
 {
     match text.last() {
@@ -116,7 +123,7 @@ pub(crate) fn ends_in(last: u8, text: &[u8]) -> bool
 }
 
 /// Returns whether the text contains `part`.
-pub(crate) fn holds(part: &[u8], text: &[u8]) -> bool
+pub fn holds(part: &[u8], text: &[u8]) -> bool
     ensures { result ≡ holds part.now text.now }
 {
     for at in 0..text.len() {
@@ -139,18 +146,6 @@ pub(crate) fn is_of_commands(alloc: Global, text: &[u8]) -> Result<bool, AllocEr
 {
     let lower = text.to_ascii_lowercase(alloc)?;
     Ok(says_commands(lower.as_slice()) && !says_other(lower.as_slice()))
-}
-
-/// Returns whether a heading is that which argparse writes over positional arguments.
-///
-/// # Errors
-///
-/// `AllocError` if an allocation fails.
-pub(crate) fn is_of_positionals(alloc: Global, text: &[u8]) -> Result<bool, AllocError>
-    ensures { IfOk result (λ is. is ≡ is_of_positionals text.now) }
-{
-    let lower = text.to_ascii_lowercase(alloc)?;
-    Ok(lower.as_slice() == b"positional arguments:".as_slice())
 }
 
 /// Returns whether a heading in a section of commands continues it.

@@ -57,7 +57,7 @@ fn may_list(section: Section, count: usize, line: &[u8]) -> bool
     match section {
         Section::Opened => count > 2,
         Section::Listed(indent) => indent_of(line) >= indent,
-        Section::Other | Section::Entries(_) | Section::Positional => false,
+        Section::Other | Section::Entries(_) => false,
     }
 }
 

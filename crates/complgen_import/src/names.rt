@@ -11,7 +11,7 @@ use crate::words::is_word;
 
 /// Reads a name and its hyphens at the beginning of the text.
 #[tactic(auto, unfolding(crate::specs::Reading::name_at))]
-pub(crate) fn name_at<'a>(text: &'a [u8]) -> Option<(Name<'a>, Bytes<'a>)>
+pub fn name_at<'a>(text: &'a [u8]) -> Option<(Name<'a>, Bytes<'a>)>
     ensures { result ≡ name_at text.now }
 {
     once_name_at(text)

@@ -9,7 +9,7 @@ use crate::fronts::split_run;
 
 /// Iterates over the parts of a text, which are the texts between the bytes outside a class.
 #[derive(Drop)]
-pub(crate) struct Parts<'a> {
+pub struct Parts<'a> {
     class: Class,
     rest: Option<Bytes<'a>>,
 }
@@ -17,7 +17,7 @@ pub(crate) struct Parts<'a> {
 impl<'a> Parts<'a> {
     /// Creates an iterator over the parts of `text`, whose bytes are in `class`.
     #[tactic(auto, unfolding(crate::specs::Parts::parts_of_some))]
-    pub(crate) fn new(class: Class, text: &'a [u8]) -> Parts<'a>
+    pub fn new(class: Class, text: &'a [u8]) -> Parts<'a>
         ensures { parts_left result ≡ parts_of class text.now }
     {
         Parts {

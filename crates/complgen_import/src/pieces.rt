@@ -25,9 +25,9 @@ const SEPARATORS: [Separator; 8] = [
 ];
 
 impl Separator {
-    // Returns the text of the separator.
+    /// Returns the text of the separator.
     #[tactic(auto, unfolding(crate::specs::Form::separator_text))]
-    fn as_bytes(self) -> &'static [u8]
+    pub fn as_bytes(self) -> &'static [u8]
         ensures { result.now ≡ separator_text self }
     {
         match self {
@@ -62,7 +62,7 @@ impl Stage {
 impl<'a> Piece<'a> {
     /// Returns the stage after this piece.
     #[tactic(auto, unfolding(crate::specs::Form::stage_after))]
-    pub(crate) fn stage_after(&self) -> Stage
+    pub fn stage_after(&self) -> Stage
         ensures { result ≡ stage_after self.now }
     {
         match self {
@@ -179,7 +179,8 @@ fn next_at<'a>(stage: Stage, text: &'a [u8]) -> Option<(Piece<'a>, Bytes<'a>)>
     Some((Piece::Next(separator, name), rest))
 }
 
-fn separator_at<'a>(text: &'a [u8]) -> Option<(Separator, Bytes<'a>)>
+/// Reads the separator at the beginning of the text.
+pub fn separator_at<'a>(text: &'a [u8]) -> Option<(Separator, Bytes<'a>)>
     ensures { result ≡ separator_among separators text.now }
 {
     for separator in SEPARATORS {

@@ -11,14 +11,15 @@ ghost use Rattle.complgen_import.specs.Lines.{lines_left, lines_of};
 ghost use Rattle.complgen_import.specs.Names.{Holds, said_after};
 ghost use Rattle.complgen_import.specs.PositionalLaws.{DifferFrom, EndWithRest, HaveIdsOnce, HaveLabelsOf, HaveNoNames};
 ghost use Rattle.complgen_import.specs.PossibleLaws.{HaveQuietValues, HaveSaidValues, HaveValuesOnce};
-ghost use Rattle.complgen_import.specs.Positionals.{after_dots, first_positionals, has_entries_below, has_rest_at, holds_rest, ids_of, is_label, is_of_positionals, is_parser, label_at, label_count, label_help, label_mark, label_names, label_possible, label_values, may_be_entry, of_line, place_below, place_past, positional, positional_at, positionals_from, positionals_of, rest_at, square_mark, stands_for_commands, takes_rest, with_label_dots};
+ghost use Rattle.complgen_import.specs.Positionals.{after_dots, first_positionals, ids_of, is_label, is_of_positionals, is_parser, label_at, label_count, label_help, label_mark, label_names, label_possible, label_values, may_be_entry, of_line, past_names, place_below, place_past, positional, positional_at, positionals_from, positionals_of, square_mark, stands_for_commands, takes_rest, with_label_dots};
 
 use crate::bytes::Bytes;
 use crate::class::Class;
+use crate::command_word::command_word;
 use crate::entries::indent_of;
 use crate::form::{Mark, Value};
 use crate::fronts::{after, split_run};
-use crate::headings::{is_blank, next_indent};
+use crate::headings::{has_entries_below, is_blank};
 use crate::lines::Lines;
 use crate::option_name::OptionName;
 use crate::option_names::insert_name;
@@ -73,20 +74,20 @@ pub fn read_positionals(
     ensures quiet { IfOk result (λ positionals. HaveQuietValues positionals) }
     ensures values_once { IfOk result (λ positionals. HaveValuesOnce positionals) }
 {
-    let entries = entries(alloc, text)?;
+    let entries = entries(alloc, command_word(text), text)?;
     Ok(first_positionals(alloc, options, entries)?)
 }
 
-// Returns the arguments of all entries.
-fn entries(alloc: Global, text: &[u8]) -> Result<Vec<TreeArgument>, AllocError>
+// Returns the arguments of all entries. `word` stands for all subcommands.
+fn entries(alloc: Global, word: &[u8], text: &[u8]) -> Result<Vec<TreeArgument>, AllocError>
     ensures { IfOk result
-        (λ made. made.items ≡ positionals_from text.now OutsideAll (lines_of text.now)) }
+        (λ made. made.items ≡ positionals_from word.now OutsideAll (lines_of text.now)) }
 {
     let mut made = Vec::new(alloc);
     let mut place = Place::Outside;
     let mut lines = Lines::new(text);
     while let Some(line) = lines.next() {
-        push_positional(alloc, &mut made, text, place, line.as_slice(), &lines)?;
+        push_positional(alloc, &mut made, word, place, line.as_slice(), &lines)?;
         place = place.past(line.as_slice());
     }
     Ok(made)
@@ -96,35 +97,35 @@ fn entries(alloc: Global, text: &[u8]) -> Result<Vec<TreeArgument>, AllocError>
 fn push_positional(
     alloc: Global,
     made: &mut Vec<TreeArgument>,
-    text: &[u8],
+    word: &[u8],
     place: Place,
     line: &[u8],
     lines: &Lines,
 ) -> Result<(), AllocError>
     ensures { OnOk result (made.new.items
-        ≡ made.old.items ++ positional_at text.now place line.now (lines_left lines.now)) }
+        ≡ made.old.items ++ positional_at word.now place line.now (lines_left lines.now)) }
 {
     if !place.may_have_entry(line) {
         return Ok(());
     }
-    push_line(alloc, made, text, line, lines)
+    push_line(alloc, made, word, line, lines)
 }
 
 #[tactic(auto, unfolding(crate::specs::Positionals::of_line))]
 fn push_line(
     alloc: Global,
     made: &mut Vec<TreeArgument>,
-    text: &[u8],
+    word: &[u8],
     line: &[u8],
     lines: &Lines,
 ) -> Result<(), AllocError>
     ensures { OnOk result (made.new.items
-        ≡ made.old.items ++ of_line text.now line.now (lines_left lines.now)) }
+        ≡ made.old.items ++ of_line word.now line.now (lines_left lines.now)) }
 {
     let (_, body) = split_run(Class::Blank, line);
     match label_at(body.as_slice()) {
         Some((value, tail)) => {
-            if stands_for_commands(text, &value.mark, line, lines) {
+            if stands_for_commands(word, &value.mark, line, lines) {
                 return Ok(());
             }
             let help = label_help(alloc, tail.as_slice(), line, lines)?;
@@ -208,54 +209,33 @@ fn is_of_positionals(line: &[u8]) -> bool
 // ---- subcommands
 
 // Returns whether the entry stands for subcommands, as argparse writes it.
-fn stands_for_commands(text: &[u8], mark: &Mark, line: &[u8], lines: &Lines) -> bool
-    ensures { result ≡ stands_for_commands text.now mark.now line.now (lines_left lines.now) }
+fn stands_for_commands(word: &[u8], mark: &Mark, line: &[u8], lines: &Lines) -> bool
+    ensures { result ≡ stands_for_commands word.now mark.now line.now (lines_left lines.now) }
 {
-    is_parser(text, mark) || has_entries_below(line, lines)
+    is_parser(word, mark) || has_entries_below(line, lines)
 }
 
-fn has_entries_below(line: &[u8], lines: &Lines) -> bool
-    ensures { result ≡ has_entries_below line.now (lines_left lines.now) }
-{
-    next_indent(lines.ahead()).saturating_sub(indent_of(line)) == 2
-}
-
-// Returns whether the text has dots after the name in braces.
+// Returns whether the word before dots in the usage is the name in braces.
 #[tactic(auto, unfolding(crate::specs::Positionals::is_parser))]
-fn is_parser(text: &[u8], mark: &Mark) -> bool
-    ensures { result ≡ is_parser text.now mark.now }
+fn is_parser(word: &[u8], mark: &Mark) -> bool
+    ensures { result ≡ is_parser word.now mark.now }
 {
     match mark {
-        Mark::Curly(held) => holds_rest(held.as_slice(), text),
+        Mark::Curly(held) => match past_names(held.as_slice(), word) {
+            Some(rest) => rest == b"}".as_slice(),
+            None => false,
+        },
         Mark::Angle(_) | Mark::Word(_) => false,
     }
 }
 
-fn holds_rest(held: &[u8], text: &[u8]) -> bool
-    ensures { result ≡ holds_rest held.now text.now }
+// Returns the text after a brace and these names.
+#[tactic(auto, unfolding(crate::specs::Positionals::past_names))]
+fn past_names<'a>(names: &[u8], word: &'a [u8]) -> Option<&'a [u8]>
+    ensures { option_copied result ≡ past_names names.now word.now }
 {
-    for at in 0..text.len() {
-        if has_rest_at(held, &text[at..]) {
-            return true;
-        }
-    }
-    false
-}
-
-// Returns whether the text begins with the name in braces and dots.
-fn has_rest_at(held: &[u8], text: &[u8]) -> bool
-    ensures { result ≡ has_rest_at held.now text.now }
-{
-    rest_at(held, text).is_some()
-}
-
-#[tactic(auto, unfolding(crate::specs::Positionals::rest_at))]
-fn rest_at<'a>(held: &[u8], text: &'a [u8]) -> Option<&'a [u8]>
-    ensures { option_copied result ≡ rest_at held.now text.now }
-{
-    let names = after(b"{", text)?;
-    let rest = after(held, names)?;
-    after(b"} ...", rest)
+    let rest = after(b"{", word)?;
+    after(names, rest)
 }
 
 // ---- an entry
@@ -317,7 +297,8 @@ fn after_dots<'a>(text: &'a [u8]) -> Option<&'a [u8]>
     after(b"...", text).or_else(|| after(b" ...", text))
 }
 
-fn is_label(name: &[u8]) -> bool
+/// Returns whether scripts show the name as it is.
+pub fn is_label(name: &[u8]) -> bool
     ensures { result ≡ is_label name.now }
 {
     let (_, rest) = split_run(Class::LabelByte, name);

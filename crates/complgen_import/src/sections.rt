@@ -7,9 +7,7 @@ ghost use Rattle.complgen_import.specs.Sections.{is_below, is_entry_of, is_other
 use crate::class::Class;
 use crate::entries::{Columns, indent_of, is_entry};
 use crate::fronts::split_run;
-use crate::headings::{
-    is_among_commands, is_blank, is_heading, is_of_commands, is_of_positionals, is_over_names,
-};
+use crate::headings::{is_among_commands, is_blank, is_heading, is_of_commands, is_over_names};
 use crate::lines::Lines;
 use std::alloc::{AllocError, Global};
 
@@ -24,8 +22,6 @@ pub(crate) enum Section {
     Entries(Columns),
     /// A section of commands, in a list of names with this indent.
     Listed(usize),
-    /// A section of positional arguments.
-    Positional,
 }
 
 impl Section {
@@ -99,16 +95,13 @@ impl Section {
         if of_commands || (!self.is_other() && among_commands) {
             return Ok(Section::Opened);
         }
-        if is_of_positionals(alloc, text)? {
-            return Ok(Section::Positional);
-        }
         Ok(Section::Other)
     }
 
     fn is_other(self) -> bool
         ensures { result ≡ is_other self }
     {
-        matches!(self, Section::Other | Section::Positional)
+        matches!(self, Section::Other)
     }
 
     // Returns the section after a line that is neither in a list of entries nor a heading.
@@ -117,7 +110,6 @@ impl Section {
     {
         match self {
             Section::Opened => Section::Opened,
-            Section::Positional => Section::Positional,
             _ => Section::Other,
         }
     }
@@ -138,7 +130,7 @@ impl Section {
         ensures { result ≡ may_be_entry program.now self line.now }
     {
         match self {
-            Section::Other | Section::Listed(_) | Section::Positional => false,
+            Section::Other | Section::Listed(_) => false,
             Section::Opened => is_entry(program, 0, line),
             Section::Entries(columns) => indent_of(line) == columns.entry
                 && is_entry(program, columns.help, line),

@@ -85,7 +85,7 @@ fn tree_argument(alloc: Global, argument: &Argument) -> Result<TreeArgument, All
     })
 }
 
-/// What a tree file says of the values of an option.
+/// The values of an option in a tree file.
 #[derive(Drop)]
 pub(crate) struct TreeValues {
     pub names: Items<Items<u8>>,
@@ -253,7 +253,7 @@ pub(crate) fn push_copy(
 impl<'a> Mark<'a> {
     /// Returns the name without brackets.
     #[tactic(auto, unfolding(crate::specs::TreeArguments::mark_held))]
-    pub(crate) fn held(&self) -> &'a [u8]
+    pub fn held(&self) -> &'a [u8]
         ensures { result.now ≡ mark_held self.now }
     {
         match self {

@@ -147,7 +147,7 @@ fn continues(indent: usize, line: &[u8]) -> bool
 
 /// Returns whether the text begins with a hyphen.
 #[tactic(auto, unfolding(crate::specs::Unfolded::is_dashed))]
-pub(crate) fn is_dashed(text: &[u8]) -> bool
+pub fn is_dashed(text: &[u8]) -> bool
     ensures { result ≡ is_dashed text.now }
 {
     match text {

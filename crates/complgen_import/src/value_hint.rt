@@ -94,7 +94,18 @@ const DIRECTORY_WORDS: &[&str] = &[
     "sysroot",
 ];
 
-const PATH_WORDS: &[&str] = &["path", "pathname", "pathspec"];
+const PATH_WORDS: &[&str] = &[
+    "path",
+    "pathname",
+    "pathspec",
+    "source",
+    "src",
+    "destination",
+    "dest",
+    "dst",
+    "input",
+    "output",
+];
 
 const ADDRESS_WORDS: &[&str] = &["url", "uri"];
 
@@ -135,14 +146,23 @@ fn hint_of(alloc: Global, names: &[Items<u8>]) -> Result<Option<Hint>, AllocErro
     let Some(name) = names.first() else {
         return Ok(None);
     };
-    let word = last_word(name.as_slice())
-        .as_slice()
-        .to_ascii_lowercase(alloc)?;
+    hint_of_name(alloc, name.as_slice())
+}
+
+/// Returns the kind of values that their name tells by its last word.
+///
+/// # Errors
+///
+/// `AllocError` if an allocation fails.
+pub fn hint_of_name(alloc: Global, name: &[u8]) -> Result<Option<Hint>, AllocError>
+    ensures { IfOk result (λ hint. hint ≡ hint_of_name name.now) }
+{
+    let word = last_word(name).as_slice().to_ascii_lowercase(alloc)?;
     Ok(hint_of_word(word.as_slice()))
 }
 
-// Returns the last word of a name.
-fn last_word<'a>(name: &'a [u8]) -> Bytes<'a>
+/// Returns the last word of a name: the last run of letters.
+pub fn last_word<'a>(name: &'a [u8]) -> Bytes<'a>
     ensures { result ≡ last_word name.now }
 {
     let mut last = Bytes::new(b"");

@@ -44,12 +44,10 @@ fn with_dots<'a>(mark: Mark<'a>, rest: Bytes<'a>) -> (Value<'a>, Bytes<'a>)
     }
 }
 
+/// Reads the name of a value: the text between angle or curly brackets, or a word that begins with a
+/// byte of one class and continues with bytes of another.
 #[tactic(auto, unfolding(crate::specs::Reading::mark_at))]
-pub(crate) fn mark_at<'a>(
-    first: Class,
-    others: Class,
-    text: &'a [u8],
-) -> Option<(Mark<'a>, Bytes<'a>)>
+pub fn mark_at<'a>(first: Class, others: Class, text: &'a [u8]) -> Option<(Mark<'a>, Bytes<'a>)>
     ensures { result ≡ mark_at first others text.now }
 {
     angle_at(text)

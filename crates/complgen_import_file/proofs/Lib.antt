@@ -1,7 +1,10 @@
 pub mod CharacterLaws
+pub mod EitherLabels
 pub mod FileRows
+pub mod GlobalSteps
 pub mod IdLaws
 pub mod Numbers
+pub mod OptionLaws
 pub mod Shown
 pub mod Steps
 pub mod TreeSteps

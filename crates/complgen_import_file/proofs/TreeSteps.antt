@@ -2,33 +2,39 @@
 use Rattle.std.specs.Prelude.{suc, bytes_eq, cond, ◌==◌}
 use Rattle.std.specs.List.{flat_map}
 use Rattle.std.proofs.lemmas.List.{append-nil, at_drop_all, at_drop_more, drop_all, drop_more}
-use Rattle.std.proofs.Common.{◌≡◌, ◌<◌, ◌≤◌, ◌+◌, ◌∷◌, ◌++◌, ◌∙◌, ℕ, true, false, List, [], Option, Some, None, ap, append_assoc, drop, get_or, length, refl, subst, sym}
+use Rattle.std.proofs.Common.{◌≡◌, ◌<◌, ◌≤◌, ◌+◌, ◌∷◌, ◌++◌, ◌∙◌, ℕ, Bool, true, false, List, [], Option, Some, None, ap, append_assoc, drop, get_or, length, refl, subst, sym}
 use Rattle.json.specs.Token.{Token}
 use Rattle.complgen_import.specs.declared.commands.Command.{Command}
 use Rattle.complgen_import_file.specs.declared.read.HelpText.{HelpText}
 use Rattle.complgen_import_file.specs.declared.read.ReadText.{ReadText}
 use Rattle.complgen_import_file.specs.Imported.{AreRead, IsRead}
-use Rattle.complgen_import_file.specs.TreeTokens.{body_tokens, command_tokens, found_tokens, listed_tokens, read_at, read_tokens, subcommands_tokens}
+use Rattle.complgen_import_file.specs.TreeTokens.{body_tokens, command_tokens, found_tokens, is_global, listed_tokens, read_at, read_tokens, subcommands_tokens}
 
 -- ---- the texts at a path
 
-pub body_end : (levels : ℕ) (reads : List ReadText) (path : List ℕ) → levels ≡ 0 → [] ≡ body_tokens levels reads path
+pub subcommands_same : (body other : List ℕ → List Token) (path place : List ℕ) (commands all : List Command) → body ≡ other → path ≡ place → commands ≡ all →
+    subcommands_tokens body path commands ≡ subcommands_tokens other place all
+subcommands_same body other path place commands all b p c =
+    ap (λ f. subcommands_tokens f path commands) b ∙ ap (λ n. subcommands_tokens other n commands) p ∙ ap (subcommands_tokens other place) c
+
+pub body_end : (levels : ℕ) (reads : List ReadText) (inherits : List ℕ → Bool) (path : List ℕ) → levels ≡ 0 → [] ≡ body_tokens levels reads inherits path
 unfolding body_tokens
-body_end levels reads path same = ap (λ n. body_tokens n reads path) (sym same)
+body_end levels reads inherits path same = ap (λ n. body_tokens n reads inherits path) (sym same)
 
-body_more : (levels below : ℕ) (reads : List ReadText) (path : List ℕ) (found : Option ReadText) → levels ≡ suc below → found ≡ read_at path reads →
-    found_tokens (body_tokens below reads) path found ≡ body_tokens levels reads path
+body_more : (levels below : ℕ) (reads : List ReadText) (inherits : List ℕ → Bool) (path : List ℕ) (found : Option ReadText) → levels ≡ suc below → found ≡ read_at path reads →
+    found_tokens (body_tokens below reads) (is_global below reads) inherits found ≡ body_tokens levels reads inherits path
 unfolding body_tokens
-body_more levels below reads path found same is = ap (found_tokens (body_tokens below reads) path) is ∙ ap (λ n. body_tokens n reads path) (sym same)
+body_more levels below reads inherits path found same is =
+    ap (found_tokens (body_tokens below reads) (is_global below reads) inherits) is ∙ ap (λ n. body_tokens n reads inherits path) (sym same)
 
-pub body_some : (levels below : ℕ) (reads : List ReadText) (path : List ℕ) (read : ReadText) → levels ≡ suc below → Some read ≡ read_at path reads →
-    read_tokens (body_tokens below reads) path read ≡ body_tokens levels reads path
+pub body_some : (levels below : ℕ) (reads : List ReadText) (inherits : List ℕ → Bool) (path : List ℕ) (read : ReadText) → levels ≡ suc below → Some read ≡ read_at path reads →
+    read_tokens (body_tokens below reads (is_global below reads read)) inherits (is_global below reads read) read ≡ body_tokens levels reads inherits path
 unfolding found_tokens
-body_some levels below reads path read same is = body_more levels below reads path (Some read) same is
+body_some levels below reads inherits path read same is = body_more levels below reads inherits path (Some read) same is
 
-pub body_none : (levels below : ℕ) (reads : List ReadText) (path : List ℕ) → levels ≡ suc below → None ≡ read_at path reads → [] ≡ body_tokens levels reads path
+pub body_none : (levels below : ℕ) (reads : List ReadText) (inherits : List ℕ → Bool) (path : List ℕ) → levels ≡ suc below → None ≡ read_at path reads → [] ≡ body_tokens levels reads inherits path
 unfolding found_tokens
-body_none levels below reads path same is = body_more levels below reads path None same is
+body_none levels below reads inherits path same is = body_more levels below reads inherits path None same is
 
 at_here : (path : List ℕ) (read : ReadText) (reads : List ReadText) → bytes_eq read.path path ≡ true → read_at path (read ∷ reads) ≡ Some read
 unfolding read_at

@@ -1,3 +1,5 @@
+pub mod BuiltOptions
 pub mod Characters
+pub mod Holding
 pub mod Imported
 pub mod TreeTokens

@@ -1,8 +1,10 @@
 -- A tree file as JSON.
-use Rattle.std.specs.Prelude.{ℕ, zero, suc, Bool, true, false, ◌==◌, List, [], ◌∷◌, ◌++◌, Option, Some, None, bytes_eq, codes, decimal, flat_map, if◌then◌else◌, length, map, min, take}
+use Rattle.std.specs.Prelude.{ℕ, zero, suc, Bool, true, false, ◌&&◌, ◌||◌, ◌==◌, List, [], ◌∷◌, ◌++◌, Option, Some, None, bytes_eq, codes, decimal, flat_map, if◌then◌else◌, is_some, length, map, min, take}
 use Rattle.std.specs.Str.{is_utf8}
 use Rattle.cc_base.specs.Bytes.{space}
+use Rattle.json.specs.Layout.{pretty}
 use Rattle.json.specs.Token.{Token}
+use Rattle.complgen_import.specs.Names.{is_said}
 use Rattle.complgen_import.specs.declared.commands.Command.{Command}
 use Rattle.complgen_import.specs.declared.takes.ValueCount.{ValueCount}
 use Rattle.complgen_import.specs.declared.tree_argument.TreeArgument.{TreeArgument}
@@ -148,10 +150,17 @@ unfoldable pub description_tokens : List ℕ → List ℕ → List Token
 description_tokens key [] = []
 description_tokens key (byte ∷ text) = str_tokens key (description_text (shown (byte ∷ text)))
 
-unfoldable pub argument_tokens : TreeArgument → List Token
-argument_tokens argument =
-    (((Token.begin_object ∷ [] ++ names_tokens argument.names)
+-- a member that says that an argument is global
+unfoldable pub global_tokens : Bool → List Token
+global_tokens true = true_tokens (codes "global")
+global_tokens false = []
+
+-- an argument, which is global or not
+unfoldable pub marked_tokens : Bool → TreeArgument → List Token
+marked_tokens is_global argument =
+    ((((Token.begin_object ∷ [] ++ names_tokens argument.names)
     ++ values_tokens argument)
+    ++ global_tokens is_global)
     ++ description_tokens (codes "help") argument.help)
     ++ Token.end_object ∷ []
 
@@ -167,13 +176,75 @@ positional_tokens positional =
     ++ description_tokens (codes "help") (map forward_slash positional.help))
     ++ Token.end_object ∷ []
 
+-- ---- arguments that commands have in common
+
+-- What a tree file says of an argument that is not global. Two arguments are the same if it says the
+-- same of both: their names, values and help texts.
+abbrev pub written : TreeArgument → List ℕ
+written argument = pretty (marked_tokens false argument)
+
+-- one of the arguments is the one of which a tree file says this
+abbrev pub has : List TreeArgument → List ℕ → Bool
+has arguments said = is_said (map written arguments) said
+
+-- the path of a subcommand: names with a space between them
+unfoldable pub path_below : List ℕ → List ℕ → List ℕ
+path_below [] name = name
+path_below (byte ∷ path) name = (byte ∷ path) ++ (space ∷ name)
+
+-- the first text with this path
+unfoldable pub read_at : List ℕ → List ReadText → Option ReadText
+read_at path [] = None
+read_at path (read ∷ reads) = elim (bytes_eq read.path path) [
+  | true ↦ Some read
+  | false ↦ read_at path reads
+]
+
+-- one of these subcommands has a text
+unfoldable pub has_texts : List ReadText → List ℕ → List Command → Bool
+has_texts reads path [] = false
+has_texts reads path (command ∷ commands) =
+    is_some (read_at (path_below path command.name) reads) || has_texts reads path commands
+
+-- it holds at the path of each of these subcommands
+unfoldable pub holds_below : (List ℕ → Bool) → List ℕ → List Command → Bool
+holds_below holds path [] = true
+holds_below holds path (command ∷ commands) =
+    holds (path_below path command.name) && holds_below holds path commands
+
+-- The text has the argument, and what is below it has it, too. A command without a text counts as
+-- one that has it.
+unfoldable pub is_kept_in : (List ℕ → Bool) → List ℕ → Option ReadText → Bool
+is_kept_in below said None = true
+is_kept_in below said (Some read) =
+    has read.arguments said && holds_below below read.path read.commands
+
+-- the text at the path, and each text below it down to some levels, has the argument
+unfoldable pub is_kept : ℕ → List ReadText → List ℕ → List ℕ → Bool
+is_kept zero reads said path = true
+is_kept (suc levels) reads said path =
+    is_kept_in (is_kept levels reads said) said (read_at path reads)
+
+-- An argument of a text is global if a subcommand has a text, and each text below has it, too.
+abbrev pub is_global : ℕ → List ReadText → ReadText → List ℕ → Bool
+is_global levels reads read said = has_texts reads read.path read.commands
+    && (has read.arguments said
+    && holds_below (is_kept levels reads said) read.path read.commands)
+
+-- an argument, unless a command above has it as a global one
+abbrev pub shared_tokens : (List ℕ → Bool) → (List ℕ → Bool) → TreeArgument → List Token
+shared_tokens inherits globals argument =
+    if inherits (written argument) then []
+    else marked_tokens (globals (written argument)) argument
+
 -- ---- the file
 
 -- a member with the options and the positionals
-unfoldable pub arguments_tokens : List TreeArgument → List TreeArgument → List Token
-arguments_tokens arguments positionals =
+unfoldable pub arguments_tokens : (List ℕ → Bool) → (List ℕ → Bool) → List TreeArgument
+    → List TreeArgument → List Token
+arguments_tokens inherits globals arguments positionals =
     array_tokens (codes "args")
-    (flat_map argument_tokens arguments ++ flat_map positional_tokens positionals)
+    (flat_map (shared_tokens inherits globals) arguments ++ flat_map positional_tokens positionals)
 
 -- a command has no flag `--help` that its arguments do not contain
 unfoldable pub head_tokens : List ℕ → List Token
@@ -182,11 +253,6 @@ head_tokens name =
     ++ true_tokens (codes "disable_help_flag")
 
 -- ---- subcommands
-
--- the path of a subcommand: names with a space between them
-unfoldable pub path_below : List ℕ → List ℕ → List ℕ
-path_below [] name = name
-path_below (byte ∷ path) name = (byte ∷ path) ++ (space ∷ name)
 
 -- its names and its description
 unfoldable pub named_command_tokens : Command → List Token
@@ -213,29 +279,25 @@ subcommands_tokens body path commands =
     listed_tokens (flat_map (command_tokens body path) commands)
 
 -- the arguments and subcommands of a text
-abbrev pub read_tokens : (List ℕ → List Token) → List ℕ → ReadText → List Token
-read_tokens body path read =
-    arguments_tokens read.arguments read.positionals
-    ++ subcommands_tokens body path read.commands
-
--- the first text with this path
-unfoldable pub read_at : List ℕ → List ReadText → Option ReadText
-read_at path [] = None
-read_at path (read ∷ reads) = elim (bytes_eq read.path path) [
-  | true ↦ Some read
-  | false ↦ read_at path reads
-]
+abbrev pub read_tokens : (List ℕ → List Token) → (List ℕ → Bool) → (List ℕ → Bool) → ReadText
+    → List Token
+read_tokens body inherits globals read =
+    arguments_tokens inherits globals read.arguments read.positionals
+    ++ subcommands_tokens body read.path read.commands
 
 -- those of a text, if there is one
-unfoldable pub found_tokens : (List ℕ → List Token) → List ℕ → Option ReadText → List Token
-found_tokens body path (Some read) = read_tokens body path read
-found_tokens body path None = []
+unfoldable pub found_tokens : ((List ℕ → Bool) → List ℕ → List Token)
+    → (ReadText → List ℕ → Bool) → (List ℕ → Bool) → Option ReadText → List Token
+found_tokens body globals inherits (Some read) =
+    read_tokens (body (globals read)) inherits (globals read) read
+found_tokens body globals inherits None = []
 
--- the arguments and subcommands at a path, down to some levels
-unfoldable pub body_tokens : ℕ → List ReadText → List ℕ → List Token
-body_tokens zero reads path = []
-body_tokens (suc levels) reads path =
-    found_tokens (body_tokens levels reads) path (read_at path reads)
+-- The arguments and subcommands at a path, down to some levels. The command inherits some arguments
+-- from those above.
+unfoldable pub body_tokens : ℕ → List ReadText → (List ℕ → Bool) → List ℕ → List Token
+body_tokens zero reads inherits path = []
+body_tokens (suc levels) reads inherits path =
+    found_tokens (body_tokens levels reads) (is_global levels reads) inherits (read_at path reads)
 
 -- ---- the program
 
@@ -247,9 +309,11 @@ unfoldable pub about_tokens : Option ReadText → List Token
 about_tokens None = []
 about_tokens (Some read) = description_tokens (codes "about") read.about
 
+-- the program inherits no argument
 unfoldable pub tree_tokens : List ℕ → List ReadText → List Token
 tree_tokens name reads =
-    ((head_tokens name ++ about_tokens (read_at [] reads)) ++ body_tokens most_levels reads [])
+    ((head_tokens name ++ about_tokens (read_at [] reads))
+    ++ body_tokens most_levels reads (λ said. false) [])
     ++ Token.end_object ∷ []
 
 -- ---- paths without a text

@@ -4,30 +4,37 @@ ghost use Rattle.std.specs.Prelude.{◌≡◌, ◌∷◌, ◌++◌, [], IfOk, On
 ghost use Rattle.std.specs.List.{flat_map};
 ghost use Rattle.std.specs.String.{string_bytes};
 ghost use Rattle.json.specs.Print.{IsNumber};
-ghost use Rattle.complgen_import_file.specs.TreeTokens.{argument_tokens, arguments_tokens, count_tokens, counted_tokens, description_tokens, forward_slash, hint_tokens, is_fixed, is_flag, is_most, most_token, names_tokens, number_token, positional_tokens, possible_list, possible_tokens, possible_value_tokens, taken_tokens, values_tokens, varied_tokens};
+ghost use Rattle.complgen_import_file.specs.Holding.{holds};
+ghost use Rattle.complgen_import_file.specs.TreeTokens.{arguments_tokens, count_tokens, counted_tokens, description_tokens, forward_slash, global_tokens, hint_tokens, is_fixed, is_flag, is_most, marked_tokens, most_token, names_tokens, number_token, positional_tokens, possible_list, possible_tokens, possible_value_tokens, shared_tokens, taken_tokens, values_tokens, varied_tokens};
 
-use crate::texts::{write_description, write_labels, write_named, write_opening, write_text};
+use crate::argument_text::{ArgumentText, written};
+use crate::texts::{
+    write_description, write_labels, write_named, write_opening, write_text, write_true,
+};
 use cc_base::Items;
 use complgen_import::{Hint, TreeArgument, TreeNames, ValueCount};
 use json::{Pretty, Token};
 use std::alloc::{AllocError, Global};
+use std::collections::BTreeSet;
 
 // A tree file has no least number of values above this one.
 const MOST_LEAST: usize = 255;
 
-/// Writes a member with the options and the positionals.
+/// Writes a member with the options, but those that the command inherits, and with the positionals.
 #[tactic(auto, unfolding(crate::specs::TreeTokens::arguments_tokens, crate::specs::TreeTokens::array_tokens))]
 pub(crate) fn write_arguments(
     alloc: Global,
     file: &mut Pretty,
+    inherited: &BTreeSet<ArgumentText>,
+    globals: &BTreeSet<ArgumentText>,
     arguments: &[TreeArgument],
     positionals: &[TreeArgument],
 ) -> Result<(), AllocError>
-    ensures { OnOk result
-        (file.new ≡ file.old ++ arguments_tokens arguments.now positionals.now) }
+    ensures { OnOk result (file.new ≡ file.old ++ arguments_tokens
+        (holds inherited.now) (holds globals.now) arguments.now positionals.now) }
 {
     write_opening(file, "args")?;
-    write_each(alloc, file, arguments)?;
+    write_each(alloc, file, inherited, globals, arguments)?;
     write_each_positional(alloc, file, positionals)?;
     file.token(Token::EndArray)
 }
@@ -35,29 +42,67 @@ pub(crate) fn write_arguments(
 fn write_each(
     alloc: Global,
     file: &mut Pretty,
+    inherited: &BTreeSet<ArgumentText>,
+    globals: &BTreeSet<ArgumentText>,
     arguments: &[TreeArgument],
 ) -> Result<(), AllocError>
-    ensures { OnOk result (file.new ≡ file.old ++ flat_map argument_tokens arguments.now) }
+    ensures { OnOk result (file.new ≡ file.old
+        ++ flat_map (shared_tokens (holds inherited.now) (holds globals.now)) arguments.now) }
 {
     for argument in arguments {
-        write_argument(alloc, file, argument)?;
+        write_shared(alloc, file, inherited, globals, argument)?;
     }
     Ok(())
 }
 
-#[tactic(auto, unfolding(crate::specs::TreeTokens::argument_tokens))]
-fn write_argument(
+// Writes the argument, unless the command inherits it.
+fn write_shared(
     alloc: Global,
     file: &mut Pretty,
+    inherited: &BTreeSet<ArgumentText>,
+    globals: &BTreeSet<ArgumentText>,
     argument: &TreeArgument,
 ) -> Result<(), AllocError>
-    ensures { OnOk result (file.new ≡ file.old ++ argument_tokens argument.now) }
+    ensures { OnOk result (file.new ≡ file.old
+        ++ shared_tokens (holds inherited.now) (holds globals.now) argument.now) }
+{
+    let text = written(alloc, argument)?;
+    if inherited.contains(&text) {
+        return Ok(());
+    }
+    write_marked(alloc, file, globals.contains(&text), argument)
+}
+
+/// Writes an argument, which is global or not.
+///
+/// # Errors
+///
+/// `AllocError` if an allocation fails.
+#[tactic(auto, unfolding(crate::specs::TreeTokens::marked_tokens))]
+pub(crate) fn write_marked(
+    alloc: Global,
+    file: &mut Pretty,
+    is_global: bool,
+    argument: &TreeArgument,
+) -> Result<(), AllocError>
+    ensures { OnOk result (file.new ≡ file.old ++ marked_tokens is_global argument.now) }
 {
     file.token(Token::BeginObject)?;
     write_names(file, &argument.names)?;
     write_values(alloc, file, argument)?;
+    write_global(file, is_global)?;
     write_description(alloc, file, "help", argument.help.as_slice())?;
     file.token(Token::EndObject)
+}
+
+#[tactic(auto, unfolding(crate::specs::TreeTokens::global_tokens))]
+fn write_global(file: &mut Pretty, is_global: bool) -> Result<(), AllocError>
+    ensures { OnOk result (file.new ≡ file.old ++ global_tokens is_global) }
+{
+    if !is_global {
+        return Ok(());
+    }
+    write_true(file, "global")
 }
 
 fn write_each_positional(

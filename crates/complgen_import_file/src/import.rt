@@ -33,9 +33,13 @@ pub fn import_text(alloc: Global, name: &str, text: &[u8]) -> Result<Vec<u8>, Al
 /// one path, the first counts. A subcommand without a text has a name and a help text alone, and so
 /// has each below 16 levels.
 ///
+/// An option of a command is global if a subcommand has a text, and each text below the command has
+/// the same option: the same names, values and help text. It is left out of the subcommands.
+///
 /// # Errors
 ///
 /// `AllocError` if an allocation fails.
+#[tactic(auto, using(crate::proofs::OptionLaws::have_their_options))]
 pub fn import_tree(alloc: Global, name: &str, texts: &[HelpText]) -> Result<Vec<u8>, AllocError>
     ensures { IfOk result (λ file. IsTreeOf name.now texts.now file.items) }
 {

@@ -8,8 +8,10 @@
 //! ```
 #![tactic(auto)]
 
+mod argument_text;
 mod arguments;
 mod characters;
+mod global;
 mod import;
 mod missing;
 mod read;

@@ -1,14 +1,15 @@
 //! Reads help texts.
 
-ghost use Rattle.std.specs.Prelude.{◌≡◌, IfOk, List, map};
+ghost use Rattle.std.specs.Prelude.{◌≡◌, ℕ, IfOk, List, map};
 ghost use Rattle.std.specs.Option.{option_copied};
+ghost use Rattle.complgen_import.specs.About.{about_of};
 ghost use Rattle.complgen_import.specs.Lines.{lines_of};
 ghost use Rattle.complgen_import.specs.PositionalLaws.{HaveIdsOnce};
 ghost use Rattle.complgen_import.specs.PossibleLaws.{HaveQuietValues, HaveSaidValues, HaveValuesOnce};
 ghost use Rattle.complgen_import.specs.TreeArguments.{tree_argument};
 ghost use Rattle.complgen_import.specs.Unfolded.{unfolded};
 ghost use Rattle.complgen_import.specs.declared.arguments.Argument.{Argument};
-ghost use Rattle.complgen_import_file.specs.Imported.{AreRead, IsOfEntries, IsOfOptions, IsRead, program_path, shown_text};
+ghost use Rattle.complgen_import_file.specs.Imported.{AreCleanBeside, AreRead, IsOfEntries, IsOfForms, IsOfLabels, IsOfOptions, IsRead, program_path, shown_text};
 ghost use Rattle.complgen_import_file.specs.TreeTokens.{path_below, read_at};
 
 use cc_base::Items;
@@ -16,6 +17,8 @@ use complgen_import::{
     Bytes, Command, TreeArgument, clean_text, read_about, read_arguments, read_commands,
     read_positionals, tree_arguments, unfold_text,
 };
+use complgen_import_forms::regular_text;
+use complgen_import_usage::usage_positionals;
 use std::alloc::{AllocError, Global};
 
 /// The help text of a program, or of one of its subcommands.
@@ -65,17 +68,61 @@ fn read_text(alloc: Global, name: &str, text: &HelpText) -> Result<ReadText, All
     ensures { IfOk result (λ read. IsRead name.now text.now read) }
 {
     let clean = shown_text(alloc, text.text.as_slice())?;
+    let shown = clean.as_slice();
     let path = text.path.as_slice();
-    let commands = commands(alloc, name.as_bytes(), path, clean.as_slice())?;
-    let arguments = options(alloc, clean.as_slice())?;
-    let positionals = read_positionals(alloc, arguments.as_slice(), clean.as_slice())?;
+    let program = program_path(alloc, name.as_bytes(), path)?;
+    let arguments = options(alloc, shown)?;
+    Ok(read_beside(alloc, path, program.as_slice(), shown, arguments)?)
+}
+
+// Reads all but the options of a clean text: those of the command at `path` are `arguments`.
+fn read_beside(
+    alloc: Global,
+    path: &[u8],
+    program: &[u8],
+    text: &[u8],
+    arguments: Items<TreeArgument>,
+) -> Result<ReadText, AllocError>
+    ensures arguments { IfOk result (λ read. read.arguments ≡ arguments) }
+    ensures entries { IfOk result (λ read. IsOfEntries program.now text.now read.commands) }
+    ensures labels { IfOk result (λ read.
+        IsOfLabels program.now arguments read.commands text.now read.positionals) }
+    ensures clean { IfOk result (λ read. AreCleanBeside arguments read.positionals) }
+    ensures path { IfOk result (λ read. read.path ≡ path.now) }
+    ensures about { IfOk result (λ read. read.about ≡ about_of text.now) }
+{
+    let commands = commands(alloc, program, text)?;
+    let positionals = positionals(alloc, program, &arguments, &commands, text)?;
     Ok(ReadText {
         path: Items::copy_of(alloc, path)?,
-        about: read_about(alloc, clean.as_slice())?,
+        about: read_about(alloc, text)?,
         arguments,
         positionals,
         commands,
     })
+}
+
+// Returns the positionals of a clean text, for a command that also has these options and
+// subcommands.
+fn positionals(
+    alloc: Global,
+    program: &[u8],
+    options: &Items<TreeArgument>,
+    commands: &Items<Command>,
+    text: &[u8],
+) -> Result<Items<TreeArgument>, AllocError>
+    ensures labels { IfOk result (λ positionals.
+        IsOfLabels program.now options.now commands.now text.now positionals) }
+    ensures clean { IfOk result (λ positionals. AreCleanBeside options.now positionals) }
+{
+    let stated = read_positionals(alloc, options.as_slice(), text)?;
+    if !stated.as_slice().is_empty() {
+        return Ok(stated);
+    }
+    if !commands.as_slice().is_empty() {
+        return Ok(stated);
+    }
+    Ok(usage_positionals(alloc, program, options.as_slice(), text)?)
 }
 
 // Returns the text as a terminal shows it.
@@ -86,18 +133,11 @@ fn shown_text(alloc: Global, text: &[u8]) -> Result<Vec<u8>, AllocError>
     Ok(clean_text(alloc, text.as_bytes())?)
 }
 
-// Returns the subcommands in a clean text of the command at `path`.
-fn commands(
-    alloc: Global,
-    name: &[u8],
-    path: &[u8],
-    text: &[u8],
-) -> Result<Items<Command>, AllocError>
-    ensures { IfOk result (λ commands.
-        IsOfEntries (program_path name.now path.now) text.now commands) }
+// Returns the subcommands in a clean text.
+fn commands(alloc: Global, program: &[u8], text: &[u8]) -> Result<Items<Command>, AllocError>
+    ensures { IfOk result (λ commands. IsOfEntries program.now text.now commands) }
 {
-    let program = program_path(alloc, name, path)?;
-    Ok(read_commands(alloc, program.as_slice(), text)?)
+    Ok(read_commands(alloc, program, text)?)
 }
 
 // Returns the name of the program and the path of the command.
@@ -113,6 +153,19 @@ fn program_path(alloc: Global, name: &[u8], path: &[u8]) -> Result<Items<u8>, Al
 
 // Returns the arguments of a clean text.
 fn options(alloc: Global, text: &[u8]) -> Result<Items<TreeArgument>, AllocError>
+    ensures read { IfOk result (λ made. (arguments : List Argument) × (regular : List ℕ)
+        × IsOfForms text.now regular arguments × (made ≡ map tree_argument arguments)) }
+    ensures ids { IfOk result (λ made. HaveIdsOnce made) }
+    ensures said { IfOk result (λ made. HaveSaidValues made) }
+    ensures quiet { IfOk result (λ made. HaveQuietValues made) }
+    ensures once { IfOk result (λ made. HaveValuesOnce made) }
+{
+    let regular = regular_text(alloc, text)?;
+    regular_options(alloc, regular.as_slice())
+}
+
+// Returns the arguments of a clean text without lines of further forms.
+fn regular_options(alloc: Global, text: &[u8]) -> Result<Items<TreeArgument>, AllocError>
     ensures read { IfOk result (λ made. (arguments : List Argument)
         × IsOfOptions (unfolded (lines_of text.now)) arguments
         × (made ≡ map tree_argument arguments)) }

@@ -5,7 +5,7 @@ use Rattle.std.specs.Str.{bytes_eq}
 use Rattle.json.specs.Json.{Json, Items, no_items, item, Members, no_members, member, null, boolean, number, string, array, object}
 use Rattle.complgen_onto.specs.Kept.{Keeps, KeepsItems, KeepsMembers}
 use Rattle.complgen_onto.specs.Names.{is_same_argument, is_same_command}
-use Rattle.complgen_onto.specs.Onto.{append_items, append_members, args_key, counterpart, each_onto, extended, items_at, members_in, new_items, new_members, onto, subcommands_key, with_arguments, with_commands}
+use Rattle.complgen_onto.specs.Onto.{append_items, append_members, args_key, becomes_global, counterpart, each_marked, each_onto, extended, items_at, mark, marked, members_in, new_items, new_members, onto, subcommands_key, with_arguments, with_commands}
 
 mutual
   keeps_same : (j : Json) → Keeps j j
@@ -24,9 +24,22 @@ mutual
   keeps_same_members no_members = tt
   keeps_same_members (member key j ms) = (j, ms, refl, keeps_same j, keeps_same_members ms)
 
-keeps_front : (js more : Items) → KeepsItems js (append_items js more)
-keeps_front no_items more = tt
-keeps_front (item j js) more = (j, append_items js more, refl, keeps_same j, keeps_front js more)
+keeps_before : (ms more : Members) → KeepsMembers ms (append_members ms more)
+keeps_before no_members more = tt
+keeps_before (member key j ms) more = (j, append_members ms more, refl, keeps_same j, keeps_before ms more)
+
+keeps_marked : (is : Bool) (j : Json) → Keeps j (marked is j)
+keeps_marked is null = refl
+keeps_marked is (boolean b) = refl
+keeps_marked is (number s) = refl
+keeps_marked is (string s) = refl
+keeps_marked is (array js) = keeps_same (array js)
+keeps_marked is (object ms) = (append_members ms (mark is ms), refl, keeps_before ms (mark is ms))
+
+keeps_front : (js new more : Items) → KeepsItems js (append_items (each_marked js new) more)
+keeps_front no_items new more = tt
+keeps_front (item j js) new more =
+    (marked (becomes_global j new) j, append_items (each_marked js new) more, refl, keeps_marked (becomes_global j new) j, keeps_front js new more)
 
 keeps_arguments : (j : Json) (new : Items) → Keeps j (with_arguments j new)
 keeps_arguments null new = refl
@@ -34,7 +47,7 @@ keeps_arguments (boolean b) new = refl
 keeps_arguments (number s) new = refl
 keeps_arguments (string s) new = refl
 keeps_arguments (array js) new =
-    (append_items js (new_items is_same_argument js new), refl, keeps_front js (new_items is_same_argument js new))
+    (append_items (each_marked js new) (new_items is_same_argument js new), refl, keeps_front js new (new_items is_same_argument js new))
 keeps_arguments (object ms) new = keeps_same (object ms)
 
 keeps_one : (is other : Bool) (j a b : Json) → Keeps j a → Keeps j b → Keeps j (cond is a (cond other b j))

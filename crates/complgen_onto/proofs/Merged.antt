@@ -6,7 +6,7 @@ use Rattle.std.specs.List.{find, flat_map, list_any}
 use Rattle.std.specs.Option.{option_copied, option_map}
 use Rattle.std.specs.Str.{bytes_eq}
 use Rattle.std.specs.declared.alloc.Global.{Global}
-use Rattle.std.proofs.lemmas.List.{drop_more}
+use Rattle.std.proofs.lemmas.List.{append-nil, drop_more}
 use Rattle.std.proofs.lemmas.List.Elements.{All-cons, All-nil}
 use Rattle.json.specs.Find.{as_str, get, get_member, later_or}
 use Rattle.json.specs.Json.{Json, Items, no_items, item, Members, no_members, member, null, boolean, number, string, array, object}
@@ -15,8 +15,8 @@ use Rattle.json.specs.Tree.{HasNumbers, ItemsHaveNumbers, MembersHaveNumbers, it
 use Rattle.json.specs.Value.{items_view, members_view, value_view}
 use Rattle.json.specs.declared.value.Value.{Value}
 use Rattle.complgen_onto.specs.Names.{any_item, is_same_argument, is_same_command, is_text}
-use Rattle.complgen_onto.specs.Onto.{any_same, append_items, append_members, counterpart, each_onto, extended, first_if, has_key, item_unless, member_unless, new_items, new_members, members_in, onto, with_arguments, with_commands}
-use Rattle.complgen_onto.specs.Written.{Entry, arguments_tokens, command_tokens, commands_tokens, entry_tokens, extended_tokens, item_tokens, list_of, member_tokens, named_tokens, named_unless, new_argument_tokens, new_command_tokens, new_entry_tokens, object_of, onto_tokens, unless, value_tokens}
+use Rattle.complgen_onto.specs.Onto.{any_same, append_items, append_members, becomes_global, counterpart, each_marked, each_onto, extended, first_if, global_key, has_key, item_unless, makes_global, mark, marked, member_unless, new_items, new_members, members_in, onto, with_arguments, with_commands}
+use Rattle.complgen_onto.specs.Written.{Entry, arguments_tokens, command_tokens, commands_tokens, entry_tokens, extended_tokens, item_tokens, list_of, marked_tokens, marked_value_tokens, member_tokens, named_tokens, named_unless, new_argument_tokens, new_command_tokens, new_entry_tokens, object_of, onto_tokens, unless, value_tokens}
 
 -- ---- names
 
@@ -146,7 +146,7 @@ new_commands_written olds (new ∷ news) =
     ∙ item_unless_tokens (any_same is_same_command (items_view olds) (value_view new)) (value_view new)
     (new_items is_same_command (items_view olds) (items_view news))
 
-has_key_seen : (key : List ℕ) (olds : List Entry)
+pub has_key_seen : (key : List ℕ) (olds : List Entry)
     → list_any (λ old. bytes_eq old.0.now key) olds ≡ has_key key (members_view olds)
 has_key_seen key [] = refl
 has_key_seen key (old ∷ olds) = ap (λ b. bytes_eq old.0.now key || b) (has_key_seen key olds)
@@ -217,6 +217,44 @@ pub extended_written : (new : Json) (ms : List Entry)
 extended_written new [] = refl
 extended_written new (m ∷ ms) = ap (λ ts. extended_tokens new m ++ ts) (extended_written new ms)
 
+-- ---- arguments that become global
+
+pub global_seen : (old : Json) (news : List (Value Global))
+    → list_any (λ new. makes_global old (value_view new)) news ≡ becomes_global old (items_view news)
+global_seen old [] = refl
+global_seen old (new ∷ news) = ap (λ b. makes_global old (value_view new) || b) (global_seen old news)
+
+each_marked_written : (news : Items) (olds : List (Value Global))
+    → flat_map (marked_value_tokens news) olds ≡ item_tokens (each_marked (items_view olds) news)
+each_marked_written news [] = refl
+each_marked_written news (old ∷ olds) = ap (λ ts. marked_value_tokens news old ++ ts) (each_marked_written news olds)
+
+-- what is written at the end of an argument that becomes global
+pub mark_skipped : (file : List Token) (is : Bool) (ms : List Entry) → is ≡ false
+    → file ≡ file ++ member_tokens (mark is (members_view ms))
+mark_skipped file is ms off =
+    sym (append-nil file) ∙ ap (λ b. file ++ member_tokens (mark b (members_view ms))) (sym off)
+
+mark_there : (file : List Token) (is known : Bool) → known ≡ true
+    → file ≡ file ++ member_tokens (member_unless known global_key (boolean true) no_members)
+mark_there file is known on =
+    sym (append-nil file) ∙ ap (λ b. file ++ member_tokens (member_unless b global_key (boolean true) no_members)) (sym on)
+
+pub mark_known : (file : List Token) (is : Bool) (ms : List Entry) → is ≡ true
+    → list_any (λ m. bytes_eq m.0.now global_key) ms ≡ true
+    → file ≡ file ++ member_tokens (mark is (members_view ms))
+mark_known file is ms on known =
+    mark_there file is (has_key global_key (members_view ms)) (sym (has_key_seen global_key ms) ∙ known)
+    ∙ ap (λ b. file ++ member_tokens (mark b (members_view ms))) (sym on)
+
+pub mark_new : (file : List Token) (is : Bool) (ms : List Entry) → is ≡ true
+    → list_any (λ m. bytes_eq m.0.now global_key) ms ≡ false
+    → file ++ (Token.key global_key ∷ Token.boolean true ∷ []) ≡ file ++ member_tokens (mark is (members_view ms))
+mark_new file is ms on new =
+    ap (λ b. file ++ member_tokens (member_unless b global_key (boolean true) no_members))
+    (sym (sym (has_key_seen global_key ms) ∙ new))
+    ∙ ap (λ b. file ++ member_tokens (mark b (members_view ms))) (sym on)
+
 -- ---- lists and objects
 
 closed_list : (ts : List Token) (js : Items) → ts ≡ item_tokens js
@@ -243,10 +281,19 @@ pub arguments_written : (olds : List (Value Global)) (news : Items)
     → arguments_tokens olds news ≡ json_tokens (with_arguments (array (items_view olds)) news)
 unfolding arguments_tokens
 arguments_written olds news =
-    closed_list (flat_map value_tokens olds ++ item_tokens (new_items is_same_argument (items_view olds) news))
-    (append_items (items_view olds) (new_items is_same_argument (items_view olds) news))
-    (ap (λ ts. ts ++ item_tokens (new_items is_same_argument (items_view olds) news)) (items_written olds)
-    ∙ items_appended (items_view olds) (new_items is_same_argument (items_view olds) news))
+    closed_list (flat_map (marked_value_tokens news) olds ++ item_tokens (new_items is_same_argument (items_view olds) news))
+    (append_items (each_marked (items_view olds) news) (new_items is_same_argument (items_view olds) news))
+    (ap (λ ts. ts ++ item_tokens (new_items is_same_argument (items_view olds) news)) (each_marked_written news olds)
+    ∙ items_appended (each_marked (items_view olds) news) (new_items is_same_argument (items_view olds) news))
+
+pub marked_written : (is : Bool) (ms : List Entry)
+    → marked_tokens is ms ≡ json_tokens (marked is (object (members_view ms)))
+unfolding marked_tokens
+marked_written is ms =
+    closed_object (flat_map entry_tokens ms ++ member_tokens (mark is (members_view ms)))
+    (append_members (members_view ms) (mark is (members_view ms)))
+    (ap (λ ts. ts ++ member_tokens (mark is (members_view ms))) (members_written ms)
+    ∙ members_appended (members_view ms) (mark is (members_view ms)))
 
 pub commands_written : (olds : List (Value Global)) (news : Items)
     → commands_tokens olds news ≡ json_tokens (with_commands (array (items_view olds)) news)

@@ -1,5 +1,5 @@
 -- Values that keep what they had.
-use Rattle.std.specs.Prelude.{⊤, ◌≡◌, ℕ, List}
+use Rattle.std.specs.Prelude.{⊤, ◌≡◌}
 use Rattle.json.specs.Json.{Json, Items, no_items, item, Members, no_members, member, null, boolean, number, string, array, object}
 
 abbrev mutual

@@ -1,5 +1,5 @@
 -- A tree file with what another one adds.
-use Rattle.std.specs.Prelude.{ℕ, ◌||◌, Bool, true, false, cond, List, Option, Some, None, codes}
+use Rattle.std.specs.Prelude.{ℕ, ◌||◌, ◌&&◌, Bool, true, false, cond, List, Option, Some, None, codes}
 use Rattle.std.specs.Str.{bytes_eq}
 use Rattle.json.specs.Find.{get}
 use Rattle.json.specs.Json.{Json, Items, no_items, item, Members, no_members, member, null, boolean, number, string, array, object}
@@ -77,6 +77,50 @@ abbrev pub counterpart : Json → Items → Option Json
 counterpart old no_items = None
 counterpart old (item j js) = first_if (is_same_command old j) j (counterpart old js)
 
+-- ---- arguments that become global
+
+unfoldable pub global_key : List ℕ
+global_key = codes "global"
+
+-- the value is `true`
+abbrev pub is_true : Option Json → Bool
+is_true None = false
+is_true (Some null) = false
+is_true (Some (boolean b)) = b
+is_true (Some (number s)) = false
+is_true (Some (string s)) = false
+is_true (Some (array js)) = false
+is_true (Some (object ms)) = false
+
+-- the new argument is global, and it is the same as the old one
+abbrev pub makes_global : Json → Json → Bool
+makes_global old new = is_true (get global_key new) && is_same_argument old new
+
+-- one of the new arguments is
+abbrev pub becomes_global : Json → Items → Bool
+becomes_global old no_items = false
+becomes_global old (item new news) = makes_global old new || becomes_global old news
+
+-- the member that makes an argument global, unless it has one with this key
+abbrev pub mark : Bool → Members → Members
+mark true ms = new_members ms (member global_key (boolean true) no_members)
+mark false ms = no_members
+
+-- the argument, which is global if this is so
+abbrev pub marked : Bool → Json → Json
+marked is null = null
+marked is (boolean b) = boolean b
+marked is (number s) = number s
+marked is (string s) = string s
+marked is (array js) = array js
+marked is (object ms) = object (append_members ms (mark is ms))
+
+-- the old arguments; those that are global among the new ones become global
+abbrev pub each_marked : Items → Items → Items
+each_marked no_items news = no_items
+each_marked (item old olds) news =
+    item (marked (becomes_global old news) old) (each_marked olds news)
+
 -- ---- an old command with what a new one adds
 
 unfoldable pub args_key : List ℕ
@@ -85,13 +129,15 @@ args_key = codes "args"
 unfoldable pub subcommands_key : List ℕ
 subcommands_key = codes "subcommands"
 
--- the arguments of a command, then those that are new
+-- The arguments of a command, then those that are new. One that is global among the new ones becomes
+-- global.
 abbrev pub with_arguments : Json → Items → Json
 with_arguments null new = null
 with_arguments (boolean b) new = boolean b
 with_arguments (number s) new = number s
 with_arguments (string s) new = string s
-with_arguments (array js) new = array (append_items js (new_items is_same_argument js new))
+with_arguments (array js) new =
+    array (append_items (each_marked js new) (new_items is_same_argument js new))
 with_arguments (object ms) new = object ms
 
 -- one of three values: the first at `args`, the second at `subcommands`, and else the last

@@ -10,7 +10,7 @@ use Rattle.json.specs.Tree.{json_tokens}
 use Rattle.json.specs.Value.{items_view, members_view, value_view}
 use Rattle.json.specs.declared.value.Value.{Value}
 use Rattle.complgen_onto.specs.Names.{is_same_argument, is_same_command}
-use Rattle.complgen_onto.specs.Onto.{counterpart, items_in, members_in, new_items, new_members, onto, value_onto}
+use Rattle.complgen_onto.specs.Onto.{becomes_global, counterpart, mark, marked, members_in, new_items, new_members, onto, value_onto}
 
 -- a member
 abbrev pub named_tokens : List ℕ → Json → List Token
@@ -69,6 +69,11 @@ abbrev pub extended_tokens : Json → Entry → List Token
 extended_tokens new entry =
     named_tokens entry.0.now (value_onto entry.0.now (value_view entry.1) new)
 
+-- an old argument, which may become global
+abbrev pub marked_value_tokens : Items → Value Global → List Token
+marked_value_tokens news old =
+    json_tokens (marked (becomes_global (value_view old) news) (value_view old))
+
 -- ---- lists and objects
 
 unfoldable pub list_of : List Token → List Token
@@ -79,8 +84,13 @@ object_of ts = (Token.begin_object ∷ [] ++ ts) ++ Token.end_object ∷ []
 
 -- the old arguments and those that are new
 unfoldable pub arguments_tokens : List (Value Global) → Items → List Token
-arguments_tokens olds news = ((Token.begin_array ∷ [] ++ flat_map value_tokens olds)
+arguments_tokens olds news = ((Token.begin_array ∷ [] ++ flat_map (marked_value_tokens news) olds)
     ++ item_tokens (new_items is_same_argument (items_view olds) news)) ++ Token.end_array ∷ []
+
+-- an old argument with a member that makes it global, if this is so
+unfoldable pub marked_tokens : Bool → List Entry → List Token
+marked_tokens is_global members = ((Token.begin_object ∷ [] ++ flat_map entry_tokens members)
+    ++ member_tokens (mark is_global (members_view members))) ++ Token.end_object ∷ []
 
 -- the old commands, with what is new in them, and those that are new
 unfoldable pub commands_tokens : List (Value Global) → Items → List Token

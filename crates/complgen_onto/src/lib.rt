@@ -1,6 +1,7 @@
 //! Adds what is new in one tree file to another.
 #![tactic(auto)]
 
+mod marks;
 mod merge;
 mod names;
 mod parts;

@@ -11,8 +11,9 @@ ghost use Rattle.complgen_onto.specs.Names.{is_same_argument, is_same_command};
 ghost use Rattle.complgen_onto.specs.Onto.{args_key, items_at, items_in, members_in, subcommands_key, new_items, new_members, onto, value_onto, with_arguments, with_commands};
 ghost use Rattle.complgen_onto.specs.Written.{arguments_tokens, command_tokens, commands_tokens, extended_tokens, item_tokens, member_tokens, named_tokens, named_unless, new_argument_tokens, new_command_tokens, new_entry_tokens, onto_tokens, unless};
 
+use crate::marks::write_each_marked;
 use crate::parts::{counterpart, has_key, is_known_argument, is_known_command};
-use crate::values::{write_items, write_member, write_value};
+use crate::values::{write_member, write_value};
 use json::{Pretty, Token, Value};
 use std::alloc::{AllocError, Global};
 
@@ -20,7 +21,8 @@ use std::alloc::{AllocError, Global};
 /// stays, with its value and in its order. Behind them come the members of `new` that it lacks.
 ///
 /// An argument of `new` is added if the old command has none with the same id, long or short, where
-/// an alias counts as a long or a short. A subcommand of `new` is added if the old command has none
+/// an alias counts as a long or a short. Otherwise, if it is global, the old one becomes global,
+/// unless it has a member `global`. A subcommand of `new` is added if the old command has none
 /// with one of its names. Otherwise the old subcommand is extended in the same way.
 ///
 /// # Errors
@@ -189,7 +191,7 @@ fn write_all_arguments(
         (items_in (option_map (λ v. value_view v.now) news.entry))) }
 {
     file.token(Token::BeginArray)?;
-    write_items(file, olds)?;
+    write_each_marked(file, olds, news)?;
     write_new_arguments(file, olds, news)?;
     file.token(Token::EndArray)
 }

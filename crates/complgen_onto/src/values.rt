@@ -51,13 +51,9 @@ fn write_object(file: &mut Pretty, members: &[(&str, Value<'_>)]) -> Result<(), 
     file.token(Token::EndObject)
 }
 
-/// Writes each of `items`.
-///
-/// # Errors
-///
-/// `AllocError` if an allocation fails.
+// Writes each of `items`.
 #[cycle(write)]
-pub(crate) fn write_items(file: &mut Pretty, items: &[Value<'_>]) -> Result<(), AllocError>
+fn write_items(file: &mut Pretty, items: &[Value<'_>]) -> Result<(), AllocError>
     requires { All (λ item. HasNumbers (value_view item)) items.now }
     ensures { OnOk result (file.new ≡ file.old ++ flat_map value_tokens items.now) }
 {
@@ -67,9 +63,16 @@ pub(crate) fn write_items(file: &mut Pretty, items: &[Value<'_>]) -> Result<(), 
     Ok(())
 }
 
-// Writes each of `members`.
+/// Writes each of `members`.
+///
+/// # Errors
+///
+/// `AllocError` if an allocation fails.
 #[cycle(write)]
-fn write_members(file: &mut Pretty, members: &[(&str, Value<'_>)]) -> Result<(), AllocError>
+pub(crate) fn write_members(
+    file: &mut Pretty,
+    members: &[(&str, Value<'_>)],
+) -> Result<(), AllocError>
     requires { All (λ member. HasNumbers (value_view member.1)) members.now }
     ensures { OnOk result (file.new ≡ file.old ++ flat_map entry_tokens members.now) }
 {

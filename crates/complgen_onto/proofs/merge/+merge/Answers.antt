@@ -1,6 +1,5 @@
 use Rattle.std.proofs.Common.{◌≡◌, ◌∙◌, ◌*◌, ◌+◌, ◌<◌, ◌++◌, List, Some, ap, arith, length, option_map, rules, subst, suc, sym}
 use Rattle.std.specs.Prelude.{All, IfSome}
-use Rattle.std.specs.List.{flat_map}
 use Rattle.std.specs.declared.alloc.Global.{Global}
 use Rattle.std.proofs.lemmas.List.Elements.{All-get_or}
 use Rattle.std.proofs.lemmas.Result.{on_ok_weaker}
@@ -11,7 +10,7 @@ use Rattle.json.specs.Tree.{HasNumbers, items_tokens, json_tokens, members_token
 use Rattle.json.specs.Value.{items_view, members_view, value_view}
 use Rattle.json.specs.declared.value.Value.{Value}
 use Rattle.complgen_onto.specs.Onto.{items_in, onto, with_commands}
-use Rattle.complgen_onto.specs.Written.{Entry, command_tokens, commands_tokens, extended_tokens, onto_tokens}
+use Rattle.complgen_onto.specs.Written.{Entry, command_tokens, commands_tokens}
 use Rattle.complgen_onto.proofs.Merged.{command_written, commands_written, found_numbers, items_numbers, members_numbers}
 use Rattle.complgen_onto.proofs.merge.+merge.Goals as goal
 

@@ -1,5 +1,4 @@
-use Rattle.std.proofs.Common.{◌∙◌, ◌++◌, List, arith, ap}
-use Rattle.json.specs.Token.{Token}
+use Rattle.std.proofs.Common.{◌∙◌, ◌++◌, arith, ap}
 use Rattle.json.specs.Value.{value_view}
 use Rattle.complgen_onto.specs.Written.{new_command_tokens, unless}
 use Rattle.complgen_onto.proofs.Merged.{written_step}

@@ -1,6 +1,5 @@
-use Rattle.std.proofs.Common.{◌∙◌, ◌++◌, List, arith, ap, subst, sym}
+use Rattle.std.proofs.Common.{◌∙◌, ◌++◌, arith, ap, subst, sym}
 use Rattle.std.proofs.lemmas.List.Elements.{All-get_or}
-use Rattle.json.specs.Token.{Token}
 use Rattle.json.specs.Tree.{HasNumbers}
 use Rattle.json.specs.Value.{value_view}
 use Rattle.complgen_onto.specs.Written.{named_unless, new_entry_tokens}

@@ -11,7 +11,7 @@ use Rattle.json.specs.Tree.{HasNumbers, items_tokens, json_tokens, members_token
 use Rattle.json.specs.Value.{items_view, members_view, value_view}
 use Rattle.json.specs.declared.value.Value.{Value}
 use Rattle.complgen_onto.specs.Written.{Entry, entry_tokens, list_of, object_of, value_tokens}
-use Rattle.complgen_onto.proofs.Merged.{items_numbers, list_written, members_numbers, object_written, written_step}
+use Rattle.complgen_onto.proofs.Merged.{items_numbers, list_written, members_numbers, object_written}
 use Rattle.complgen_onto.proofs.values.+write.Goals as goal
 
 pub write_value-write_list-requires : goal.write_value-write_list-requires

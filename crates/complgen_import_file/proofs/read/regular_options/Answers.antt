@@ -3,7 +3,7 @@ use Rattle.complgen_import.specs.Lines.{lines_of}
 use Rattle.complgen_import.specs.PositionalLaws.{HaveIdsOnce}
 use Rattle.complgen_import.specs.Unfolded.{unfolded}
 use Rattle.complgen_import_file.proofs.IdLaws.{ids_once}
-use Rattle.complgen_import_file.proofs.read.options.Goals as goal
+use Rattle.complgen_import_file.proofs.read.regular_options.Goals as goal
 
 pub returns-clause-read : goal.returns-clause-read
 returns-clause-read c = search rules

@@ -1,0 +1,3 @@
+pub mod PartsRead
+pub mod PartLaws
+pub mod RegularLaws

@@ -1,0 +1,221 @@
+-- The lines of a text in which lines of a further form have the stated form.
+use Rattle.std.specs.Prelude.{codes, if◌then◌else◌, is_some}
+use Rattle.std.specs.List.{AllByRecursion, flat_map, list_any}
+use Rattle.std.proofs.lemmas.Bool.{cases_Bool}
+use Rattle.std.proofs.Common.{◌≡◌, ◌⊎◌, ◌∷◌, ◌++◌, ◌∙◌, ℕ, Bool, true, false, List, [], Option, Some, None, ap, append_assoc, append-nil, inl, inr, refl, subst, sym}
+use Rattle.complgen_import.specs.declared.class.Class.TheVariants.{Blank as BlankByte}
+use Rattle.complgen_import.specs.declared.form.OptionLine.{OptionLine}
+use Rattle.complgen_import.specs.declared.form.Piece.{Piece}
+use Rattle.complgen_import.specs.declared.form.Stage.TheVariants.{Start}
+use Rattle.complgen_import.specs.Classes.{past}
+use Rattle.complgen_import.specs.Form.{IsForm, line_text}
+use Rattle.complgen_import.specs.Lines.{IsAmong, IsReading, lines_of}
+use Rattle.complgen_import.proofs.Among.{among_front}
+use Rattle.complgen_import.proofs.DroppedLaws.{IsLine, all_lines, first_line}
+use Rattle.complgen_import.proofs.KeptNames.{among_split}
+use Rattle.complgen_import_forms.specs.Further.{ReadsParts}
+use Rattle.complgen_import_forms.specs.Regular.{AreRegular, InventsNone, IsMade, IsMadeOf, IsRegular, IsRegularText, KeepsForms, SaysNamesOf, is_candidate, made_form, made_line}
+use Rattle.complgen_import_forms.proofs.PartLaws.{made_line_is, made_says}
+
+-- ---- a line
+
+-- the new line is the old one, or says its names
+abbrev Replaces : List ℕ → List ℕ → Type 0
+Replaces line made = (made ≡ line) ⊎ SaysNamesOf line made
+
+further_replaces : (line : List ℕ) (parts : List (Option Piece)) (rest : List ℕ) → ReadsParts Start (past BlankByte line) parts rest → Replaces line (made_line line parts rest)
+further_replaces line parts rest reads = by (list_any is_some parts) (λ some. made_says line parts rest reads some)
+  where
+    by : (b : Bool) → (b ≡ true → SaysNamesOf line (line_text (made_form line parts rest))) → Replaces line (if b then line_text (made_form line parts rest) else line)
+    by true says = inr (says refl)
+    by false says = inl refl
+
+replaces : (b : Bool) (line made : List ℕ) → IsMade b line made → Replaces line made
+unfolding IsMade IsMadeOf
+replaces false line made is = inl is
+replaces true line made is = by is.0 is.2
+  where
+    by : (read : Option OptionLine) → IsMadeOf read line made → Replaces line made
+    by (Some form) is = inl is
+    by None is =
+        let P : List ℕ → Type 0 = λ m. Replaces line m in
+        subst P (sym is.3) (further_replaces line is.0 is.1 is.2)
+
+further_line : (line : List ℕ) (parts : List (Option Piece)) (rest : List ℕ) → ReadsParts Start (past BlankByte line) parts rest → IsLine line → IsLine (made_line line parts rest)
+further_line line parts rest reads all = by (list_any is_some parts)
+  where
+    by : (b : Bool) → IsLine (if b then line_text (made_form line parts rest) else line)
+    by true = made_line_is line parts rest reads all
+    by false = all
+
+one_line : (b : Bool) (line made : List ℕ) → IsMade b line made → IsLine line → IsLine made
+unfolding IsMade IsMadeOf
+one_line false line made is all =
+    let P : List ℕ → Type 0 = λ m. IsLine m in
+    subst P (sym is) all
+one_line true line made is all = by is.0 is.2
+  where
+    P : List ℕ → Type 0
+    P m = IsLine m
+
+    by : (read : Option OptionLine) → IsMadeOf read line made → IsLine made
+    by (Some form) is = subst P (sym is) all
+    by None is = subst P (sym is.3) (further_line line is.0 is.1 is.2 all)
+
+-- a line of the form stays
+stays : (b : Bool) (line made : List ℕ) (form : OptionLine) → IsMade b line made → IsForm form → line_text form ≡ line → made ≡ line
+unfolding IsMade IsMadeOf
+stays false line made form is has spelled = is
+stays true line made form is has spelled = by is.0 is.2 (is.1.complete form has spelled)
+  where
+    by : (read : Option OptionLine) → IsMadeOf read line made → read ≡ Some form → made ≡ line
+    by (Some other) is same = is
+    by None is same = cc
+
+-- ---- the line that is written
+
+pub stays_other : (line : List ℕ) → is_candidate line ≡ false → IsRegular line line
+unfolding IsMade
+stays_other line other =
+    let P : Bool → Type 0 = λ b. IsMade b line line in
+    subst P (sym other) refl
+
+pub stays_stated : (line : List ℕ) (read : Option OptionLine) → is_candidate line ≡ true → IsReading line read → is_some read ≡ true → IsRegular line line
+unfolding IsMade IsMadeOf
+stays_stated line None candidate reading stated = cc
+stays_stated line (Some form) candidate reading stated =
+    let P : Bool → Type 0 = λ b. IsMade b line line in
+    subst P (sym candidate) (Some form, reading, refl)
+
+pub further_is : (line made : List ℕ) (read : Option OptionLine) → is_candidate line ≡ true → IsReading line read → is_some read ≡ false → IsMadeOf None line made → IsRegular line made
+unfolding IsMade IsMadeOf
+further_is line made None candidate reading other is =
+    let P : Bool → Type 0 = λ b. IsMade b line made in
+    subst P (sym candidate) (None, reading, is)
+further_is line made (Some form) candidate reading other is = cc
+
+pub nameless_stays : (line : List ℕ) (parts : List (Option Piece)) (rest : List ℕ) → ReadsParts Start (past BlankByte line) parts rest → list_any is_some parts ≡ false → IsMadeOf None line line
+unfolding IsMadeOf
+nameless_stays line parts rest reads none =
+    (parts, rest, reads, ap (λ b. if b then line_text (made_form line parts rest) else line) (sym none))
+
+pub named_made : (line : List ℕ) (parts : List (Option Piece)) (rest : List ℕ) → ReadsParts Start (past BlankByte line) parts rest → list_any is_some parts ≡ true →
+    IsMadeOf None line (line_text (made_form line parts rest))
+unfolding IsMadeOf
+named_made line parts rest reads some =
+    (parts, rest, reads, ap (λ b. if b then line_text (made_form line parts rest) else line) (sym some))
+
+-- ---- all lines
+
+kept_lines : (lines made : List (List ℕ)) (form : OptionLine) → AreRegular lines made → IsForm form → IsAmong (line_text form) lines → IsAmong (line_text form) made
+unfolding AreRegular IsAmong
+kept_lines [] made form h has among = absurd among
+kept_lines (line ∷ lines) made form h has among =
+    let P : List (List ℕ) → Type 0 = λ ls. IsAmong (line_text form) ls in
+    subst P (sym h.3) (elim among [
+      | inl here ↦ inl (here ∙ sym (stays (is_candidate line) line h.0 form h.2 has here))
+      | inr later ↦ inr (kept_lines lines h.1 form h.4 has later)
+    ])
+
+-- a line that replaces one of the lines
+abbrev Comes : List (List ℕ) → List ℕ → Type 0
+Comes lines made = IsAmong made lines ⊎ ((source : List ℕ) × IsAmong source lines × SaysNamesOf source made)
+
+comes_later : (line : List ℕ) (lines : List (List ℕ)) (made : List ℕ) → Comes lines made → Comes (line ∷ lines) made
+unfolding IsAmong
+comes_later line lines made (inl is) = inl (inr is)
+comes_later line lines made (inr is) = inr (is.0, inr is.1, is.2)
+
+made_comes : (lines made : List (List ℕ)) (one : List ℕ) → AreRegular lines made → IsAmong one made → Comes lines one
+unfolding AreRegular IsAmong
+made_comes [] made one h among =
+    let P : List (List ℕ) → Type 0 = λ ls. IsAmong one ls in
+    absurd (subst P h among)
+made_comes (line ∷ lines) made one h among =
+    let P : List (List ℕ) → Type 0 = λ ls. IsAmong one ls in
+    let Q : List ℕ → Type 0 = λ m. Comes (line ∷ lines) m in
+    elim (subst P h.3 among) [
+      | inl here ↦ subst Q (sym here) (elim (replaces (is_candidate line) line h.0 h.2) [
+        | inl same ↦ inl (inl same)
+        | inr says ↦ inr (line, inl refl, says)
+      ])
+      | inr later ↦ comes_later line lines one (made_comes lines h.1 one h.4 later)
+    ]
+
+made_lines : (lines made : List (List ℕ)) → AreRegular lines made → AllByRecursion IsLine lines → AllByRecursion IsLine made
+unfolding AreRegular
+made_lines [] made h all =
+    let P : List (List ℕ) → Type 0 = λ ls. AllByRecursion IsLine ls in
+    subst P (sym h) tt
+made_lines (line ∷ lines) made h all =
+    let P : List (List ℕ) → Type 0 = λ ls. AllByRecursion IsLine ls in
+    subst P (sym h.3) (one_line (is_candidate line) line h.0 h.2 all.0, made_lines lines h.1 h.4 all.1)
+
+-- ---- the text
+
+abbrev pub ended : List ℕ → List ℕ
+ended line = line ++ 10 ∷ []
+
+ended_lines : (lines : List (List ℕ)) → AllByRecursion IsLine lines → lines_of (flat_map ended lines) ≡ lines ++ [] ∷ []
+unfolding lines_of
+ended_lines [] all = refl
+ended_lines (line ∷ lines) all =
+    ap lines_of (append_assoc line (10 ∷ []) (flat_map ended lines))
+    ∙ first_line line (flat_map ended lines) all.0 ∙ ap (λ ls. line ∷ ls) (ended_lines lines all.1)
+
+-- the lines made so far, and those that are still to come, are all
+pub record Continues (all left : List (List ℕ)) (out : List ℕ) : Type 0 where
+  pub done : List (List ℕ)
+  pub text : out ≡ flat_map ended done
+  pub rest : (more : List (List ℕ)) → AreRegular left more → AreRegular all (done ++ more)
+
+pub continues_start : (all left : List (List ℕ)) (out : List ℕ) → out ≡ [] → left ≡ all → Continues all left out
+continues_start all left out none same =
+    let P : List (List ℕ) → Type 0 = λ ls. Continues all ls out in
+    subst P (sym same) (record { done = []; text = none; rest = λ more h. h })
+
+flat_ended : (done : List (List ℕ)) (line : List ℕ) → flat_map ended (done ++ line ∷ []) ≡ flat_map ended done ++ ended line
+flat_ended [] line = append-nil (ended line)
+flat_ended (first ∷ done) line =
+    ap (λ t. ended first ++ t) (flat_ended done line) ∙ sym (append_assoc (ended first) (flat_map ended done) (ended line))
+
+pub continues_more : (all left rest : List (List ℕ)) (line made out next : List ℕ) → left ≡ line ∷ rest → IsRegular line made →
+    next ≡ (out ++ made) ++ 10 ∷ [] → Continues all left out → Continues all rest next
+unfolding AreRegular
+continues_more all left rest line made out next cut is same before = record {
+  done = before.done ++ made ∷ [];
+  text = same ∙ append_assoc out made (10 ∷ []) ∙ ap (λ o. o ++ ended made) before.text ∙ sym (flat_ended before.done made);
+  rest = λ more h.
+      let P : List (List ℕ) → Type 0 = λ ls. AreRegular all ls in
+      let Q : List (List ℕ) → Type 0 = λ ls. AreRegular ls (made ∷ more) in
+      subst P (sym (append_assoc before.done (made ∷ []) more))
+      (before.rest (made ∷ more) (subst Q (sym cut) (made, more, is, refl, h)));
+}
+
+pub regular_end : (text : List ℕ) (left : List (List ℕ)) (out : List ℕ) → left ≡ [] → Continues (lines_of text) left out → IsRegularText text out
+unfolding AreRegular
+regular_end text left out none before =
+    let P : List (List ℕ) → Type 0 = λ ls. AreRegular (lines_of text) ls in
+    let Q : List (List ℕ) → Type 0 = λ ls. AreRegular ls [] in
+    let are : AreRegular (lines_of text) before.done = subst P (append-nil before.done) (before.rest [] (subst Q (sym none) refl)) in
+    (before.done, are, ap lines_of before.text ∙ ended_lines before.done (made_lines (lines_of text) before.done are (all_lines text)))
+
+pub keeps_forms : (text out : List ℕ) → IsRegularText text out → KeepsForms text out
+keeps_forms text out is form has among =
+    let P : List (List ℕ) → Type 0 = λ ls. IsAmong (line_text form) ls in
+    subst P (sym is.2) (among_front (line_text form) is.0 ([] ∷ []) (kept_lines (lines_of text) is.0 form is.1 has among))
+
+pub invents_none : (text out : List ℕ) → IsRegularText text out → InventsNone text out
+unfolding IsAmong
+invents_none text out is line among =
+    let P : List (List ℕ) → Type 0 = λ ls. IsAmong line ls in
+    elim (among_split line is.0 ([] ∷ []) (subst P is.2 among)) [
+      | inl made ↦ elim (made_comes (lines_of text) is.0 line is.1 made) [
+        | inl same ↦ inr (inl same)
+        | inr says ↦ inr (inr says)
+      ]
+      | inr last ↦ elim last [
+        | inl empty ↦ inl empty
+        | inr none ↦ absurd none
+      ]
+    ]

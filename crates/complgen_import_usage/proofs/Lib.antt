@@ -1,0 +1,3 @@
+pub mod UsageLaws
+mod UsageRows
+pub mod UsageSteps
