@@ -7,8 +7,10 @@ use Rattle.cc_base.specs.Shown.{on_one_line}
 use Rattle.json.specs.Json.{Json, document}
 use Rattle.json.specs.Lex.{tokens}
 use Rattle.json.specs.Tree.{json_tokens}
+use Rattle.complgen_import.specs.Clean.{clean_text}
 use Rattle.complgen_import.specs.Dropped.{AreDropped, reason_text}
 use Rattle.complgen_import.specs.declared.dropped.DroppedLine.{DroppedLine}
+use Rattle.complgen_import_forms.specs.Regular.{IsRegularText}
 use Rattle.complgen_import_file.specs.Imported.{AreMissing, IsTreeOf}
 use Rattle.complgen_import_file.specs.declared.read.HelpText.{HelpText}
 use Rattle.complgen_onto.specs.Onto.{onto}
@@ -34,9 +36,14 @@ abbrev pub report_line : List ℕ → DroppedLine → List ℕ
 report_line file dropped = (((place_text file dropped.number ++ dropped.word) ++ codes ": ")
     ++ reason_text dropped.reason) ++ line_feed ∷ []
 
+-- the lines that could not be read, after each line of a further form has the stated form
+abbrev pub AreUnread : List ℕ → List DroppedLine → Type 0
+AreUnread text dropped =
+    (regular : List ℕ) × IsRegularText (clean_text text) regular × AreDropped regular dropped
+
 -- the report has a line for each line of the text that could not be read
 abbrev pub ReportsDropped : List ℕ → List ℕ → List ℕ → Type 0
-ReportsDropped file text report = (dropped : List DroppedLine) × AreDropped text dropped
+ReportsDropped file text report = (dropped : List DroppedLine) × AreUnread text dropped
     × (report ≡ flat_map (report_line (on_one_line file)) dropped)
 
 -- ---- tree files
@@ -60,3 +67,10 @@ IsImported name (Some old) texts file =
 abbrev pub IsNoJson : Option (List ℕ) → Type 0
 IsNoJson None = ⊥
 IsNoJson (Some old) = IsUtf8 old → document old ≡ None
+
+-- there is an old file, and the new tree file of these texts, which would be added to it, is not
+-- JSON: it nests too deeply
+abbrev pub IsTooDeep : List ℕ → Option (List ℕ) → List HelpText → Type 0
+IsTooDeep name None texts = ⊥
+IsTooDeep name (Some old) texts =
+    (new : List ℕ) × IsTreeOf name texts new × IsNoJson (Some new)

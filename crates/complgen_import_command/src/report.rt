@@ -3,10 +3,11 @@
 ghost use Rattle.std.specs.Prelude.{◌≡◌, ◌++◌, IfOk, OnOk, decimal};
 ghost use Rattle.std.specs.List.{flat_map};
 ghost use Rattle.std.specs.String.{string_bytes};
-ghost use Rattle.complgen_import_command.specs.Texts.{ReportsDropped, place_text, report_line};
+ghost use Rattle.complgen_import_command.specs.Texts.{AreUnread, ReportsDropped, place_text, report_line};
 
-use cc_base::on_one_line;
-use complgen_import::{DroppedLine, dropped_lines};
+use cc_base::{Items, on_one_line};
+use complgen_import::{DroppedLine, clean_text, dropped_lines};
+use complgen_import_forms::regular_text;
 use std::alloc::{AllocError, Global};
 
 /// Returns a line for each line of the help text `text` that could not be read: the path `file`, the
@@ -19,9 +20,18 @@ use std::alloc::{AllocError, Global};
 pub fn dropped_report(alloc: Global, file: &str, text: &[u8]) -> Result<Vec<u8>, AllocError>
     ensures { IfOk result (λ report. ReportsDropped file.now text.now report.items) }
 {
-    let dropped = dropped_lines(alloc, text)?;
+    let dropped = unread_lines(alloc, text)?;
     let file = on_one_line(alloc, file)?;
     report_of(alloc, file.as_str(), dropped.as_slice())
+}
+
+// Returns the lines that have neither the stated form nor a further one.
+fn unread_lines(alloc: Global, text: &[u8]) -> Result<Items<DroppedLine>, AllocError>
+    ensures { IfOk result (λ dropped. AreUnread text.now dropped) }
+{
+    let shown = clean_text(alloc, text)?;
+    let regular = regular_text(alloc, shown.as_slice())?;
+    dropped_lines(alloc, regular.as_slice())
 }
 
 fn report_of(alloc: Global, file: &str, dropped: &[DroppedLine]) -> Result<Vec<u8>, AllocError>

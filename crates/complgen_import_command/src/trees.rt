@@ -4,7 +4,7 @@ ghost use Rattle.std.specs.Prelude.{◌≡◌, ◌≢◌, Err, IfOk, Some};
 ghost use Rattle.std.specs.Option.{option_copied};
 ghost use Rattle.json.specs.Tree.{HasNumbers};
 ghost use Rattle.json.specs.Value.{value_view};
-ghost use Rattle.complgen_import_command.specs.Texts.{ExtendsTo, IsImported, IsNoJson, ValueExtendsTo};
+ghost use Rattle.complgen_import_command.specs.Texts.{ExtendsTo, IsImported, IsNoJson, IsTooDeep, ValueExtendsTo};
 
 use complgen_import_file::{HelpText, import_tree};
 use complgen_onto::onto;
@@ -49,6 +49,8 @@ pub fn imported_tree(
     ensures ok { IfOk result (λ file.
         IsImported name.now (option_copied old.entry) texts.now file.items) }
     ensures old { result ≡ Err ImportError.OldNotJson → IsNoJson (option_copied old.entry) }
+    ensures new { result ≡ Err ImportError.NewNotJson
+        → IsTooDeep name.now (option_copied old.entry) texts.now }
 {
     let new = import_tree(alloc, name, texts)?;
     match old {
@@ -61,6 +63,7 @@ pub fn imported_tree(
 fn extended_tree(alloc: Global, old: &[u8], new: &[u8]) -> Result<Vec<u8>, ImportError>
     ensures ok { IfOk result (λ file. ExtendsTo old.now new.now file.items) }
     ensures old { result ≡ Err ImportError.OldNotJson → IsNoJson (Some old.now) }
+    ensures new { result ≡ Err ImportError.NewNotJson → IsNoJson (Some new.now) }
 {
     let mut scratch = Scratch::new(alloc);
     match Value::from_slice(alloc, old, &mut scratch) {
@@ -75,6 +78,7 @@ fn with_value(alloc: Global, old: &Value<'_>, new: &[u8]) -> Result<Vec<u8>, Imp
     requires { HasNumbers (value_view old.now) }
     ensures ok { IfOk result (λ file. ValueExtendsTo (value_view old.now) new.now file.items) }
     ensures old { result ≢ Err ImportError.OldNotJson }
+    ensures new { result ≡ Err ImportError.NewNotJson → IsNoJson (Some new.now) }
 {
     let mut scratch = Scratch::new(alloc);
     match Value::from_slice(alloc, new, &mut scratch) {

@@ -1,0 +1,4 @@
+mod CheckLemmas
+mod CleanLemmas
+mod EndLemmas
+mod ReportLemmas

@@ -1,0 +1,4 @@
+pub mod Ends
+pub mod Outcomes
+pub mod Stops
+pub mod Texts
