@@ -1,8 +1,11 @@
 //! Live completion.
 
-use crate::calls::{self, Answer, LiveRequest};
+use crate::answering::{Answering, Commands};
+use crate::calls::LiveRequest;
+use crate::engine::Completer;
 use crate::folder::{self, Listing};
-use crate::tree_file::{names_file, tree_file_of, ValuesFrom};
+use crate::sources::{Shape, Source};
+use crate::tree_file::{names_file, tree_file_of};
 use clap::error::Result;
 use clap::Command;
 use std::ffi::OsString;
@@ -14,25 +17,18 @@ use std::{env, process, str};
 /// The variable with which a shell requests a registration or a reply.
 const REQUEST: &str = "COMPLETE";
 
-/// The variable by which a registration says whether it can run a command, or has run one.
-const VALUES: &str = "_COMPLGEN_VALUES";
-
-/// The variable with which a user turns commands off.
-const COMMANDS: &str = "COMPLGEN_COMMANDS";
+/// The variable with the index of the word to complete, from the shells that count words.
+const INDEX: &str = "_CLAP_COMPLETE_INDEX";
 
 /// Other variables that a registration sets. The last two are those of `clap_complete`'s
 /// registrations.
-const SET_BESIDES: [&str; 5] =
-    [VALUES, "_COMPLGEN_KEPT", "_COMPLGEN_QUOTE", "_CLAP_COMPLETE_INDEX", "_CLAP_IFS"];
+const SET_BESIDES: [&str; 4] = ["_COMPLGEN_KEPT", "_COMPLGEN_QUOTE", INDEX, "_CLAP_IFS"];
 
 /// The user's home directory.
 const HOME: &str = "HOME";
 
 /// The variable in which the library expects the current directory.
 const CURRENT_DIR: &str = "PWD";
-
-/// The exit status after the words of a command, which the shell then runs.
-const RUN: u8 = 3;
 
 /// The most bytes of a command's output that count.
 const MOST_OUTPUT: usize = 16 << 20;
@@ -46,13 +42,6 @@ pub struct CompleteEnv<F> {
     bin: Option<String>,
     completer: Option<String>,
     sources: Vec<Source>,
-}
-
-/// The place of an argument, and the words of the command that prints its values.
-struct Source {
-    path: Vec<String>,
-    id: String,
-    words: Vec<String>,
 }
 
 impl<F: Fn() -> Command> CompleteEnv<F> {
@@ -89,8 +78,36 @@ impl<F: Fn() -> Command> CompleteEnv<F> {
     /// CompleteEnv::with_factory(app).values_from(&["switch"], "topic", &list).complete();
     /// ```
     pub fn values_from(mut self, path: &[&str], id: &str, words: &[&str]) -> CompleteEnv<F> {
-        let owned = |texts: &[&str]| texts.iter().map(|text| String::from(*text)).collect();
-        self.sources.push(Source { path: owned(path), id: id.to_owned(), words: owned(words) });
+        self.sources.push(Source::command(path, id, words));
+        self
+    }
+
+    /// Offers what a completer returns as the values of an argument. `path` has the names of the
+    /// subcommands that lead to the argument with this `id`. The completer is an
+    /// [`ArgValueCompleter`](crate::engine::ArgValueCompleter) or an
+    /// [`ArgValueCandidates`](crate::engine::ArgValueCandidates), and runs in this process. It counts
+    /// instead of possible values.
+    ///
+    /// Only candidates that begin with what is typed are offered.
+    ///
+    /// ```no_run
+    /// # use clap::{Arg, Command};
+    /// # use lagvtsune::CompleteEnv;
+    /// use lagvtsune::engine::{ArgValueCandidates, CompletionCandidate};
+    ///
+    /// let topic = Arg::new("topic");
+    /// let app = || Command::new("app").subcommand(Command::new("switch").arg(topic.clone()));
+    /// let topics = ArgValueCandidates::new(|| vec![CompletionCandidate::new("news")]);
+    /// CompleteEnv::with_factory(app).completer_for(&["switch"], "topic", topics).complete();
+    /// ```
+    pub fn completer_for(
+        mut self,
+        path: &[&str],
+        id: &str,
+        completer: impl Into<Completer>,
+    ) -> CompleteEnv<F> {
+        let number = self.sources.len();
+        self.sources.push(Source::completer(path, id, number, completer.into()));
         self
     }
 
@@ -164,63 +181,42 @@ impl<F: Fn() -> Command> CompleteEnv<F> {
         let likely = typed
             .and_then(|word| str::from_utf8(word).ok())
             .and_then(|word| folder::likely_folder(word, home.as_deref(), current_dir));
+        let commands = Commands::of(may_run);
+        let (tree, shapes) = self.tree(typed.is_some())?;
         let request = LiveRequest {
-            tree: self.tree(typed.is_some())?,
-            variables: variables(home.as_deref(), current_dir, may_run),
-            output: if may_run { output() } else { Vec::new() },
-            words,
+            tree,
+            variables: variables(home.as_deref(), current_dir),
+            output: if commands == Commands::Ran { output() } else { Vec::new() },
             listing: likely.map(Listing::of).unwrap_or_default(),
+            words,
         };
-        write_answer(request)
+        let word = word_to_complete(&request.words);
+        let answering = Answering { request, commands, sources: &self.sources, shapes, word };
+        write_answer(answering.answer()?)
     }
 
-    /// Returns the tree file: the whole one for a reply, and otherwise the names alone.
-    fn tree(&self, is_reply: bool) -> io::Result<String> {
+    /// Returns the tree file: the whole one for a reply, and otherwise the names alone. Returns the
+    /// names of the arguments of the sources beside it.
+    fn tree(&self, is_reply: bool) -> io::Result<(String, Vec<Shape>)> {
         let mut command = (self.factory)();
         if let Some(bin) = &self.bin {
             command.set_bin_name(bin.clone());
         }
-        if let Some(source) = self.sources.iter().find(|it| !it.is_in(&command)) {
-            let Source { path, id, .. } = source;
-            return Err(io::Error::other(format!("values_from: no argument {id:?} at {path:?}")));
-        }
+        let shapes = self.sources.iter().map(|it| Ok(Shape::of(it.argument(&command)?)));
+        let shapes = shapes.collect::<io::Result<Vec<_>>>()?;
         let sources: Vec<_> = self.sources.iter().map(Source::as_values_from).collect();
-        Ok(if is_reply { tree_file_of(command, &sources) } else { names_file(&command) })
+        let tree = match is_reply {
+            true => tree_file_of(command, &sources),
+            false => names_file(&command),
+        };
+        Ok((tree, shapes))
     }
 }
 
-impl Source {
-    /// Returns whether a command has the argument.
-    fn is_in(&self, command: &Command) -> bool {
-        let found = self.path.iter().try_fold(command, |command, name| child(command, name));
-        found.is_some_and(|command| command.get_arguments().any(|arg| arg.get_id() == &self.id))
-    }
-
-    fn as_values_from(&self) -> ValuesFrom<'_> {
-        ValuesFrom { path: &self.path, id: &self.id, words: &self.words }
-    }
-}
-
-/// Returns the subcommand with this name.
-fn child<'c>(command: &'c Command, name: &str) -> Option<&'c Command> {
-    command.get_subcommands().find(|child| child.get_name() == name)
-}
-
-/// Writes the library's answer to stdout, and returns the exit status.
-fn write_answer(mut request: LiveRequest) -> Result<Option<u8>> {
-    let mut answer = calls::live(&request)?;
-    if let Answer::WantsFolder(path) = answer {
-        request.listing = Listing::of(path);
-        answer = calls::live(&request)?;
-    }
-    let (status, text) = match answer {
-        Answer::Text(text) => (0, text),
-        Answer::Run(words) => (RUN, words),
-        Answer::NotRequested => return Ok(None),
-        // No request needs the names of two directories.
-        Answer::WantsFolder(path) => {
-            return Err(io::Error::other(format!("wanted besides: {path}")).into())
-        }
+/// Writes the text of an answer to stdout, and returns the exit status.
+fn write_answer(answer: Option<(u8, Vec<u8>)>) -> Result<Option<u8>> {
+    let Some((status, text)) = answer else {
+        return Ok(None);
     };
     let mut stdout = io::stdout();
     stdout.write_all(&text)?;
@@ -228,14 +224,12 @@ fn write_answer(mut request: LiveRequest) -> Result<Option<u8>> {
     Ok(Some(status))
 }
 
-/// Returns what a command printed, if the registration passes it to stdin: the lines in the first
+/// Returns what a command printed, which the registration passes to stdin: the lines in the first
 /// 16 MiB. After an error, what was read before it counts.
 fn output() -> Vec<u8> {
     let mut output = Vec::new();
-    if env::var_os(VALUES).is_some_and(|values| values == "stdin") {
-        let _ = io::stdin().take(MOST_OUTPUT as u64 + 1).read_to_end(&mut output);
-        cut_after_line(&mut output, MOST_OUTPUT);
-    }
+    let _ = io::stdin().take(MOST_OUTPUT as u64 + 1).read_to_end(&mut output);
+    cut_after_line(&mut output, MOST_OUTPUT);
     output
 }
 
@@ -259,11 +253,20 @@ fn typed_word(words: &[Vec<u8>]) -> Option<&[u8]> {
     is_reply.then_some(last)
 }
 
+/// Returns the word to complete: the one with the index that the shell sent, or else the last one.
+/// It is empty if the shell leaves it out.
+fn word_to_complete(words: &[Vec<u8>]) -> String {
+    let start = words.iter().skip(1).position(|word| word == b"--").map_or(0, |at| at + 2);
+    let line = &words[start..];
+    let index = env::var(INDEX).ok().and_then(|index| index.parse::<usize>().ok());
+    let word = line.get(index.unwrap_or(line.len().saturating_sub(1)));
+    word.and_then(|word| String::from_utf8(word.clone()).ok()).unwrap_or_default()
+}
+
 /// Returns names and values, alternating, of the variables that are set. A directory whose path is
-/// empty or not UTF-8 is left out. Without `may_run`, commands are turned off.
-fn variables(home: Option<&str>, current_dir: Option<&str>, may_run: bool) -> Vec<Vec<u8>> {
-    let commands = if may_run { env::var(COMMANDS).ok() } else { Some("0".to_owned()) };
-    let others = [(HOME, home), (CURRENT_DIR, current_dir), (COMMANDS, commands.as_deref())];
+/// empty or not UTF-8 is left out.
+fn variables(home: Option<&str>, current_dir: Option<&str>) -> Vec<Vec<u8>> {
+    let others = [(HOME, home), (CURRENT_DIR, current_dir)];
     let others = others.map(|(name, value)| (name, value.map(OsString::from)));
     let names = [REQUEST].into_iter().chain(SET_BESIDES);
     let requested = names.map(|name| (name, env::var_os(name)));

@@ -21,8 +21,10 @@
 #![deny(unsafe_code)]
 #![warn(missing_docs)]
 
+mod answering;
 pub mod aot;
 mod calls;
+pub mod engine;
 /// Live completion: the shell runs the program itself to get completions.
 pub mod env;
 mod folder;
@@ -34,6 +36,7 @@ mod native;
 #[allow(unsafe_code)]
 mod refusing;
 mod shell;
+mod sources;
 #[cfg(test)]
 mod tests;
 mod tree_file;

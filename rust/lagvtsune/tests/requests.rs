@@ -2,7 +2,11 @@
 //! the environment of a process.
 
 use clap::{Arg, Command, ValueHint};
+use lagvtsune::engine::{
+    ArgValueCandidates, ArgValueCompleter, CompletionCandidate, PathCompleter,
+};
 use lagvtsune::CompleteEnv;
+use std::ffi::OsStr;
 use std::io::Write;
 use std::path::{Path, PathBuf};
 use std::process::{self, Output, Stdio};
@@ -13,6 +17,7 @@ fn main() {
     match env::var("APP").as_deref() {
         Ok("paths") => CompleteEnv::with_factory(paths).complete(),
         Ok("values") => values().complete(),
+        Ok("completers") => completers().complete(),
         Ok("no status") => {
             let args = env::args_os();
             assert!(values().try_complete(args, None).unwrap(), "nothing is requested");
@@ -34,6 +39,7 @@ fn main() {
     nothing_is_requested();
     paths_of_a_folder();
     values_of_a_command();
+    values_of_completers();
     println!("requests: passed");
 }
 
@@ -55,6 +61,36 @@ fn values() -> CompleteEnv<fn() -> Command> {
         app.subcommand(Command::new("switch").arg(Arg::new("topic")))
     };
     CompleteEnv::with_factory(app).values_from(&["switch"], "topic", &["git", "branch"])
+}
+
+/// A completion of a command with completers of an option, a value and a path, and with a command.
+fn completers() -> CompleteEnv<fn() -> Command> {
+    let app: fn() -> Command = || {
+        let level = Arg::new("level").long("level").short('l').value_delimiter(',');
+        let branch = Arg::new("branch").long("branch").short('b');
+        let path = Arg::new("path").long("path");
+        let set = Command::new("set").args([level, branch, path, Arg::new("word")]);
+        Command::new("app").disable_help_flag(true).subcommand(set)
+    };
+    let levels = || {
+        let low = CompletionCandidate::new("low").help(Some("Saves\npower".into()));
+        let secret = CompletionCandidate::new("hush").hide(true);
+        let first = CompletionCandidate::new("best").display_order(Some(0)).id(Some("b".into()));
+        let again = CompletionCandidate::new("again").id(Some("b".into()));
+        let unfit = CompletionCandidate::new("two\nlines");
+        vec![secret, first, again, unfit, low, "high".into()]
+    };
+    // What is typed is repeated, so that the test sees it.
+    let repeat = |current: &OsStr| {
+        let mut twice = current.to_owned();
+        twice.push(current);
+        vec![CompletionCandidate::new(twice)]
+    };
+    CompleteEnv::with_factory(app)
+        .completer_for(&["set"], "level", ArgValueCandidates::new(levels))
+        .values_from(&["set"], "branch", &["git", "branch"])
+        .completer_for(&["set"], "word", ArgValueCompleter::new(repeat))
+        .completer_for(&["set"], "path", ArgValueCompleter::new(PathCompleter::dir()))
 }
 
 /// Runs this program with these words, and with variables that request a completion of a tree.
@@ -176,4 +212,44 @@ fn values_of_a_command() {
     assert_eq!(wrong.status.code(), Some(2));
     let message = str::from_utf8(&wrong.stderr).unwrap();
     assert!(message.contains("no argument \"level\" at [\"add\", \"s\"]"), "{message}");
+}
+
+fn values_of_completers() {
+    let offered_if = |mode: &str, commands: &str, words: &[&str]| {
+        let variables =
+            [("COMPLETE", "fish"), ("_COMPLGEN_VALUES", mode), ("COMPLGEN_COMMANDS", commands)];
+        let words = [&["--", "app", "set"], words].concat();
+        let Output { status, stdout, stderr } = run("completers", &variables, &words);
+        assert!(stderr.is_empty(), "{}", String::from_utf8_lossy(&stderr));
+        (status.code().unwrap(), String::from_utf8(stdout).unwrap())
+    };
+    // The words that are typed, and what is offered for the last one.
+    let cases: [(&[&str], &str); 10] = [
+        (&["--level", ""], "best\nlow\tSaves\nhigh\n"),
+        (&["--level", "l"], "low\tSaves\n"),
+        (&["--level", "hu"], "hush\n"),
+        (&["--level=h"], "--level=high\n"),
+        (&["-lh"], "-lhigh\n"),
+        (&["--level", "low,h"], "low,high\n"),
+        (&["--level", "x"], ""),
+        (&["ab"], "abab\n"),
+        // A value that begins with a hyphen is not offered.
+        (&["--", "-a"], ""),
+        (&["--path", "/usr/bi"], "/usr/bin/\n"),
+    ];
+    for (words, expected) in cases {
+        // No shell is needed, so completers do not depend on what it can do.
+        for (mode, commands) in [("", ""), ("ask", ""), ("ask", "0"), ("other", "1")] {
+            let offered = offered_if(mode, commands, words);
+            assert_eq!(offered, (0, expected.to_owned()), "{words:?} {mode} {commands}");
+        }
+    }
+    let branch = &["--branch", ""];
+    assert_eq!(offered_if("ask", "", branch), (3, "git\x0bbranch\x0b".to_owned()));
+    for (mode, commands) in [("", ""), ("ask", "0"), ("other", "")] {
+        assert_eq!(offered_if(mode, commands, branch), (0, String::new()));
+    }
+    // A registration calls no completer.
+    let fish = text("completers", &[("COMPLETE", "fish")], &[]);
+    assert!(fish.contains("--command app") && !fish.contains("lagvtsune-completer"), "{fish}");
 }

@@ -1,0 +1,124 @@
+//! The completers of an argument.
+
+use super::CompletionCandidate;
+use std::any::type_name;
+use std::ffi::OsStr;
+use std::fmt;
+use std::sync::Arc;
+
+/// Computes the values of an argument from what is typed of the value.
+pub trait ValueCompleter: Send + Sync {
+    /// Returns the candidates for a value of which `current` is typed.
+    fn complete(&self, current: &OsStr) -> Vec<CompletionCandidate>;
+
+    /// Returns the candidates for the value at `arg_index` of an argument with several values.
+    /// [`CompleteEnv`](crate::CompleteEnv) does not call it.
+    fn complete_at(&self, arg_index: usize, current: &OsStr) -> Vec<CompletionCandidate> {
+        let _ = arg_index;
+        self.complete(current)
+    }
+}
+
+impl<F> ValueCompleter for F
+where
+    F: Fn(&OsStr) -> Vec<CompletionCandidate> + Send + Sync,
+{
+    fn complete(&self, current: &OsStr) -> Vec<CompletionCandidate> {
+        self(current)
+    }
+}
+
+/// Computes all values of an argument, whatever is typed of the value.
+pub trait ValueCandidates: Send + Sync {
+    /// Returns all candidates.
+    fn candidates(&self) -> Vec<CompletionCandidate>;
+}
+
+impl<F> ValueCandidates for F
+where
+    F: Fn() -> Vec<CompletionCandidate> + Send + Sync,
+{
+    fn candidates(&self) -> Vec<CompletionCandidate> {
+        self()
+    }
+}
+
+/// A completer that gets what is typed of the value.
+#[derive(Clone)]
+pub struct ArgValueCompleter(Arc<dyn ValueCompleter>);
+
+impl ArgValueCompleter {
+    /// Makes a completer from a function or from a type of your own.
+    pub fn new(completer: impl ValueCompleter + 'static) -> ArgValueCompleter {
+        ArgValueCompleter(Arc::new(completer))
+    }
+
+    /// Returns the candidates for a value of which `current` is typed.
+    pub fn complete(&self, current: &OsStr) -> Vec<CompletionCandidate> {
+        self.0.complete(current)
+    }
+
+    /// Returns the candidates for the value at `arg_index`, counted from 0.
+    pub fn complete_at(&self, arg_index: usize, current: &OsStr) -> Vec<CompletionCandidate> {
+        self.0.complete_at(arg_index, current)
+    }
+}
+
+impl fmt::Debug for ArgValueCompleter {
+    fn fmt(&self, f: &mut fmt::Formatter<'_>) -> fmt::Result {
+        f.write_str(type_name::<Self>())
+    }
+}
+
+/// A list of all values of an argument. Those that begin with what is typed are offered.
+#[derive(Clone)]
+pub struct ArgValueCandidates(Arc<dyn ValueCandidates>);
+
+impl ArgValueCandidates {
+    /// Makes a list from a function or from a type of your own.
+    pub fn new(candidates: impl ValueCandidates + 'static) -> ArgValueCandidates {
+        ArgValueCandidates(Arc::new(candidates))
+    }
+
+    /// Returns all candidates.
+    pub fn candidates(&self) -> Vec<CompletionCandidate> {
+        self.0.candidates()
+    }
+}
+
+impl fmt::Debug for ArgValueCandidates {
+    fn fmt(&self, f: &mut fmt::Formatter<'_>) -> fmt::Result {
+        f.write_str(type_name::<Self>())
+    }
+}
+
+/// What [`CompleteEnv::completer_for`](crate::CompleteEnv::completer_for) gives an argument.
+#[derive(Clone, Debug)]
+pub enum Completer {
+    /// A completer that gets what is typed.
+    Completer(ArgValueCompleter),
+    /// A list of all values.
+    Candidates(ArgValueCandidates),
+}
+
+impl Completer {
+    /// Returns the candidates for a value of which `current` is typed.
+    pub(crate) fn complete(&self, current: &str) -> Vec<CompletionCandidate> {
+        match self {
+            Completer::Completer(completer) => completer.complete(OsStr::new(current)),
+            Completer::Candidates(candidates) => candidates.candidates(),
+        }
+    }
+}
+
+impl From<ArgValueCompleter> for Completer {
+    fn from(completer: ArgValueCompleter) -> Completer {
+        Completer::Completer(completer)
+    }
+}
+
+impl From<ArgValueCandidates> for Completer {
+    fn from(candidates: ArgValueCandidates) -> Completer {
+        Completer::Candidates(candidates)
+    }
+}
