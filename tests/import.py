@@ -7,8 +7,8 @@ The programs print the texts of tests/import.d, or misbehave. `complgen-import` 
 
 The parts:
 
-- formats: texts of eight formats, with `--walk`. The commands, options, numbers of values, possible
-  values and hints are those of the file `expected` beside the text, which was written by hand;
+- formats: texts of eight formats, with `--walk`. The commands, options, positionals, numbers of values,
+  possible values and hints are those of the file `expected` beside the text, which was written by hand;
 - program: the same without `--walk`: only the text of the program itself is read;
 - environment: what a program gets, and that it has no input and no terminal;
 - limits: programs that print for ever, sleep, print nothing, crash, leave children behind, or print escape
@@ -165,11 +165,11 @@ def rows(node, path):
     """Returns what a tree says, in the form of the files `expected`."""
     found = [", ".join([" ".join(path), *node.get("visible_aliases", [])])] if len(path) > 1 else []
     for argument in node.get("args", []):
-        if names_of(argument):
-            values = [it["name"] for it in argument.get("possible_values", [])]
-            words = [*names_of(argument), *number_of_values(argument), *values]
-            words += [argument["value_hint"]] if "value_hint" in argument else []
-            found.append(f"{' '.join(path)}: {' '.join(words)}")
+        values = [it["name"] for it in argument.get("possible_values", [])]
+        names = names_of(argument) or [f"[{argument['id']}]"]
+        words = [*names, *number_of_values(argument), *values]
+        words += [argument["value_hint"]] if "value_hint" in argument else []
+        found.append(f"{' '.join(path)}: {' '.join(words)}")
     for child in node.get("subcommands", []):
         found += rows(child, [*path, child["name"]])
     return found
@@ -207,7 +207,8 @@ def try_formats(room, options):
         if status == 0:
             room.expect(f"{name}: commands and options", sorted(expected), sorted(rows(room.tree(name), [name])))
             commands = sum(":" not in row for row in expected)
-            counts = f"{name}: {commands} commands, {len(expected) - commands} options, {dropped}\n"
+            named = sum(": -" in row for row in expected)
+            counts = f"{name}: {commands} commands, {named} options, {dropped}\n"
             room.expect(f"{name}: output", counts, out)
 
 

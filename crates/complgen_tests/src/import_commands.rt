@@ -72,6 +72,18 @@ positional arguments:
     lists(&rt, rt.alloc(), text, b"hem Hems\nknot \n");
 }
 
+#[test]
+fn entries_below_a_word(rt: HostRuntime) {
+    let text = b"usage: sew [-h] WORK ...
+
+what to do:
+  WORK        Any of these
+    hem       Hems
+    knot      Ties
+";
+    lists(&rt, rt.alloc(), text, b"hem Hems\nknot Ties\n");
+}
+
 // Returns a line for each line that is dropped: its number as a digit, its first word and the
 // reason.
 fn dropped(alloc: Global, text: &[u8]) -> Result<Vec<u8>, AllocError> {

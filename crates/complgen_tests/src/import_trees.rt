@@ -88,6 +88,106 @@ fn a_tree_has_the_text_of_each_subcommand(rt: HostRuntime) {
     assert_eq!(rt; missing.as_slice()[0].as_slice(), b"mend".as_slice());
 }
 
+// `--log` and its help text are the same in both texts. `--level` has other values in `hem`, and
+// `--dry` has another help text.
+const SHARING: &[u8] = b"Commands:
+  hem   Folds the edge
+  mend  Closes holes
+
+Options:
+  -l, --log <FILE>  Notes each stitch
+  --level <N>  Keeps tight
+  --dry  Holds still
+";
+
+const SHARING_HEM: &[u8] = b"Options:
+  --own  Starts here
+  --level  Keeps tight
+  --dry  Dries it first
+  -l, --log <FILE>  Notes each stitch
+";
+
+const SHARED: &[u8] = br#"{
+  "name": "sew",
+  "disable_help_flag": true,
+  "args": [
+    {
+      "id": "log",
+      "short": "l",
+      "long": "log",
+      "value_names": [
+        "FILE"
+      ],
+      "value_hint": "FilePath",
+      "global": true,
+      "help": "Notes each stitch"
+    },
+    {
+      "id": "level",
+      "long": "level",
+      "value_names": [
+        "N"
+      ],
+      "help": "Keeps tight"
+    },
+    {
+      "id": "dry",
+      "long": "dry",
+      "action": "SetTrue",
+      "help": "Holds still"
+    }
+  ],
+  "disable_help_subcommand": true,
+  "subcommands": [
+    {
+      "name": "hem",
+      "disable_help_flag": true,
+      "about": "Folds the edge",
+      "args": [
+        {
+          "id": "own",
+          "long": "own",
+          "action": "SetTrue",
+          "help": "Starts here"
+        },
+        {
+          "id": "level",
+          "long": "level",
+          "action": "SetTrue",
+          "help": "Keeps tight"
+        },
+        {
+          "id": "dry",
+          "long": "dry",
+          "action": "SetTrue",
+          "help": "Dries it first"
+        }
+      ]
+    },
+    {
+      "name": "mend",
+      "disable_help_flag": true,
+      "about": "Closes holes"
+    }
+  ]
+}"#;
+
+#[test]
+fn an_option_that_each_text_has_is_global(rt: HostRuntime) {
+    let texts = [
+        HelpText {
+            path: Bytes::new(b""),
+            text: Bytes::new(SHARING),
+        },
+        HelpText {
+            path: Bytes::new(b"hem"),
+            text: Bytes::new(SHARING_HEM),
+        },
+    ];
+    let tree = import_tree(rt.alloc(), "sew", texts.as_slice()).expect(&rt, "no tree");
+    assert_eq!(rt; tree.as_slice(), SHARED);
+}
+
 #[test]
 fn a_text_makes_a_tree_of_its_own(rt: HostRuntime) {
     let text = b"  -o <HOST:PORT>...  Sends it there\n";

@@ -120,7 +120,12 @@ positional arguments:
   {go,stop}
     go        Begins
 ";
-    says_positionals(&rt, rt.alloc(), text, b"input\nhem,dart =hem =dart\n");
+    says_positionals(
+        &rt,
+        rt.alloc(),
+        text,
+        b"input AnyPath\nhem,dart =hem =dart\n",
+    );
 }
 
 #[test]

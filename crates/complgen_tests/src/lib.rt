@@ -12,10 +12,14 @@ mod debug;
 mod import_command;
 #[cfg(test)]
 mod import_commands;
+mod import_forms;
 #[cfg(test)]
 mod import_names;
 #[cfg(test)]
+#[cfg(test)]
 mod import_trees;
+#[cfg(test)]
+mod import_usage;
 #[cfg(test)]
 mod import_values;
 #[cfg(test)]
