@@ -89,6 +89,7 @@ CALLS = {
         SafeShell: new write_registrations {ADAPTER} ; Shells: builtins safe completer names iter
         CompleteEnv: with_factory safe var bin completer shells try_complete ; is_plain_path
         are_readable_values ; are_readable_zsh_items ; are_readable_lines
+        are_readable_entries
     """,
     "parser": "parser ; fits_parser ; candidates_and_parser",
     "describe": """
