@@ -12,10 +12,10 @@ mod debug;
 mod import_command;
 #[cfg(test)]
 mod import_commands;
+#[cfg(test)]
 mod import_forms;
 #[cfg(test)]
 mod import_names;
-#[cfg(test)]
 #[cfg(test)]
 mod import_trees;
 #[cfg(test)]
