@@ -23,7 +23,7 @@ module _ {S E : Type 0} (taken : S → List ℕ) (failed : S → Failures) (told
   no_refusal : (status : ℕ) (message : List ℕ) → Refuses plan files status message → status ≡ 0
       → AddsCleanTree taken old new
   no_refusal status message (not_plain h) zero = absurd (omega arith)
-  no_refusal status message no_memory zero = absurd (omega arith)
+  no_refusal status message (no_memory plain) zero = absurd (omega arith)
   no_refusal status message (dropped report asks strict some) zero = absurd (omega arith)
   no_refusal status message (no_tree report text asks none) zero = absurd (omega arith)
 

@@ -94,8 +94,8 @@ pub data HasNoTree (name : List ℕ) (texts : List HelpText)
 pub data Refuses (plan : ImportPlan) (files : List HelpFile) : ℕ → List ℕ → Type 0 where
   -- the name of the program is not plain
   not_plain : is_plain_name plan.name ≡ false → Refuses plan files 2 name_not_plain_line
-  -- out of memory before there is a report
-  no_memory : Refuses plan files 1 out_of_memory_line
+  -- out of memory before there is a list or a report
+  no_memory : IsTrue (is_plain_name plan.name) → Refuses plan files 1 out_of_memory_line
   -- a line could not be read, and the plan is strict
   dropped : (report : List ℕ) → AsksForTree plan files report → IsTrue plan.strict → report ≢ []
       → Refuses plan files 1 (report ++ lines_dropped_line)

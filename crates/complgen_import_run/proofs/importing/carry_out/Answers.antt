@@ -1,4 +1,4 @@
-use Rattle.std.proofs.Common.{◌≡◌, false}
+use Rattle.std.proofs.Common.{◌≡◌, IsTrue, false}
 use Rattle.cc_base.specs.PlainName.{is_plain_name}
 use Rattle.complgen_commands.specs.Refusals.{out_of_memory_line}
 use Rattle.complgen_import_run.specs.Outcomes.{no_memory, not_plain}
@@ -16,7 +16,8 @@ returns-then-not-is_plain_name g c =
 
 pub returns-in-Err : goal.returns-in-Err
 returns-in-Err g c =
+    let plain : IsTrue (is_plain_name c.args.plan.now.name) = cc in
     ends_refusal g.W.Sink.taken g.W.Sink.failed g.E.Sink.taken g.E.Sink.failed c.args.plan.now
     c.args.files.now c.args.out.now c.args.errors.now c.refuse-in-Err.new.errors 1 c.refuse-in-Err.result
-    out_of_memory_line c.from.result no_memory c.from.ensures.status c.from.ensures.text_is
+    out_of_memory_line c.from.result (no_memory plain) c.from.ensures.status c.from.ensures.text_is
     c.refuse-in-Err.ensures.status c.refuse-in-Err.ensures.told

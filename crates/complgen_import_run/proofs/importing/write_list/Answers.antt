@@ -16,5 +16,6 @@ pub returns-in-Err : goal.returns-in-Err
 returns-in-Err g c =
     ends_refusal g.W.Sink.taken g.W.Sink.failed g.E.Sink.taken g.E.Sink.failed c.args.plan.now
     c.args.files.now c.args.out.now c.args.errors.now c.refuse.new.errors 1 c.refuse.result
-    out_of_memory_line c.from.result no_memory c.from.ensures.status c.from.ensures.text_is
+    out_of_memory_line c.from.result (no_memory c.requires.plain) c.from.ensures.status
+    c.from.ensures.text_is
     c.refuse.ensures.status c.refuse.ensures.told
