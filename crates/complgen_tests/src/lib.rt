@@ -17,6 +17,8 @@ mod import_forms;
 #[cfg(test)]
 mod import_names;
 #[cfg(test)]
+mod import_run;
+#[cfg(test)]
 mod import_trees;
 #[cfg(test)]
 mod import_usage;
