@@ -192,6 +192,14 @@ def expected_rows(name):
     return found, dropped
 
 
+def counts_of(found):
+    """Returns how many commands, options and positionals the rows of a format have, as the script says it."""
+    commands, named, positionals = (sum(map(test, found)) for test in (
+        lambda row: ":" not in row, lambda row: ": -" in row, lambda row: ": [" in row))
+    placed = {0: "", 1: ", 1 positional argument"}.get(positionals, f", {positionals} positional arguments")
+    return f"{commands} commands, {named} options{placed}"
+
+
 def program_of(found):
     return re.match(r"\w+", found[0])[0]
 
@@ -206,10 +214,7 @@ def try_formats(room, options):
         room.expect(f"{name}: status", 0, status)
         if status == 0:
             room.expect(f"{name}: commands and options", sorted(expected), sorted(rows(room.tree(name), [name])))
-            commands = sum(":" not in row for row in expected)
-            named = sum(": -" in row for row in expected)
-            counts = f"{name}: {commands} commands, {named} options, {dropped}\n"
-            room.expect(f"{name}: output", counts, out)
+            room.expect(f"{name}: output", f"{name}: {counts_of(expected)}, {dropped}\n", out)
 
 
 def try_program(room, options):
@@ -264,9 +269,10 @@ LIMITED = {
     "blank": (["printf ' \\n\\n'"], "blank --help: printed nothing"),
     "crash": (["echo '  --crash  It crashes'", "kill -SEGV $$"], "crash --help: ended by the signal SIGSEGV"),
     "chatty": (["echo hello; echo world"],
-               "chatty --help: no option and no subcommand was found in what it prints: hello"),
+               "chatty --help: no option, no positional argument and no subcommand was found in what it prints: hello"),
     "rude": (["printf 'no \\033]0;title\\007 such \\033[31moption\\n' >&2; exit 2"],
-             "rude --help: no option and no subcommand was found in what it prints: no ?]0;title? such ?[31moption"),
+             "rude --help: no option, no positional argument and no subcommand was found in what it prints: "
+             "no ?]0;title? such ?[31moption"),
 }
 
 
@@ -311,6 +317,10 @@ def try_accepted(room):
         room.expect(name, (0, f"{name}: 0 commands, 1 option, 0 lines dropped\n", ""), (status, out, messages))
         room.expect(f"{name}: options", ["--" + name], room.names(name))
         room.expect(f"{name}: processes", [], sleeping())
+    room.script("placed", "echo 'Usage: placed FILE'")
+    found = "placed: 0 commands, 0 options, 1 positional argument, 0 lines dropped\n"
+    room.expect("positionals alone", (0, found, ""), room.run("placed"))
+    room.expect("positionals alone: tree", ["placed: [FILE] =1 FilePath"], rows(room.tree("placed"), ["placed"]))
     room.expect("the standard output comes first", "SetTrue", room.tree("warns")["args"][0].get("action"))
     with open(room.place("colors"), "rb") as file:
         room.expect("control characters", [], re.findall(rb"[\x00-\x09\x0b-\x1f\x7f]", file.read()))
