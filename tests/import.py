@@ -169,6 +169,7 @@ def rows(node, path):
         names = names_of(argument) or [f"[{argument['id']}]"]
         words = [*names, *number_of_values(argument), *values]
         words += [argument["value_hint"]] if "value_hint" in argument else []
+        words += ["global"] if argument.get("global") else []
         found.append(f"{' '.join(path)}: {' '.join(words)}")
     for child in node.get("subcommands", []):
         found += rows(child, [*path, child["name"]])
