@@ -2,3 +2,4 @@ mod CheckLemmas
 mod CleanLemmas
 mod EndLemmas
 mod ReportLemmas
+mod StatusLemmas

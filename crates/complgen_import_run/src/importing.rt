@@ -1,6 +1,6 @@
 //! Writes a tree file that `check` accepts, or a list of paths, or says why there is none.
 
-ghost use Rattle.std.specs.Prelude.{◌≡◌, IsTrue, false};
+ghost use Rattle.std.specs.Prelude.{◌≡◌, ◌↔◌, IsTrue, false};
 ghost use Rattle.complgen_import_run.specs.Ends.{AddsCleanTree, EndsImport};
 ghost use Rattle.complgen_import_run.specs.Outcomes.{AsksForTree};
 ghost use Rattle.cc_base.specs.PlainName.{is_plain_name};
@@ -38,6 +38,7 @@ pub fn import<W: Sink, E: Sink>(
     ensures ends { EndsImport W.taken W.failed E.taken E.failed plan.now files.now
         out.old out.new errors.old errors.new result }
     ensures clean { plan.now.list ≡ false → result ≡ 0 → AddsCleanTree W.taken out.old out.new }
+    ensures plain { (result ≡ 2) ↔ (is_plain_name plan.now.name ≡ false) }
 {
     carry_out(alloc, out, errors, plan, files)
 }
