@@ -23,11 +23,12 @@ pub(crate) fn script(shell: &str, bin: &str, tree: &str) -> io::Result<Vec<u8>> 
     let (status, text) = with_room(first, |room| native::script(shell, bin, tree, room));
     match status {
         0 => Ok(text),
-        other => Err(refusal(other, text)),
+        other => Err(refusal(other, &text)),
     }
 }
 
 /// A live request.
+#[derive(Default)]
 pub(crate) struct LiveRequest {
     pub(crate) tree: String,
     /// The program's arguments, starting with its name.
@@ -75,7 +76,7 @@ pub(crate) fn live(request: &LiveRequest) -> io::Result<Answer> {
         3 => Ok(Answer::NotRequested),
         4 => Ok(Answer::WantsFolder(String::from_utf8_lossy(&text).into_owned())),
         5 => Ok(Answer::Run(text)),
-        other => Err(refusal(other, text)),
+        other => Err(refusal(other, &text)),
     }
 }
 
@@ -85,9 +86,9 @@ pub(crate) fn slices<T: AsRef<[u8]>>(texts: &[T]) -> Vec<Bytes<'_>> {
 }
 
 /// Returns the error for a status without an answer.
-fn refusal(status: u8, text: Vec<u8>) -> io::Error {
+fn refusal(status: u8, text: &[u8]) -> io::Error {
     match status {
-        1 => io::Error::other(String::from_utf8_lossy(&text).trim_end()),
+        1 => io::Error::other(String::from_utf8_lossy(text).trim_end()),
         2 => io::Error::other("words: not UTF-8"),
         other => io::Error::other(format!("the library ended with the status {other}")),
     }

@@ -1,66 +1,100 @@
-//! Live completion.
+//! Live completion: the shell runs the program itself to get completions.
+//!
+//! To enable completion, your users make their shell load the program's output for the variable
+//! `COMPLETE`, by a line such as one of these in a start file:
+//!
+//! | Shell | Line |
+//! |---|---|
+//! | bash | `source <(COMPLETE=bash app)` |
+//! | Elvish | `eval (E:COMPLETE=elvish app \| slurp)` |
+//! | fish | `COMPLETE=fish app \| source` |
+//! | zsh | `source <(COMPLETE=zsh app)` |
+//!
+//! In PowerShell: `$env:COMPLETE = "powershell"; app | Out-String | Invoke-Expression; Remove-Item
+//! Env:\COMPLETE`.
 
-use crate::answering::{Answering, Commands};
-use crate::calls::LiveRequest;
-use crate::engine::Completer;
-use crate::folder::{self, Listing};
-use crate::sources::{Shape, Source};
-use crate::tree_file::{names_file, tree_file_of};
+mod quoting;
+mod registrations;
+mod safe;
+mod shells;
+
+pub use safe::SafeShell;
+pub use shells::{Bash, Elvish, EnvCompleter, Fish, Powershell, Shells, Zsh};
+
+use crate::answering::{Request, REQUEST};
+use crate::engine::{Completer, SubcommandCandidates};
+use crate::sources::Sources;
 use clap::error::Result;
 use clap::Command;
-use std::ffi::OsString;
-use std::io::{self, Read, Write};
-use std::os::unix::ffi::OsStringExt;
-use std::path::Path;
-use std::{env, process, str};
-
-/// The variable with which a shell requests a registration or a reply.
-const REQUEST: &str = "COMPLETE";
-
-/// The variable with the index of the word to complete, from the shells that count words.
-const INDEX: &str = "_CLAP_COMPLETE_INDEX";
-
-/// Other variables that a registration sets. The last two are those of `clap_complete`'s
-/// registrations.
-const SET_BESIDES: [&str; 4] = ["_COMPLGEN_KEPT", "_COMPLGEN_QUOTE", INDEX, "_CLAP_IFS"];
-
-/// The user's home directory.
-const HOME: &str = "HOME";
-
-/// The variable in which the library expects the current directory.
-const CURRENT_DIR: &str = "PWD";
-
-/// The most bytes of a command's output that count.
-const MOST_OUTPUT: usize = 16 << 20;
+use std::ffi::{OsStr, OsString};
+use std::io::{self, Write};
+use std::path::{Path, PathBuf};
+use std::{env, process};
 
 /// Answers the completion requests of shells. Call it before the program does anything else.
 ///
-/// To enable completion, a user makes the shell load the program's output for the variable
-/// `COMPLETE`, such as by `source <(COMPLETE=bash app)` in bash.
-pub struct CompleteEnv<F> {
+/// ```no_run
+/// use clap::Command;
+/// use lagvtsune::CompleteEnv;
+///
+/// CompleteEnv::with_factory(|| Command::new("app").subcommand(Command::new("run"))).complete();
+/// // the program itself
+/// ```
+pub struct CompleteEnv<'s, F> {
     factory: F,
+    var: &'static str,
     bin: Option<String>,
     completer: Option<String>,
-    sources: Vec<Source>,
+    shells: Shells<'s>,
+    sources: Sources,
 }
 
-impl<F: Fn() -> Command> CompleteEnv<F> {
-    /// Completes the command that `factory` returns, whether it is built or not.
-    pub fn with_factory(factory: F) -> CompleteEnv<F> {
-        CompleteEnv { factory, bin: None, completer: None, sources: Vec::new() }
+impl<'s, F: Fn() -> Command> CompleteEnv<'s, F> {
+    /// Completes the command that `factory` returns, whether it is built or not, for the variable
+    /// `COMPLETE` and the shells of [`Shells::safe`].
+    pub fn with_factory(factory: F) -> CompleteEnv<'s, F> {
+        CompleteEnv {
+            factory,
+            var: REQUEST,
+            bin: None,
+            completer: None,
+            shells: Shells::safe(),
+            sources: Sources::default(),
+        }
+    }
+
+    /// Sets the variable with which a shell requests a registration or a reply.
+    pub fn var(mut self, var: &'static str) -> CompleteEnv<'s, F> {
+        self.var = var;
+        self
     }
 
     /// Sets the name by which users call the program, for which the registration completes. Without
     /// it, that is the bin name of the command, or its name if it has none.
-    pub fn bin(mut self, bin: impl Into<String>) -> CompleteEnv<F> {
+    pub fn bin(mut self, bin: impl Into<String>) -> CompleteEnv<'s, F> {
         self.bin = Some(bin.into());
         self
     }
 
     /// Sets the program that the registration runs for each completion. Without it, that is the
     /// first of the arguments, which is the name or the path by which the program was called.
-    pub fn completer(mut self, completer: impl Into<String>) -> CompleteEnv<F> {
+    pub fn completer(mut self, completer: impl Into<String>) -> CompleteEnv<'s, F> {
         self.completer = Some(completer.into());
+        self
+    }
+
+    /// Sets the shells that the program answers.
+    ///
+    /// ```no_run
+    /// # use clap::Command;
+    /// # use lagvtsune::CompleteEnv;
+    /// use lagvtsune::env::{Bash, Shells};
+    ///
+    /// let app = || Command::new("app");
+    /// CompleteEnv::with_factory(app).shells(Shells(&[&Bash])).complete();
+    /// ```
+    pub fn shells(mut self, shells: Shells<'s>) -> CompleteEnv<'s, F> {
+        self.shells = shells;
         self
     }
 
@@ -77,8 +111,8 @@ impl<F: Fn() -> Command> CompleteEnv<F> {
     /// let list = ["git", "for-each-ref", "--format=%(refname:short)", "refs/heads"];
     /// CompleteEnv::with_factory(app).values_from(&["switch"], "topic", &list).complete();
     /// ```
-    pub fn values_from(mut self, path: &[&str], id: &str, words: &[&str]) -> CompleteEnv<F> {
-        self.sources.push(Source::command(path, id, words));
+    pub fn values_from(mut self, path: &[&str], id: &str, words: &[&str]) -> CompleteEnv<'s, F> {
+        self.sources.add_command(path, id, words);
         self
     }
 
@@ -105,9 +139,29 @@ impl<F: Fn() -> Command> CompleteEnv<F> {
         path: &[&str],
         id: &str,
         completer: impl Into<Completer>,
-    ) -> CompleteEnv<F> {
-        let number = self.sources.len();
-        self.sources.push(Source::completer(path, id, number, completer.into()));
+    ) -> CompleteEnv<'s, F> {
+        self.sources.add_completer(owned(path), id, completer.into());
+        self
+    }
+
+    /// Offers what a list returns as subcommands of the command to which the names in `path` lead.
+    /// The command has to allow external subcommands.
+    ///
+    /// ```no_run
+    /// # use clap::Command;
+    /// # use lagvtsune::CompleteEnv;
+    /// use lagvtsune::engine::{CompletionCandidate, SubcommandCandidates};
+    ///
+    /// let app = || Command::new("app").allow_external_subcommands(true);
+    /// let found = SubcommandCandidates::new(|| vec![CompletionCandidate::new("plugin")]);
+    /// CompleteEnv::with_factory(app).subcommand_candidates_for(&[], found).complete();
+    /// ```
+    pub fn subcommand_candidates_for(
+        mut self,
+        path: &[&str],
+        candidates: SubcommandCandidates,
+    ) -> CompleteEnv<'s, F> {
+        self.sources.add_external(owned(path), candidates);
         self
     }
 
@@ -125,23 +179,25 @@ impl<F: Fn() -> Command> CompleteEnv<F> {
 
     /// If a shell requests it, writes the registration or the reply for `args` to stdout. The first
     /// of `args` is the program's name, and relative paths refer to `current_dir`. Returns whether
-    /// a shell requested it.
+    /// a shell requested it. Then it has removed the variable of the request from the environment.
     ///
     /// The reply has no values from commands. [`CompleteEnv::try_complete_asking`] offers them.
     ///
     /// # Errors
     ///
     /// - The error of stdout, if writing fails.
-    /// - The library's message, before anything is written, such as for an unknown shell.
-    /// - An error before anything is written, if an argument is not UTF-8.
-    /// - An error before anything is written, if the command has no argument that `values_from`
-    ///   names.
+    /// - The library's message, before anything is written.
+    /// - An error before anything is written, if no shell has the requested name, if there are no
+    ///   `args`, or if a word of the command line is not UTF-8.
+    /// - An error before anything is written, if the command has no argument or subcommand that
+    ///   `values_from`, `completer_for` or `subcommand_candidates_for` names.
     pub fn try_complete(
         self,
         args: impl IntoIterator<Item = impl Into<OsString>>,
         current_dir: Option<&Path>,
     ) -> Result<bool> {
-        Ok(self.answer(words(args), current_dir, false)?.is_some())
+        let args: Vec<_> = args.into_iter().map(Into::into).collect();
+        Ok(self.answer(&args, current_dir, false)?.is_some())
     }
 
     /// Does the same as [`CompleteEnv::try_complete`], but may also write the words of a command.
@@ -157,119 +213,66 @@ impl<F: Fn() -> Command> CompleteEnv<F> {
         args: impl IntoIterator<Item = impl Into<OsString>>,
         current_dir: Option<&Path>,
     ) -> Result<Option<u8>> {
-        self.answer(words(args), current_dir, true)
+        let args: Vec<_> = args.into_iter().map(Into::into).collect();
+        self.answer(&args, current_dir, true)
     }
 
     /// Writes what is requested, and returns the exit status. Without `may_run`, commands are
     /// turned off.
     fn answer(
         mut self,
-        mut words: Vec<Vec<u8>>,
+        args: &[OsString],
         current_dir: Option<&Path>,
         may_run: bool,
     ) -> Result<Option<u8>> {
-        // The library decides this too, but without a request no tree should be made.
-        if env::var_os(REQUEST).is_none_or(|value| value.is_empty() || value == "0") {
+        let requested = env::var_os(self.var).filter(|name| !name.is_empty() && name != "0");
+        let Some(name) = requested else {
             return Ok(None);
-        }
-        if let (Some(completer), Some(first)) = (self.completer.take(), words.first_mut()) {
-            *first = completer.into_bytes();
-        }
-        let home = env::var(HOME).ok().filter(|path| !path.is_empty());
-        let current_dir = current_dir.and_then(Path::to_str);
-        let typed = typed_word(&words);
-        let likely = typed
-            .and_then(|word| str::from_utf8(word).ok())
-            .and_then(|word| folder::likely_folder(word, home.as_deref(), current_dir));
-        let commands = Commands::of(may_run);
-        let (tree, shapes) = self.tree(typed.is_some())?;
-        let request = LiveRequest {
-            tree,
-            variables: variables(home.as_deref(), current_dir),
-            output: if commands == Commands::Ran { output() } else { Vec::new() },
-            listing: likely.map(Listing::of).unwrap_or_default(),
-            words,
         };
-        let word = word_to_complete(&request.words);
-        let answering = Answering { request, commands, sources: &self.sources, shapes, word };
-        write_answer(answering.answer()?)
-    }
-
-    /// Returns the tree file: the whole one for a reply, and otherwise the names alone. Returns the
-    /// names of the arguments of the sources beside it.
-    fn tree(&self, is_reply: bool) -> io::Result<(String, Vec<Shape>)> {
-        let mut command = (self.factory)();
-        if let Some(bin) = &self.bin {
-            command.set_bin_name(bin.clone());
-        }
-        let shapes = self.sources.iter().map(|it| Ok(Shape::of(it.argument(&command)?)));
-        let shapes = shapes.collect::<io::Result<Vec<_>>>()?;
-        let sources: Vec<_> = self.sources.iter().map(Source::as_values_from).collect();
-        let tree = match is_reply {
-            true => tree_file_of(command, &sources),
-            false => names_file(&command),
+        // A program that a completer starts must not answer the request.
+        env::remove_var(self.var);
+        let shell = self.shells.completer_for_path(Path::new(&name))?;
+        let command = (self.factory)();
+        self.sources.check(&command)?;
+        let Some((program, line)) = args.split_first() else {
+            return Err(io::Error::other("no arguments").into());
         };
-        Ok((tree, shapes))
+        let line = words_after_dashes(line);
+        let mut text = Vec::new();
+        let status = if line.is_empty() {
+            let completer = self.completer.unwrap_or_else(|| completer(program, current_dir));
+            let bin = self.bin.as_deref().or(command.get_bin_name());
+            let bin = bin.unwrap_or(command.get_name());
+            shell.write_registration(self.var, command.get_name(), bin, &completer, &mut text)?;
+            0
+        } else {
+            self.sources.add_attached(&command, &mut Vec::new());
+            let (sources, line) = (&self.sources, line.to_vec());
+            let request = Request { command, sources, line, current_dir, may_run };
+            shell.write_answer(request, &mut text)?
+        };
+        let mut stdout = io::stdout();
+        stdout.write_all(&text)?;
+        stdout.flush()?;
+        Ok(Some(status))
     }
 }
 
-/// Writes the text of an answer to stdout, and returns the exit status.
-fn write_answer(answer: Option<(u8, Vec<u8>)>) -> Result<Option<u8>> {
-    let Some((status, text)) = answer else {
-        return Ok(None);
-    };
-    let mut stdout = io::stdout();
-    stdout.write_all(&text)?;
-    stdout.flush()?;
-    Ok(Some(status))
+/// Returns the words after the first `--`.
+fn words_after_dashes(words: &[OsString]) -> &[OsString] {
+    let dashes = words.iter().position(|word| word == "--");
+    dashes.map_or(&[], |at| &words[at + 1..])
 }
 
-/// Returns what a command printed, which the registration passes to stdin: the lines in the first
-/// 16 MiB. After an error, what was read before it counts.
-fn output() -> Vec<u8> {
-    let mut output = Vec::new();
-    let _ = io::stdin().take(MOST_OUTPUT as u64 + 1).read_to_end(&mut output);
-    cut_after_line(&mut output, MOST_OUTPUT);
-    output
+/// Returns the program that a registration runs: the one by whose name or path this process was
+/// called. A path is joined to the current directory.
+fn completer(program: &OsStr, current_dir: Option<&Path>) -> String {
+    let program = Path::new(program);
+    let current_dir = current_dir.filter(|_| program.components().count() > 1);
+    let path = current_dir.map_or_else(PathBuf::new, Path::to_owned).join(program);
+    path.to_string_lossy().into_owned()
 }
 
-/// Cuts bytes that exceed a limit after the last line that ends within it.
-pub(crate) fn cut_after_line(bytes: &mut Vec<u8>, limit: usize) {
-    if bytes.len() > limit {
-        let end = bytes[..limit].iter().rposition(|byte| *byte == b'\n');
-        bytes.truncate(end.map_or(0, |end| end + 1));
-    }
-}
-
-fn words(args: impl IntoIterator<Item = impl Into<OsString>>) -> Vec<Vec<u8>> {
-    args.into_iter().map(|arg| arg.into().into_vec()).collect()
-}
-
-/// Returns the last of the words after the first `--`, which is usually the one to complete. A
-/// registration has no such word.
-fn typed_word(words: &[Vec<u8>]) -> Option<&[u8]> {
-    let (last, before) = words.split_last()?;
-    let is_reply = before.iter().skip(1).any(|word| word == b"--");
-    is_reply.then_some(last)
-}
-
-/// Returns the word to complete: the one with the index that the shell sent, or else the last one.
-/// It is empty if the shell leaves it out.
-fn word_to_complete(words: &[Vec<u8>]) -> String {
-    let start = words.iter().skip(1).position(|word| word == b"--").map_or(0, |at| at + 2);
-    let line = &words[start..];
-    let index = env::var(INDEX).ok().and_then(|index| index.parse::<usize>().ok());
-    let word = line.get(index.unwrap_or(line.len().saturating_sub(1)));
-    word.and_then(|word| String::from_utf8(word.clone()).ok()).unwrap_or_default()
-}
-
-/// Returns names and values, alternating, of the variables that are set. A directory whose path is
-/// empty or not UTF-8 is left out.
-fn variables(home: Option<&str>, current_dir: Option<&str>) -> Vec<Vec<u8>> {
-    let others = [(HOME, home), (CURRENT_DIR, current_dir)];
-    let others = others.map(|(name, value)| (name, value.map(OsString::from)));
-    let names = [REQUEST].into_iter().chain(SET_BESIDES);
-    let requested = names.map(|name| (name, env::var_os(name)));
-    let set = requested.chain(others).filter_map(|(name, value)| Some((name, value?)));
-    set.flat_map(|(name, value)| [name.as_bytes().to_vec(), value.into_vec()]).collect()
+fn owned(path: &[&str]) -> Vec<String> {
+    path.iter().map(|name| String::from(*name)).collect()
 }

@@ -17,45 +17,75 @@
 //! ```
 //!
 //! To complete at run time, call [`CompleteEnv::complete`] first in `main`.
+//!
+//! # Features
+//!
+//! - `unstable-dynamic`: arguments and commands have completers, by `Arg::add` and `Command::add`. It
+//!   needs a release of clap with the feature `unstable-ext`. Without it, name the argument at
+//!   [`CompleteEnv::completer_for`].
+//! - `original`: where there is no archive for the target, the package is `clap_complete`.
 
 #![deny(unsafe_code)]
 #![warn(missing_docs)]
 
+#[cfg(not(lagvtsune_own))]
+pub use clap_complete::*;
+
+#[cfg(lagvtsune_own)]
 mod answering;
+#[cfg(lagvtsune_own)]
 pub mod aot;
+#[cfg(lagvtsune_own)]
 mod calls;
+#[cfg(lagvtsune_own)]
 pub mod engine;
-/// Live completion: the shell runs the program itself to get completions.
+#[cfg(lagvtsune_own)]
 pub mod env;
+#[cfg(lagvtsune_own)]
 mod folder;
+#[cfg(lagvtsune_own)]
 mod generation;
+#[cfg(lagvtsune_own)]
 mod generators;
+#[cfg(lagvtsune_own)]
 #[allow(unsafe_code)]
 mod native;
-#[cfg(test)]
+#[cfg(all(test, lagvtsune_own))]
 #[allow(unsafe_code)]
 mod refusing;
+#[cfg(lagvtsune_own)]
 mod shell;
+#[cfg(lagvtsune_own)]
 mod sources;
-#[cfg(test)]
+#[cfg(all(test, lagvtsune_own))]
 mod tests;
+#[cfg(lagvtsune_own)]
 mod tree_file;
+#[cfg(lagvtsune_own)]
+mod walk;
 
 /// The functions of [`aot`] that write scripts, under an older name of `clap_complete`.
+#[cfg(lagvtsune_own)]
 pub mod generator {
     pub use crate::aot::{generate, generate_to, utils, Generator};
 }
 
 /// The shells of [`aot`], under an older name of `clap_complete`.
+#[cfg(lagvtsune_own)]
 pub mod shells {
     pub use crate::aot::{Bash, Elvish, Fish, Nushell, PowerShell, Shell, Zsh};
 }
 
 /// Tests the example in `README.md`.
-#[cfg(doctest)]
+#[cfg(all(doctest, lagvtsune_own))]
 #[doc = include_str!("../README.md")]
 struct Readme;
 
+#[cfg(lagvtsune_own)]
 pub use aot::{generate, generate_to, try_generate, Generator, Shell};
+#[cfg(lagvtsune_own)]
 pub use clap::ValueHint;
+#[cfg(lagvtsune_own)]
+pub use engine::{ArgValueCandidates, ArgValueCompleter, CompletionCandidate, PathCompleter};
+#[cfg(lagvtsune_own)]
 pub use env::CompleteEnv;

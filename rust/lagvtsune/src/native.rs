@@ -148,7 +148,7 @@ pub(crate) fn script(shell: &[u8], bin: &[u8], tree: &[u8], room: &mut [u8]) -> 
             tree.len(),
             room.as_mut_ptr(),
             room.len(),
-            &mut status,
+            &raw mut status,
         )
     };
     Returned { status, length }
@@ -197,7 +197,7 @@ pub(crate) fn live(request: &Request<'_>, room: &mut [u8]) -> Returned {
             request.files.len(),
             room.as_mut_ptr(),
             room.len(),
-            &mut status,
+            &raw mut status,
         )
     };
     Returned { status, length }
@@ -288,6 +288,7 @@ unsafe fn block_after(start: *mut u8, whole: Layout) -> Tried {
     }
     // SAFETY: the header is at the start of that memory, which is aligned for a `usize` there, and
     // the block begins at most one byte past its end.
+    #[allow(clippy::cast_ptr_alignment)]
     unsafe {
         start.cast::<usize>().write(whole.size());
         Tried { ok: true, block: start.add(HEADER) }
@@ -302,6 +303,7 @@ unsafe fn block_after(start: *mut u8, whole: Layout) -> Tried {
 unsafe fn start_of(block: *mut u8) -> (*mut u8, Layout) {
     // SAFETY: by the condition, there is a header before the block. It contains the size of the
     // layout, which is valid with this alignment.
+    #[allow(clippy::cast_ptr_alignment)]
     unsafe {
         let start = block.sub(HEADER);
         let size = start.cast::<usize>().read();

@@ -1,7 +1,8 @@
-//! Where the values of arguments come from, besides the tree: commands, and completers of the program.
+//! Where the values of arguments come from, besides the tree: commands, and completers of the
+//! program.
 
-use crate::engine::{Completer, CompletionCandidate};
-use crate::tree_file::ValuesFrom;
+use crate::engine::{Completer, CompletionCandidate, SubcommandCandidates};
+use crate::tree_file::{External, ValuesFrom};
 use clap::{Arg, Command};
 use std::io;
 
@@ -9,8 +10,15 @@ use std::io;
 /// package calls the completer in its place.
 const COMPLETER: &str = "lagvtsune-completer";
 
+/// The values of arguments, and the external subcommands of commands.
+#[derive(Default)]
+pub(crate) struct Sources {
+    values: Vec<Source>,
+    external: Vec<(Vec<String>, SubcommandCandidates)>,
+}
+
 /// The values of an argument.
-pub(crate) struct Source {
+struct Source {
     /// The names of the subcommands that lead to the argument.
     path: Vec<String>,
     id: String,
@@ -20,92 +28,149 @@ pub(crate) struct Source {
     completer: Option<Completer>,
 }
 
+/// A completer that a request calls, and the id of its argument.
+pub(crate) struct Called<'s> {
+    pub(crate) completer: &'s Completer,
+    pub(crate) id: &'s str,
+}
+
+impl Sources {
+    /// Adds the values that a command prints.
+    pub(crate) fn add_command(&mut self, path: &[&str], id: &str, words: &[&str]) {
+        let (path, words) = (owned(path), owned(words));
+        self.values.push(Source { path, id: id.to_owned(), words, completer: None });
+    }
+
+    /// Adds the values that a completer computes.
+    pub(crate) fn add_completer(&mut self, path: Vec<String>, id: &str, completer: Completer) {
+        let words = owned(&[COMPLETER, &self.values.len().to_string()]);
+        self.values.push(Source { path, id: id.to_owned(), words, completer: Some(completer) });
+    }
+
+    /// Adds external subcommands of the command at the end of a path.
+    pub(crate) fn add_external(&mut self, path: Vec<String>, candidates: SubcommandCandidates) {
+        self.external.push((path, candidates));
+    }
+
+    /// Adds the completers that the arguments and commands of a tree have themselves.
+    #[cfg(feature = "unstable-dynamic")]
+    pub(crate) fn add_attached(&mut self, command: &Command, path: &mut Vec<String>) {
+        use crate::engine::{ArgValueCandidates, ArgValueCompleter};
+
+        for arg in command.get_arguments() {
+            let completer = match (arg.get::<ArgValueCompleter>(), arg.get::<ArgValueCandidates>())
+            {
+                (Some(completer), _) => Completer::Completer(completer.clone()),
+                (None, Some(candidates)) => Completer::Candidates(candidates.clone()),
+                (None, None) => continue,
+            };
+            self.add_completer(path.clone(), arg.get_id().as_str(), completer);
+        }
+        if let Some(candidates) = command.get::<SubcommandCandidates>() {
+            self.add_external(path.clone(), candidates.clone());
+        }
+        for child in command.get_subcommands() {
+            path.push(child.get_name().to_owned());
+            self.add_attached(child, path);
+            path.pop();
+        }
+    }
+
+    /// Does nothing, because arguments cannot have completers without `unstable-dynamic`.
+    #[cfg(not(feature = "unstable-dynamic"))]
+    #[allow(clippy::unused_self)]
+    pub(crate) fn add_attached(&mut self, _: &Command, _: &mut Vec<String>) {}
+
+    pub(crate) fn has_completers(&self) -> bool {
+        self.values.iter().any(|source| source.completer.is_some())
+    }
+
+    pub(crate) fn values_from(&self) -> Vec<ValuesFrom<'_>> {
+        let sources = self.values.iter().map(|source| ValuesFrom {
+            path: &source.path,
+            id: &source.id,
+            words: &source.words,
+            is_checked: source.completer.is_none(),
+        });
+        sources.collect()
+    }
+
+    /// Returns an error that names an argument or a command, if `command` has none like it.
+    pub(crate) fn check(&self, command: &Command) -> io::Result<()> {
+        for source in &self.values {
+            source.argument(command)?;
+        }
+        for (path, _) in &self.external {
+            let found = at(command, path);
+            found.ok_or_else(|| error("subcommand_candidates_for", "command", path))?;
+        }
+        Ok(())
+    }
+
+    /// Returns the completer that the words of a command mean, which the library returned. Returns
+    /// `None` for the words of another command.
+    pub(crate) fn called(&self, words: &[u8]) -> Option<Called<'_>> {
+        self.values.iter().find_map(|source| {
+            let own: String = source.words.iter().flat_map(|word| [word, "\x0b"]).collect();
+            let completer = source.completer.as_ref().filter(|_| own.as_bytes() == words)?;
+            Some(Called { completer, id: &source.id })
+        })
+    }
+
+    /// Returns the external subcommands of the command at the end of `path`, if `word` may be one:
+    /// those that begin with it, sorted, without the names of the command's own.
+    pub(crate) fn external_at(
+        &self,
+        command: &Command,
+        path: &[&str],
+        line: (&[&str], &str),
+    ) -> Vec<CompletionCandidate> {
+        let (before, word) = line;
+        let lists = self.external.iter().filter(|(own, _)| *own == path);
+        let mut found: Vec<_> = lists.flat_map(|(_, list)| list.candidates()).collect();
+        let is_new = |name: &str| {
+            let is_own = command.find_subcommand(name).is_some();
+            name.starts_with(word) && !is_own && !before.contains(&name)
+        };
+        found.retain(|it| it.get_value().to_str().is_some_and(is_new));
+        found.sort();
+        found
+    }
+}
+
+/// Returns an external subcommand as the tree file has it, with this text as its description.
+pub(crate) fn as_external(candidate: &CompletionCandidate, help: Option<String>) -> External {
+    External {
+        name: candidate.get_value().to_string_lossy().into_owned(),
+        help,
+        is_hidden: candidate.is_hide_set(),
+    }
+}
+
 impl Source {
-    /// Returns the values that a command prints.
-    pub(crate) fn command(path: &[&str], id: &str, words: &[&str]) -> Source {
-        Source { path: owned(path), id: id.to_owned(), words: owned(words), completer: None }
-    }
-
-    /// Returns the values that a completer computes. `number` tells it from others.
-    pub(crate) fn completer(path: &[&str], id: &str, number: usize, it: Completer) -> Source {
-        let words = owned(&[COMPLETER, &number.to_string()]);
-        Source { path: owned(path), id: id.to_owned(), words, completer: Some(it) }
-    }
-
-    pub(crate) fn is_completer(&self) -> bool {
-        self.completer.is_some()
-    }
-
-    pub(crate) fn as_values_from(&self) -> ValuesFrom<'_> {
-        ValuesFrom { path: &self.path, id: &self.id, words: &self.words }
-    }
-
     /// Returns the argument in a command.
     ///
     /// # Errors
     ///
     /// An error that names the argument, if the command has none.
-    pub(crate) fn argument<'c>(&self, command: &'c Command) -> io::Result<&'c Arg> {
-        let Source { path, id, .. } = self;
-        let found = path.iter().try_fold(command, |command, name| child(command, name));
+    fn argument<'c>(&self, command: &'c Command) -> io::Result<&'c Arg> {
+        let Source { path, id, completer, .. } = self;
+        let found = at(command, path);
         let found = found.and_then(|command| command.get_arguments().find(|it| it.get_id() == id));
-        let call = if self.is_completer() { "completer_for" } else { "values_from" };
-        found.ok_or_else(|| io::Error::other(format!("{call}: no argument {id:?} at {path:?}")))
-    }
-
-    /// Returns the candidates of the completer, if `words` are those of this source.
-    pub(crate) fn candidates(&self, words: &[u8], current: &str) -> Option<Vec<CompletionCandidate>> {
-        let own: String = self.words.iter().flat_map(|word| [word, "\x0b"]).collect();
-        let completer = self.completer.as_ref().filter(|_| own.as_bytes() == words)?;
-        Some(completer.complete(current))
+        let call = if completer.is_some() { "completer_for" } else { "values_from" };
+        found.ok_or_else(|| error(call, &format!("argument {id:?}"), path))
     }
 }
 
-/// The names of an argument, and its delimiter, which tell which part of a word is typed of its value.
-pub(crate) struct Shape {
-    longs: Vec<String>,
-    shorts: Vec<char>,
-    delimiter: Option<char>,
+/// Returns the subcommand to which names lead.
+fn at<'c>(command: &'c Command, path: &[String]) -> Option<&'c Command> {
+    path.iter().try_fold(command, |command, name| {
+        command.get_subcommands().find(|child| child.get_name() == name)
+    })
 }
 
-impl Shape {
-    pub(crate) fn of(arg: &Arg) -> Shape {
-        let longs = arg.get_long_and_visible_aliases().unwrap_or_default();
-        let hidden = arg.get_all_aliases().unwrap_or_default();
-        let shorts = arg.get_short_and_visible_aliases().unwrap_or_default();
-        let hidden_shorts = arg.get_all_short_aliases().unwrap_or_default();
-        Shape {
-            longs: longs.into_iter().chain(hidden).map(str::to_owned).collect(),
-            shorts: shorts.into_iter().chain(hidden_shorts).collect(),
-            delimiter: arg.get_value_delimiter(),
-        }
-    }
-
-    /// Returns what is typed of the value, if `word` ends with a value of this argument: the text
-    /// after the option's name, and after the last delimiter.
-    pub(crate) fn typed<'w>(&self, word: &'w str) -> &'w str {
-        let value = self.after_long(word).or_else(|| self.after_short(word)).unwrap_or(word);
-        let part = self.delimiter.and_then(|delimiter| value.rsplit_once(delimiter));
-        part.map_or(value, |(_, last)| last)
-    }
-
-    fn after_long<'w>(&self, word: &'w str) -> Option<&'w str> {
-        let (name, value) = word.strip_prefix("--")?.split_once('=')?;
-        self.longs.iter().any(|long| long == name).then_some(value)
-    }
-
-    /// Returns the text after the first letter of a group that is a short of this argument. The
-    /// letters before it are flags.
-    fn after_short<'w>(&self, word: &'w str) -> Option<&'w str> {
-        let group = word.strip_prefix('-').filter(|group| !group.starts_with('-'))?;
-        let (_, value) = group.split_once(|letter| self.shorts.contains(&letter))?;
-        Some(value.strip_prefix('=').unwrap_or(value))
-    }
-}
-
-/// Returns the subcommand with this name.
-fn child<'c>(command: &'c Command, name: &str) -> Option<&'c Command> {
-    command.get_subcommands().find(|child| child.get_name() == name)
+fn error(call: &str, what: &str, path: &[String]) -> io::Error {
+    io::Error::other(format!("{call}: no {what} at {path:?}"))
 }
 
 fn owned(texts: &[&str]) -> Vec<String> {

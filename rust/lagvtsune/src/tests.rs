@@ -1,12 +1,12 @@
 //! Tests the library's functions with arbitrary bytes, and with allocations that are refused.
 
+use crate::answering::cut_after_line;
 use crate::calls::slices;
-use crate::env::cut_after_line;
 use crate::folder::likely_folder;
 use crate::native::{self, Request, Returned};
 use crate::refusing::refused;
-use crate::tree_file::{names_file, tree_file, tree_file_of, ValuesFrom};
-use clap::{value_parser, Arg, ArgAction, ArgGroup, Command};
+use crate::tree_file::{live_file, names_file, tree_file, Line, ValuesFrom};
+use clap::{value_parser, Arg, ArgAction, ArgGroup, Command, ValueHint};
 use std::collections::hash_map::DefaultHasher;
 use std::hash::{Hash, Hasher};
 use std::path::PathBuf;
@@ -55,26 +55,38 @@ fn a_tree_file_has_what_only_a_built_command_says() {
     assert_eq!(text, tree_file(&command));
 }
 
+/// Returns the part of the tree file of a command that a line needs.
+fn live(command: &Command, sources: &[ValuesFrom<'_>], words: &[&str]) -> String {
+    let line = Line { words, path: &[], external: &[], has_keys: false };
+    live_file(&mut command.clone(), sources, &line)
+}
+
 #[test]
-fn a_tree_file_has_the_words_of_commands() {
+fn a_live_file_has_the_words_of_commands() {
     let level = Arg::new("level").long("level").value_parser(["fast", "best"]);
     let add = Command::new("add").visible_alias("a").arg(level.clone());
     let command = Command::new("app").arg(level).subcommands([add, Command::new("list")]);
     let texts = |texts: &[&str]| texts.iter().map(|text| String::from(*text)).collect();
     let (path, words): (Vec<_>, Vec<_>) = (texts(&["add"]), texts(&["print \"it\"", ""]));
-    let source = ValuesFrom { path: &path, id: "level", words: &words };
-    let text = tree_file_of(command.clone(), &[source]);
-    let (root, below) = text.split_once("\"subcommands\"").unwrap();
-    assert!(root.contains(r#""possible_values""#) && !root.contains("values_from"), "{text}");
-    assert!(below.contains("\"values_from\": [\"print \\\"it\\\"\",\n\"\"]"), "{text}");
-    assert!(!below.contains("possible_values"), "{text}");
+    let source = ValuesFrom { path: &path, id: "level", words: &words, is_checked: true };
+    // Each request has the argument, whatever its words are, because the library checks the command.
+    for line in [&[][..], &["list"], &["add"], &["x"]] {
+        let text = live(&command, &[source], line);
+        let (root, below) = text.split_once("\"subcommands\"").unwrap();
+        assert!(root.contains(r#""possible_values""#) && !root.contains("values_from"), "{text}");
+        assert!(below.contains("\"values_from\": [\"print \\\"it\\\"\",\n\"\"]"), "{text}");
+        assert!(!below.contains("possible_values"), "{text}");
+    }
+    let unchecked = ValuesFrom { is_checked: false, ..source };
+    assert!(!live(&command, &[unchecked], &["list"]).contains("values_from"));
+    assert!(live(&command, &[unchecked], &["a"]).contains("values_from"));
     // An alias or another id leads to no argument.
     for (path, id) in
         [(texts(&["a"]), "level"), (texts(&["add"]), "speed"), (texts(&["add", "add"]), "level")]
     {
         let other: Vec<String> = path;
-        let source = ValuesFrom { path: &other, id, words: &words };
-        assert_eq!(tree_file_of(command.clone(), &[source]), tree_file(&command));
+        let source = ValuesFrom { path: &other, id, words: &words, is_checked: false };
+        assert_eq!(live(&command, &[source], &["add"]), live(&command, &[], &["add"]));
     }
 }
 
@@ -341,7 +353,8 @@ fn a_registration_takes_the_names_alone() {
     let flag = Arg::new("out").long("out").global(true);
     let command = Command::new("app").version("1").arg(flag).subcommand(Command::new("run"));
     for command in [command.clone(), command.bin_name("my-app")] {
-        let (names, whole) = (names_file(&command), tree_file(&command));
+        let (name, bin) = (command.get_name(), command.get_bin_name());
+        let (names, whole) = (names_file(name, bin.unwrap_or(name)), tree_file(&command));
         assert!(names.len() < whole.len());
         for shell in LIVE_SHELLS {
             for words in [&["app"][..], &["/bin/app", "--"]] {
@@ -351,6 +364,126 @@ fn a_registration_takes_the_names_alone() {
             }
         }
     }
+}
+
+/// A command with random subcommands and arguments. `depth` is the number of levels below it.
+fn random_command(numbers: &mut Numbers, name: &'static str, depth: usize) -> Command {
+    const HEADINGS: [&str; 3] = ["Options", "Commands", "Other"];
+    let mut command = Command::new(name).about(format!("About {name}"));
+    if numbers.below(3) == 0 {
+        command = command.version("1.0").propagate_version(numbers.below(2) == 0);
+    }
+    if numbers.below(3) == 0 {
+        command = command.subcommand_help_heading(HEADINGS[numbers.below(3)]);
+    }
+    command = command
+        .hide(numbers.below(6) == 0)
+        .disable_help_flag(numbers.below(5) == 0)
+        .disable_help_subcommand(numbers.below(4) == 0)
+        .allow_external_subcommands(numbers.below(4) == 0);
+    for at in 0..numbers.below(4) {
+        let arg = random_option(numbers, at, depth);
+        let heading = HEADINGS[numbers.below(3)];
+        command = command.arg(if numbers.below(3) == 0 { arg.help_heading(heading) } else { arg });
+    }
+    for id in ["first", "second"].into_iter().take(numbers.below(3)) {
+        command = command.arg(random_positional(numbers, id));
+    }
+    if depth == 0 {
+        return command;
+    }
+    let children = [("run", "r"), ("remote", "re"), ("list", "ls"), ("low", "l"), ("own", "auto")];
+    for (name, alias) in children.into_iter().take(numbers.below(6)) {
+        let child = random_command(numbers, name, depth - 1);
+        let other = format!("{name}-x");
+        command = command.subcommand(match numbers.below(3) {
+            0 => child.alias(alias),
+            1 => child.visible_alias(alias).alias(other),
+            _ => child,
+        });
+    }
+    command
+}
+
+/// Returns the option with a number at a level.
+fn random_option(numbers: &mut Numbers, at: usize, depth: usize) -> Arg {
+    let (long, short) = [("level", 'l'), ("color", 'c'), ("out", 'o')][at % 3];
+    // A global argument has a name of its own at each level.
+    let long = format!("{long}{depth}");
+    let short = if depth == 0 { short } else { short.to_ascii_uppercase() };
+    let mut arg = Arg::new(long.clone()).long(long.clone()).global(numbers.below(3) == 0);
+    if depth < 2 {
+        arg = arg.short(short);
+    }
+    if numbers.below(2) == 0 {
+        arg = arg.help(format!("Help of {long}\nMore"));
+    }
+    arg = arg.hide(numbers.below(6) == 0).visible_alias(format!("{long}-too"));
+    match numbers.below(5) {
+        0 => arg.action(ArgAction::SetTrue),
+        1 => arg.value_parser(["auto", "low", "list"]).value_delimiter(','),
+        2 => arg.num_args(1..=3).value_parser(["a", "b"]),
+        3 => arg.num_args(0..=2).allow_hyphen_values(true),
+        _ => arg.value_hint(ValueHint::AnyPath),
+    }
+}
+
+fn random_positional(numbers: &mut Numbers, id: &'static str) -> Arg {
+    match numbers.below(4) {
+        0 if id == "second" => Arg::new(id).num_args(0..).value_parser(["auto", "always"]),
+        1 => Arg::new(id).value_hint(ValueHint::DirPath),
+        2 => Arg::new(id).value_parser(["run", "auto"]).allow_hyphen_values(true),
+        _ => Arg::new(id).help("A value"),
+    }
+}
+
+#[test]
+fn a_live_file_answers_as_the_whole_one() {
+    const TYPED: [&str; 24] = [
+        "run",
+        "remote",
+        "list",
+        "low",
+        "own",
+        "r",
+        "re",
+        "ls",
+        "l",
+        "auto",
+        "run-x",
+        "help",
+        "-l",
+        "-Lx",
+        "--level0",
+        "--color1=au",
+        "--out2",
+        "--level1-too",
+        "--",
+        "x",
+        "-",
+        "",
+        "--level2=",
+        "--o",
+    ];
+    const ROOT: &str = "app";
+    let mut numbers = Numbers(7);
+    let (mut texts, mut smaller) = (0, 0);
+    for _ in 0..400 {
+        let command = random_command(&mut numbers, ROOT, 2);
+        let whole = tree_file(&command);
+        for _ in 0..10 {
+            let mut line = vec![ROOT, "--", ROOT];
+            line.extend((0..=numbers.below(5)).map(|_| TYPED[numbers.below(TYPED.len())]));
+            let part = live(&command, &[], &line[3..line.len() - 1]);
+            smaller += usize::from(2 * part.len() < whole.len());
+            for shell in LIVE_SHELLS {
+                let answer = answer_of(&whole, shell, &line);
+                assert_eq!(answer_of(&part, shell, &line), answer, "{line:?}\n{whole}\n{part}");
+                texts += usize::from(answer.0 == 0 && !answer.1.is_empty());
+            }
+        }
+    }
+    assert!(texts > 5_000 && smaller > 1_000, "{texts} {smaller}");
 }
 
 /// Numbers that follow from a seed.
@@ -365,11 +498,11 @@ impl Numbers {
     }
 
     fn below(&mut self, bound: usize) -> usize {
-        (self.next() % bound as u64) as usize
+        usize::try_from(self.next() % bound as u64).unwrap()
     }
 
     fn bytes(&mut self, most: usize) -> Vec<u8> {
-        (0..self.below(most)).map(|_| self.next() as u8).collect()
+        (0..self.below(most)).map(|_| self.next().to_le_bytes()[0]).collect()
     }
 
     /// Returns a tree file in which some bytes may be replaced or left out.

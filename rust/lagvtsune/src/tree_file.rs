@@ -23,7 +23,7 @@ const LEAST_ROOM: usize = 8 << 10;
 /// Getters that are private in early releases of clap 4. In later releases, clap's own getters of
 /// the same names take precedence over these.
 #[allow(dead_code)]
-trait LaterGetters {
+pub(crate) trait LaterGetters {
     fn get_display_order(&self) -> usize {
         NO_ORDER
     }
@@ -44,6 +44,8 @@ pub struct ValuesFrom<'v> {
     pub id: &'v str,
     /// The words of the command: a program and its arguments.
     pub words: &'v [String],
+    /// Whether each live request needs the argument, because the library checks its words.
+    pub is_checked: bool,
 }
 
 impl<'v> ValuesFrom<'v> {
@@ -57,29 +59,69 @@ impl<'v> ValuesFrom<'v> {
 
 /// Returns the tree file of a command, whether it is built or not.
 pub fn tree_file(command: &Command) -> String {
-    tree_file_of(command.clone(), &[])
+    written(&mut command.clone(), &[], None)
 }
 
-/// Returns the same as [`tree_file`], but consumes the command, and adds the words of commands that
-/// print values. These count instead of possible values.
-pub fn tree_file_of(mut command: Command, sources: &[ValuesFrom<'_>]) -> String {
-    let place = Place { arg_count: command.get_arguments().count(), globals: &[], sources };
+/// Returns the part of a tree file that a live request needs, and builds the commands on the way of
+/// the request. `sources` are commands that print values. Their words count instead of possible
+/// values.
+#[allow(dead_code)] // a program that only writes tree files includes this file
+pub fn live_file(command: &mut Command, sources: &[ValuesFrom<'_>], line: &Line<'_>) -> String {
+    written(command, sources, Some(line))
+}
+
+fn written(command: &mut Command, sources: &[ValuesFrom<'_>], line: Option<&Line<'_>>) -> String {
+    let arg_count = command.get_arguments().count();
+    let path = line.map(|line| line.path);
+    let place = Place { arg_count, globals: &[], sources, line, path };
     let mut out = String::with_capacity(LEAST_ROOM);
-    command_object(&mut out, &mut command, &place);
+    command_object(&mut out, command, &place);
     out.push('\n');
     out
 }
 
-/// Returns a tree file with only the names of the command, which is all that a registration needs.
+/// Returns a tree file with only a command's name and bin name, which is all that a registration
+/// needs.
 #[allow(dead_code)] // a program that only writes tree files includes this file
-pub fn names_file(command: &Command) -> String {
+pub fn names_file(name: &str, bin_name: &str) -> String {
     let mut out = String::new();
     let mut object = Object::new(&mut out);
-    object.text("name", Some(command.get_name()));
-    object.text("bin_name", command.get_bin_name());
+    object.text("name", Some(name));
+    object.text("bin_name", Some(bin_name));
     object.end();
     out.push('\n');
     out
+}
+
+/// A command line of which a live request completes a word.
+#[derive(Clone, Copy)]
+pub struct Line<'l> {
+    /// The words before the one to complete. Of a subcommand that none of them names, only what its
+    /// parent offers is written.
+    pub words: &'l [&'l str],
+    /// The names of the subcommands to which the words lead.
+    pub path: &'l [&'l str],
+    /// What is offered there as subcommands, besides those of the command.
+    pub external: &'l [External],
+    /// Whether keys stand for help texts: `a`, `c` or `v`, and the names of an argument, a
+    /// subcommand or a possible value.
+    pub has_keys: bool,
+}
+
+/// A subcommand that the command does not have.
+pub struct External {
+    pub name: String,
+    pub help: Option<String>,
+    pub is_hidden: bool,
+}
+
+impl Line<'_> {
+    /// Returns whether the words may lead to a command, by its name or an alias.
+    fn may_reach(&self, command: &Command) -> bool {
+        self.words.iter().any(|word| {
+            *word == command.get_name() || command.get_all_aliases().any(|alias| alias == *word)
+        })
+    }
 }
 
 /// The place of a command in its tree.
@@ -90,6 +132,39 @@ struct Place<'p> {
     globals: &'p [Id],
     /// The commands that print values, as seen from here.
     sources: &'p [ValuesFrom<'p>],
+    /// The command line of a live request, which needs only part of the tree.
+    line: Option<&'p Line<'p>>,
+    /// The path of that line from here, if the words lead to here or further.
+    path: Option<&'p [&'p str]>,
+}
+
+impl<'p> Place<'p> {
+    /// Returns whether a live request needs what is below this child.
+    fn is_needed(&self, child: &Command, sources: &[ValuesFrom<'_>]) -> bool {
+        self.line.is_none_or(|line| {
+            line.may_reach(child) || sources.iter().any(|source| source.is_checked)
+        })
+    }
+
+    /// Returns the subcommands that are offered here besides those of the command.
+    fn external(&self) -> &'p [External] {
+        let line = self.line.filter(|_| self.path.is_some_and(<[_]>::is_empty));
+        line.map_or(&[], |line| line.external)
+    }
+
+    /// Returns the path from the child with this name on, if the words lead there.
+    fn path_below(&self, name: &str) -> Option<&'p [&'p str]> {
+        let (first, path) = self.path?.split_first()?;
+        (*first == name).then_some(path)
+    }
+
+    fn is_live(&self) -> bool {
+        self.line.is_some()
+    }
+
+    fn has_keys(&self) -> bool {
+        self.line.is_some_and(|line| line.has_keys)
+    }
 }
 
 /// Returns a number for each child: how many arguments it has. Building the parent adds children
@@ -146,22 +221,88 @@ fn command_object(out: &mut String, command: &mut Command, place: &Place<'_>) {
     let globals = globals_of(command, place.globals);
     build_alone(command);
     let mut object = Object::new(out);
-    command_texts(&mut object, command);
+    command_texts(&mut object, command, place);
     command_flags(&mut object, command, children.iter().any(Option::is_some));
+    if !place.is_live() {
+        parser_flags(&mut object, command);
+    }
     let mut position = 0;
     let args = command.get_arguments().zip(are_own).filter(|(_, is_own)| *is_own);
     object.list("args", args, |out, (arg, _)| {
         position += usize::from(arg.is_positional());
-        arg_object(out, arg, position, command, words_for(arg, place.sources));
+        arg_object(out, arg, position, command, place);
     });
     let children = command.get_subcommands_mut().zip(children);
-    let children = children.filter_map(|(child, count)| Some((child, count?)));
-    object.list("subcommands", children, |out, (child, arg_count)| {
-        let sources = place.sources.iter().filter_map(|it| it.below(child.get_name()));
-        let sources: Vec<_> = sources.collect();
-        command_object(out, child, &Place { arg_count, globals: &globals, sources: &sources });
+    let children = children.filter_map(|(child, count)| Some(Child::Own(child, count?)));
+    let external = place.external().iter().map(Child::External);
+    object.list("subcommands", children.chain(external), |out, child| {
+        child_object(out, child, &globals, place);
     });
-    object.end()
+    object.end();
+}
+
+/// A child of a command that is written.
+enum Child<'c> {
+    /// A subcommand, and how many arguments it has.
+    Own(&'c mut Command, usize),
+    External(&'c External),
+}
+
+fn child_object(out: &mut String, child: Child<'_>, globals: &[Id], place: &Place<'_>) {
+    let (child, arg_count) = match child {
+        Child::Own(child, arg_count) => (child, arg_count),
+        Child::External(external) => return external_object(out, external),
+    };
+    let sources = place.sources.iter().filter_map(|it| it.below(child.get_name()));
+    let sources: Vec<_> = sources.collect();
+    if !place.is_needed(child, &sources) {
+        return offered_object(out, child, place.has_keys());
+    }
+    let path = place.path_below(child.get_name());
+    let below = Place { arg_count, globals, sources: &sources, path, ..*place };
+    command_object(out, child, &below);
+}
+
+/// Writes only what the parent of a command offers.
+fn offered_object(out: &mut String, command: &Command, has_keys: bool) {
+    let mut object = Object::new(out);
+    object.text("name", Some(command.get_name()));
+    about(&mut object, command, has_keys);
+    command_aliases(&mut object, command);
+    object.flag("hide", command.is_hide_set());
+    object.order(command.get_display_order());
+    object.end();
+}
+
+fn external_object(out: &mut String, external: &External) {
+    let mut object = Object::new(out);
+    object.text("name", Some(&external.name));
+    object.text("about", external.help.as_deref());
+    object.flag("hide", external.is_hidden);
+    object.end();
+}
+
+fn about(object: &mut Object<'_>, command: &Command, has_keys: bool) {
+    if has_keys {
+        object.text("about", Some(&command_key(command)));
+    } else {
+        object.shown("about", command.get_about());
+    }
+}
+
+/// Returns the key that stands for the description of a command.
+pub(crate) fn command_key(command: &Command) -> String {
+    format!("c{:?}", command.get_name())
+}
+
+/// Returns the key that stands for the help text of an argument.
+pub(crate) fn arg_key(arg: &Arg) -> String {
+    format!("a{:?}", arg.get_id().as_str())
+}
+
+/// Returns the key that stands for the help text of a possible value.
+pub(crate) fn value_key(arg: &Arg, value: &PossibleValue) -> String {
+    format!("v{:?} {:?}", arg.get_id().as_str(), value.get_name())
 }
 
 /// Returns the ids of the global arguments of a command and of those above.
@@ -176,18 +317,24 @@ fn words_for<'v>(arg: &Arg, sources: &[ValuesFrom<'v>]) -> &'v [String] {
     found.map_or(&[], |it| it.words)
 }
 
-fn command_texts(object: &mut Object<'_>, command: &Command) {
+fn command_aliases(object: &mut Object<'_>, command: &Command) {
     let visible: Vec<&str> = command.get_visible_aliases().collect();
     let hidden = command.get_all_aliases().filter(|alias| !visible.contains(alias));
-    object.text("name", Some(command.get_name()));
-    object.text("bin_name", own_bin_name(command));
-    object.shown("about", command.get_about());
-    object.shown("long_about", command.get_long_about());
-    object.shown("after_help", command.get_after_help());
-    object.text("version", version(command));
-    object.text("subcommand_help_heading", command.get_subcommand_help_heading());
     object.list("visible_aliases", &visible, |out, it| quote(out, it));
     object.list("aliases", hidden, quote);
+}
+
+fn command_texts(object: &mut Object<'_>, command: &Command, place: &Place<'_>) {
+    object.text("name", Some(command.get_name()));
+    object.text("bin_name", own_bin_name(command));
+    about(object, command, place.has_keys());
+    if !place.is_live() {
+        object.shown("long_about", command.get_long_about());
+        object.shown("after_help", command.get_after_help());
+    }
+    object.text("version", version(command));
+    object.text("subcommand_help_heading", command.get_subcommand_help_heading());
+    command_aliases(object, command);
 }
 
 /// Returns the bin name of a command. A build gives each subcommand one that ends in its name, after
@@ -213,6 +360,10 @@ fn command_flags(object: &mut Object<'_>, command: &Command, has_children: bool)
     object.flag("allow_external_subcommands", command.is_allow_external_subcommands_set());
     object.order(command.get_display_order());
     object.flag("no_binary_name", command.is_no_binary_name_set());
+}
+
+/// Writes the flags that only a parser needs.
+fn parser_flags(object: &mut Object<'_>, command: &Command) {
     object.flag("subcommand_required", command.is_subcommand_required_set());
     object.flag("arg_required_else_help", command.is_arg_required_else_help_set());
 }
@@ -243,28 +394,37 @@ fn own_default(arg: &Arg) -> Option<&str> {
 
 /// Writes an argument of a built command as it was declared, with the words of the command that
 /// prints its values, if there are any. `position` is its number among the positional arguments.
-fn arg_object(out: &mut String, arg: &Arg, position: usize, command: &Command, words: &[String]) {
+fn arg_object(out: &mut String, arg: &Arg, position: usize, command: &Command, place: &Place<'_>) {
+    let words = words_for(arg, place.sources);
     let mut object = Object::new(out);
     object.text("id", Some(arg.get_id().as_str()));
     arg_names(&mut object, arg);
-    object.shown("help", arg.get_help());
+    if place.has_keys() {
+        object.text("help", Some(&arg_key(arg)));
+    } else {
+        object.shown("help", arg.get_help());
+    }
     object.word("action", arg.get_action());
     if let Some(range) = arg.get_num_args().filter(|range| *range != usual_range(arg)) {
         value_range(object.key("num_args"), range);
     }
     object.list("value_names", arg.get_value_names().unwrap_or(&[]), |out, it| quote(out, it));
     if words.is_empty() {
-        object.list("possible_values", &arg.get_possible_values(), value_object);
+        object.list("possible_values", &arg.get_possible_values(), |out, value| {
+            value_object(out, value, place.has_keys().then(|| value_key(arg, value)));
+        });
     }
     object.list("values_from", words, |out, it| quote(out, it));
     let hint = arg.get_value_hint();
     if hint != ValueHint::Unknown {
         object.word("value_hint", hint);
     }
-    object.text("value_terminator", arg.get_value_terminator().map(|it| it.as_str()));
-    object.text("default_value", own_default(arg));
-    let conflicts = command.get_arg_conflicts_with(arg);
-    object.list("conflicts_with", conflicts, |out, it| quote(out, it.get_id().as_str()));
+    object.text("value_terminator", arg.get_value_terminator().map(Str::as_str));
+    if !place.is_live() {
+        object.text("default_value", own_default(arg));
+        let conflicts = command.get_arg_conflicts_with(arg);
+        object.list("conflicts_with", conflicts, |out, it| quote(out, it.get_id().as_str()));
+    }
     if let Some(index) = arg.get_index().filter(|index| *index != position) {
         object.number("index", index);
     }
@@ -278,7 +438,7 @@ fn arg_object(out: &mut String, arg: &Arg, position: usize, command: &Command, w
     }
     object.order(arg.get_display_order());
     object.flag("allow_hyphen_values", arg.is_allow_hyphen_values_set());
-    object.end()
+    object.end();
 }
 
 /// Writes the names of an option, visible and hidden ones separately.
@@ -306,12 +466,16 @@ fn value_range(out: &mut String, range: ValueRange) {
     };
 }
 
-fn value_object(out: &mut String, value: &PossibleValue) {
+/// Writes a possible value, with a key instead of its help text, if there is one.
+fn value_object(out: &mut String, value: &PossibleValue, key: Option<String>) {
     let mut object = Object::new(out);
     object.text("name", Some(value.get_name()));
-    object.shown("help", value.get_help());
+    match key {
+        Some(key) => object.text("help", Some(&key)),
+        None => object.shown("help", value.get_help()),
+    }
     object.flag("hide", value.is_hide_set());
-    object.end()
+    object.end();
 }
 
 /// A JSON object that is being written. Leaves out a value that is missing, empty or `false`.

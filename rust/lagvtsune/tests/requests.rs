@@ -55,7 +55,7 @@ fn paths() -> Command {
 }
 
 /// A completion of a command with a value from a command, below a child.
-fn values() -> CompleteEnv<fn() -> Command> {
+fn values() -> CompleteEnv<'static, fn() -> Command> {
     let app: fn() -> Command = || {
         let app = Command::new("app").disable_help_flag(true);
         app.subcommand(Command::new("switch").arg(Arg::new("topic")))
@@ -64,7 +64,7 @@ fn values() -> CompleteEnv<fn() -> Command> {
 }
 
 /// A completion of a command with completers of an option, a value and a path, and with a command.
-fn completers() -> CompleteEnv<fn() -> Command> {
+fn completers() -> CompleteEnv<'static, fn() -> Command> {
     let app: fn() -> Command = || {
         let level = Arg::new("level").long("level").short('l').value_delimiter(',');
         let branch = Arg::new("branch").long("branch").short('b');

@@ -89,15 +89,19 @@ impl CompletionCandidate {
         self.hidden
     }
 
-    /// Returns the line for the library: the value, and the first line of the help text after a tab.
+    /// Replaces the value.
+    pub(crate) fn with_value(self, value: impl Into<OsString>) -> CompletionCandidate {
+        CompletionCandidate { value: value.into(), ..self }
+    }
+
+    /// Returns the line for the library: the value, and the first line of `help` after a tab.
     /// Returns `None` for a value that no line can hold: one that is not UTF-8, is empty, or has a
     /// control character.
-    fn line(&self) -> Option<String> {
+    fn line(&self, help: &str) -> Option<String> {
         let value = self.value.to_str()?;
         if value.is_empty() || value.contains(char::is_control) {
             return None;
         }
-        let help = self.help.as_ref().map(ToString::to_string).unwrap_or_default();
         let first = help.lines().next().unwrap_or_default().replace(char::is_control, " ");
         Some(if first.is_empty() { format!("{value}\n") } else { format!("{value}\t{first}\n") })
     }
@@ -109,13 +113,16 @@ impl<S: Into<OsString>> From<S> for CompletionCandidate {
     }
 }
 
-/// Returns the lines of the candidates that begin with `current`, in the order in which they are
-/// offered. Hidden ones are left out if there are others, and of several with the same id all but the
-/// first.
-pub(crate) fn lines(mut candidates: Vec<CompletionCandidate>, current: &str) -> Vec<u8> {
+/// Returns the candidates that begin with `current`, in the order in which they are offered. Of
+/// several with the same id, only the first counts.
+pub(crate) fn ordered(
+    mut candidates: Vec<CompletionCandidate>,
+    current: &str,
+) -> Vec<CompletionCandidate> {
     candidates.retain(|it| it.value.as_encoded_bytes().starts_with(current.as_bytes()));
-    let is_any_shown = candidates.iter().any(|it| !it.hidden);
-    candidates.retain(|it| !(is_any_shown && it.hidden));
+    if candidates.iter().any(|it| !it.hidden) {
+        candidates.retain(|it| !it.hidden);
+    }
     let mut ids = HashSet::new();
     candidates.retain(|it| it.id.as_ref().is_none_or(|id| ids.insert(id.clone())));
     let mut tags: Vec<Option<StyledStr>> = Vec::new();
@@ -125,5 +132,14 @@ pub(crate) fn lines(mut candidates: Vec<CompletionCandidate>, current: &str) -> 
         }
     }
     candidates.sort_by_key(|it| (tags.iter().position(|tag| *tag == it.tag), it.display_order));
-    candidates.iter().filter_map(CompletionCandidate::line).collect::<String>().into_bytes()
+    candidates
+}
+
+/// Returns the lines of candidates, with what `help` returns for the number of each and itself.
+pub(crate) fn lines(
+    candidates: &[CompletionCandidate],
+    help: impl Fn(usize, &CompletionCandidate) -> String,
+) -> Vec<u8> {
+    let lines = candidates.iter().enumerate();
+    lines.filter_map(|(number, it)| it.line(&help(number, it))).collect::<String>().into_bytes()
 }

@@ -11,8 +11,9 @@ pub trait ValueCompleter: Send + Sync {
     /// Returns the candidates for a value of which `current` is typed.
     fn complete(&self, current: &OsStr) -> Vec<CompletionCandidate>;
 
-    /// Returns the candidates for the value at `arg_index` of an argument with several values.
-    /// [`CompleteEnv`](crate::CompleteEnv) does not call it.
+    /// Returns the candidates for the value at `arg_index` of an argument with several values. The
+    /// first value in one use of the argument has the index 0. Values that a delimiter separates are
+    /// one value.
     fn complete_at(&self, arg_index: usize, current: &OsStr) -> Vec<CompletionCandidate> {
         let _ = arg_index;
         self.complete(current)
@@ -28,7 +29,7 @@ where
     }
 }
 
-/// Computes all values of an argument, whatever is typed of the value.
+/// Computes all values of an argument, or all external subcommands, whatever is typed.
 pub trait ValueCandidates: Send + Sync {
     /// Returns all candidates.
     fn candidates(&self) -> Vec<CompletionCandidate>;
@@ -49,7 +50,10 @@ pub struct ArgValueCompleter(Arc<dyn ValueCompleter>);
 
 impl ArgValueCompleter {
     /// Makes a completer from a function or from a type of your own.
-    pub fn new(completer: impl ValueCompleter + 'static) -> ArgValueCompleter {
+    pub fn new<C>(completer: C) -> ArgValueCompleter
+    where
+        C: ValueCompleter + 'static,
+    {
         ArgValueCompleter(Arc::new(completer))
     }
 
@@ -58,7 +62,8 @@ impl ArgValueCompleter {
         self.0.complete(current)
     }
 
-    /// Returns the candidates for the value at `arg_index`, counted from 0.
+    /// Returns the candidates for the value at `arg_index` of one use of the argument, counted from
+    /// 0.
     pub fn complete_at(&self, arg_index: usize, current: &OsStr) -> Vec<CompletionCandidate> {
         self.0.complete_at(arg_index, current)
     }
@@ -76,8 +81,11 @@ pub struct ArgValueCandidates(Arc<dyn ValueCandidates>);
 
 impl ArgValueCandidates {
     /// Makes a list from a function or from a type of your own.
-    pub fn new(candidates: impl ValueCandidates + 'static) -> ArgValueCandidates {
-        ArgValueCandidates(Arc::new(candidates))
+    pub fn new<C>(completer: C) -> ArgValueCandidates
+    where
+        C: ValueCandidates + 'static,
+    {
+        ArgValueCandidates(Arc::new(completer))
     }
 
     /// Returns all candidates.
@@ -92,6 +100,41 @@ impl fmt::Debug for ArgValueCandidates {
     }
 }
 
+/// A list of what a command offers as subcommands, besides its own. It counts only if the command
+/// allows external subcommands. Those that begin with what is typed are offered.
+#[derive(Clone)]
+pub struct SubcommandCandidates(Arc<dyn ValueCandidates>);
+
+impl SubcommandCandidates {
+    /// Makes a list from a function or from a type of your own.
+    pub fn new<C>(completer: C) -> SubcommandCandidates
+    where
+        C: ValueCandidates + 'static,
+    {
+        SubcommandCandidates(Arc::new(completer))
+    }
+
+    /// Returns all candidates.
+    pub fn candidates(&self) -> Vec<CompletionCandidate> {
+        self.0.candidates()
+    }
+}
+
+impl fmt::Debug for SubcommandCandidates {
+    fn fmt(&self, f: &mut fmt::Formatter<'_>) -> fmt::Result {
+        f.write_str(type_name::<Self>())
+    }
+}
+
+#[cfg(feature = "unstable-dynamic")]
+impl clap::builder::ArgExt for ArgValueCompleter {}
+
+#[cfg(feature = "unstable-dynamic")]
+impl clap::builder::ArgExt for ArgValueCandidates {}
+
+#[cfg(feature = "unstable-dynamic")]
+impl clap::builder::CommandExt for SubcommandCandidates {}
+
 /// What [`CompleteEnv::completer_for`](crate::CompleteEnv::completer_for) gives an argument.
 #[derive(Clone, Debug)]
 pub enum Completer {
@@ -102,10 +145,12 @@ pub enum Completer {
 }
 
 impl Completer {
-    /// Returns the candidates for a value of which `current` is typed.
-    pub(crate) fn complete(&self, current: &str) -> Vec<CompletionCandidate> {
+    /// Returns the candidates for the value at `arg_index`, of which `current` is typed.
+    pub(crate) fn complete_at(&self, arg_index: usize, current: &str) -> Vec<CompletionCandidate> {
         match self {
-            Completer::Completer(completer) => completer.complete(OsStr::new(current)),
+            Completer::Completer(completer) => {
+                completer.complete_at(arg_index, OsStr::new(current))
+            }
             Completer::Candidates(candidates) => candidates.candidates(),
         }
     }
