@@ -10,8 +10,8 @@ from packing import copy, put, put_tar_xz, run
 TARGET = kit.TARGET
 ARCHIVE = "libcomplgen_c.a"
 LICENCES = ("NOTICE", "LICENSE-MIT", "LICENSE-APACHE")
-# Not part of the Rust package. Its example shares a file with another package of the repository.
-LEFT_OUT = shutil.ignore_patterns("target", "native", "Cargo.lock", "examples")
+# Not part of the Rust package.
+LEFT_OUT = shutil.ignore_patterns("target", "native", "Cargo.lock")
 PKG_CONFIG = """prefix=${{pcfiledir}}/../..
 libdir=${{prefix}}/lib
 includedir=${{prefix}}/include

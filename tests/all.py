@@ -57,6 +57,7 @@ def listed():
         ("tests/compare.py", "needs another build of complgen"),
         ("tests/from_clap.py", "needs cargo and clap 4"),
         ("tests/rust.py", "needs rt, cargo and clap 4"),
+        ("tests/original.py", "needs the archive, cargo, clap 4 and the sources of clap_complete"),
         ("tests/release.py", "needs the files that release/make.py makes"),
         ("tools/faults.py", "needs rt, and most of an hour"),
     ]

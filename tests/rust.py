@@ -7,8 +7,9 @@
 cargo runs the tests of rust/lagvtsune, and again under valgrind if it is installed. valgrind must report
 no error and no leak. examples/from-rust has to build.
 
-Then the example `herd` of the package is built with the package, and with the crate `clap_complete`. The
-two programs differ only in the name of the crate. The script compares their scripts, and their replies to
+Then the program in rust/herd is built with the package, and with the crate `clap_complete`. The two
+programs differ only in the name of the crate. It is also built without an archive, with the feature
+`original`, if cargo has clap_complete. The script compares their scripts, and their replies to
 1,000 random live requests, except those at which the original panics. If Debian's crates are installed,
 cargo uses these. Otherwise it fetches crates. If the original has no `CompleteEnv`, only scripts are
 compared. --original names a directory with the crates clap and clap_complete, which both programs then
@@ -72,12 +73,20 @@ def main():
         for folder in ("rust", "examples"):
             shutil.copytree(os.path.join(common.TOP, folder), os.path.join(work, folder))
         package = os.path.join(work, "rust", "lagvtsune")
-        cargo.run(package, "test", "--quiet")
-        print("tests: passed")
+        has_add = options.original is not None
+        common.fit_manifest(os.path.join(package, "Cargo.toml"), has_add)
+        features = ["--features", "unstable-dynamic"] if has_add else []
+        print("tests:", sum_of(cargo.run(package, "test", *features)), "passed")
         under_valgrind(cargo.tests(package))
+        print(f"without an archive: {without_archive(cargo, work, package)}")
         cargo.run(os.path.join(work, "examples", "from-rust"), "build", "--quiet")
         print("examples/from-rust: builds")
         return 0 if compare(cargo, work, package) else 1
+
+
+def sum_of(said):
+    """Returns how many tests passed, by what cargo wrote."""
+    return sum(int(count) for count in re.findall(r"^test result: ok\. (\d+) passed", said, re.MULTILINE))
 
 
 def arguments():
@@ -114,19 +123,38 @@ class Cargo:
         for crate in ("clap", "clap_complete") if original else ():
             self.flags += common.cargo_config(f"patch.crates-io.{crate}.path", os.path.join(original, crate))
 
-    def run(self, package, *words):
-        """Runs cargo, and returns its messages."""
+    def run(self, package, *words, environment=None):
+        """Runs cargo, and returns its output and its messages."""
         command = ["cargo", words[0], *self.flags, *words[1:]]
-        ran = subprocess.run(command, cwd=package, env=self.environment, capture_output=True, text=True)
+        environment = {**self.environment, **(environment or {})}
+        ran = subprocess.run(command, cwd=package, env=environment, capture_output=True, text=True)
         if ran.returncode:
             raise CargoFailed(ran.stdout + ran.stderr)
-        return ran.stderr
+        return ran.stdout + ran.stderr
 
     def tests(self, package):
         """Returns the paths of the package's test programs."""
         said = self.run(package, "test", "--no-run")
         names = re.findall(r"\(\S*?target/(debug/deps/\S+)\)", said)
         return [os.path.join(self.built, name) for name in names]
+
+
+def without_archive(cargo, work, package):
+    """Builds the package as on targets that have no archive."""
+    empty = os.path.join(work, "empty")
+    os.makedirs(empty)
+    environment = {"LAGVTSUNE_DIR": empty, "CARGO_TARGET_DIR": os.path.join(work, "without")}
+    try:
+        cargo.run(package, "build", "--quiet", environment=environment)
+    except CargoFailed as failed:
+        if "turn on the feature `original`" not in str(failed):
+            raise
+    else:
+        raise CargoFailed("the package builds without an archive")
+    if common.cargo_flags() and not common.has_debian("clap_complete"):
+        return "refused; clap_complete is not installed"
+    cargo.run(package, "build", "--quiet", "--features", "original", environment=environment)
+    return "refused; as clap_complete it builds"
 
 
 def under_valgrind(programs):
@@ -146,8 +174,9 @@ def compare(cargo, work, package):
     if version is None:
         print("clap_complete: not available")
         return True
-    cargo.run(package, "build", "--quiet", "--release", "--example", "herd")
-    ours = os.path.join(cargo.built, "release", "examples", "herd")
+    herd = os.path.join(work, "rust", "herd")
+    cargo.run(herd, "build", "--quiet", "--release")
+    ours = os.path.join(cargo.built, "release", "herd")
     theirs = os.path.join(cargo.built, "release", "other")
     same = [alike(shell, version, script(ours, shell), script(theirs, shell)) for shell in SHELLS]
     make_files(work)
@@ -168,7 +197,7 @@ def build_other(cargo, work, package):
     write(os.path.join(other, "Cargo.toml"), MANIFEST)
     cli = os.path.join(work, "examples", "from-clap", "herd", "src", "cli.rs")
     shutil.copy(cli, os.path.join(other, "src"))
-    with open(os.path.join(package, "examples", "herd.rs"), encoding="utf-8") as file:
+    with open(os.path.join(work, "rust", "herd", "src", "main.rs"), encoding="utf-8") as file:
         program = re.sub(r"#\[path.*\n", "", file.read()).replace("lagvtsune", "clap_complete")
     scripts_alone = re.sub(r".*CompleteEnv::.*\n", "", program).replace("CompleteEnv, ", "")
     for source in (program, scripts_alone):
@@ -234,8 +263,10 @@ def print_instructions(ours, theirs, work, replies):
     calls = [(f"script of {shell}", {}, ["--completions", shell]) for shell in SHELLS]
     if replies:
         asked = {"COMPLETE": "fish"}
-        calls += [("registration", asked, []), ("reply at the root", asked, ROOT)]
-        calls.append(("reply with a path", asked, PATH))
+        calls.append(("registration", asked, []))
+        # The safe registration sets this variable, which clap_complete does not read.
+        asked = {**asked, "_COMPLGEN_VALUES": "ask"}
+        calls += [("reply at the root", asked, ROOT), ("reply with a path", asked, PATH)]
     for name, asked, words in calls:
         own, other = (instructions(program, asked, words, work) for program in (ours, theirs))
         print(f"{name}: {own:,} instructions, {other:,} for clap_complete")

@@ -9,6 +9,7 @@ import collections
 import difflib
 import glob
 import os
+import re
 import shutil
 import subprocess
 import sys
@@ -114,14 +115,34 @@ def read_profile(lines, functions):
     return total, list(costs.values())
 
 
+def has_debian(crate):
+    """Tells whether Debian's package of a crate of version 4 is installed."""
+    return bool(glob.glob(os.path.join(DEBIAN, f"{crate}-4.*")))
+
+
 def cargo_flags():
     """Returns the flags that make cargo use Debian's crates, if Debian's clap 4 is installed."""
-    if not glob.glob(os.path.join(DEBIAN, "clap-4.*")):
+    if not has_debian("clap"):
         return []
     return [
         "--offline", *cargo_config("source.crates-io.replace-with", "debian"),
         *cargo_config("source.debian.directory", DEBIAN),
     ]
+
+
+def fit_manifest(path, has_add):
+    """Takes out of the manifest of the Rust package what the crates that cargo finds do not have.
+
+    Without `has_add`, clap has no feature for completers at arguments. Debian may lack clap_complete.
+    """
+    with open(path, encoding="utf-8") as file:
+        text = file.read()
+    if not has_add:
+        text = text.replace('unstable-dynamic = ["clap/unstable-ext"]', "unstable-dynamic = []")
+    if cargo_flags() and not has_debian("clap_complete"):
+        text = re.sub(r'^(clap_complete|original) = .*\n', "", text, flags=re.MULTILINE)
+    with open(path, "w", encoding="utf-8") as file:
+        file.write(text)
 
 
 def cargo_config(key, value):

@@ -3,11 +3,13 @@
 
 use clap::{Arg, Command, ValueHint};
 use lagvtsune::engine::{
-    ArgValueCandidates, ArgValueCompleter, CompletionCandidate, PathCompleter,
+    complete, ArgValueCandidates, ArgValueCompleter, CompletionCandidate, PathCompleter,
+    SubcommandCandidates, ValueCompleter,
 };
+use lagvtsune::env::{EnvCompleter, Shells};
 use lagvtsune::CompleteEnv;
-use std::ffi::OsStr;
-use std::io::Write;
+use std::ffi::{OsStr, OsString};
+use std::io::{self, Write};
 use std::path::{Path, PathBuf};
 use std::process::{self, Output, Stdio};
 use std::{env, fs, str};
@@ -27,6 +29,11 @@ fn main() {
             CompleteEnv::with_factory(app).bin("other").completer("/opt/it").complete();
         }
         Ok("no argument") => values().values_from(&["add", "s"], "level", &["x"]).complete(),
+        Ok("variable") => CompleteEnv::with_factory(app).var("OTHER").complete(),
+        Ok("builtins") => completers().shells(Shells::builtins()).complete(),
+        Ok("own shell") => CompleteEnv::with_factory(app).shells(Shells(&[&Own])).complete(),
+        Ok("external") => external().complete(),
+        Ok("numbers") => numbers().complete(),
         _ => CompleteEnv::with_factory(app).complete(),
     }
     if env::var_os("APP").is_some() {
@@ -40,6 +47,12 @@ fn main() {
     paths_of_a_folder();
     values_of_a_command();
     values_of_completers();
+    a_completer_gets_the_number_of_the_value();
+    completers_of_the_original_s_registrations();
+    external_subcommands();
+    a_shell_of_the_program_s_own();
+    another_variable();
+    the_original_s_registrations();
     println!("requests: passed");
 }
 
@@ -73,6 +86,8 @@ fn completers() -> CompleteEnv<'static, fn() -> Command> {
         Command::new("app").disable_help_flag(true).subcommand(set)
     };
     let levels = || {
+        // A program that a completer starts must not answer the request.
+        assert!(env::var_os("COMPLETE").is_none());
         let low = CompletionCandidate::new("low").help(Some("Saves\npower".into()));
         let secret = CompletionCandidate::new("hush").hide(true);
         let first = CompletionCandidate::new("best").display_order(Some(0)).id(Some("b".into()));
@@ -91,6 +106,83 @@ fn completers() -> CompleteEnv<'static, fn() -> Command> {
         .values_from(&["set"], "branch", &["git", "branch"])
         .completer_for(&["set"], "word", ArgValueCompleter::new(repeat))
         .completer_for(&["set"], "path", ArgValueCompleter::new(PathCompleter::dir()))
+}
+
+/// A completion of a command whose completers offer the number of the value.
+fn numbers() -> CompleteEnv<'static, fn() -> Command> {
+    struct Numbers;
+    impl ValueCompleter for Numbers {
+        fn complete(&self, _: &OsStr) -> Vec<CompletionCandidate> {
+            unreachable!("the number is known")
+        }
+        fn complete_at(&self, arg_index: usize, current: &OsStr) -> Vec<CompletionCandidate> {
+            let number = CompletionCandidate::new(current).help(Some(arg_index.to_string().into()));
+            vec![number.add_prefix(if current.is_empty() { "v" } else { "" })]
+        }
+    }
+    let app: fn() -> Command = || {
+        let pair = Arg::new("pair").long("pair").short('p').num_args(1..=3).global(true);
+        let all = Arg::new("all").long("all").num_args(0).short('a');
+        let hyphens = Arg::new("raw").long("raw").num_args(2..=4).allow_hyphen_values(true);
+        let files = Arg::new("files").num_args(0..).value_delimiter(',');
+        let add = Command::new("add").args([all, hyphens, files]);
+        Command::new("app").disable_help_flag(true).arg(pair).subcommand(add)
+    };
+    CompleteEnv::with_factory(app)
+        .completer_for(&[], "pair", ArgValueCompleter::new(Numbers))
+        .completer_for(&["add"], "raw", ArgValueCompleter::new(Numbers))
+        .completer_for(&["add"], "files", ArgValueCompleter::new(Numbers))
+}
+
+/// A completion of commands that allow external subcommands.
+fn external() -> CompleteEnv<'static, fn() -> Command> {
+    let app: fn() -> Command = || {
+        let tool = Command::new("tool").allow_external_subcommands(true).disable_help_flag(true);
+        let app = Command::new("app").allow_external_subcommands(true).disable_help_flag(true);
+        app.disable_help_subcommand(true).subcommands([tool, Command::new("turn")])
+    };
+    let plugins = || {
+        let first = CompletionCandidate::new("top").help(Some("First\nline".into()));
+        vec!["turn".into(), first, CompletionCandidate::new("tab").hide(true), "x".into()]
+    };
+    CompleteEnv::with_factory(app)
+        .subcommand_candidates_for(&[], SubcommandCandidates::new(plugins))
+        .subcommand_candidates_for(&["tool"], SubcommandCandidates::new(|| vec!["hit".into()]))
+}
+
+/// A shell of the program's own.
+struct Own;
+
+impl EnvCompleter for Own {
+    fn name(&self) -> &'static str {
+        "own"
+    }
+    fn is(&self, name: &str) -> bool {
+        name == "own" || name == "owner"
+    }
+    fn write_registration(
+        &self,
+        var: &str,
+        name: &str,
+        bin: &str,
+        completer: &str,
+        buf: &mut dyn Write,
+    ) -> io::Result<()> {
+        writeln!(buf, "{var} {name} {bin} {completer}")
+    }
+    fn write_complete(
+        &self,
+        cmd: &mut Command,
+        args: Vec<OsString>,
+        current_dir: Option<&Path>,
+        buf: &mut dyn Write,
+    ) -> io::Result<()> {
+        let index = args.len() - 1;
+        for candidate in complete(cmd, args, index, current_dir)? {
+            write!(buf, "<{}>", candidate.get_value().to_string_lossy())?;
+        }
+        Ok(())
+    }
 }
 
 /// Runs this program with these words, and with variables that request a completion of a tree.
@@ -252,4 +344,107 @@ fn values_of_completers() {
     // A registration calls no completer.
     let fish = text("completers", &[("COMPLETE", "fish")], &[]);
     assert!(fish.contains("--command app") && !fish.contains("lagvtsune-completer"), "{fish}");
+}
+
+fn a_completer_gets_the_number_of_the_value() {
+    let fish = [("COMPLETE", "fish"), ("_COMPLGEN_VALUES", "ask")];
+    let cases: [(&[&str], &str); 15] = [
+        (&["--pair", ""], "v\t0\n"),
+        (&["--pair", "x", ""], "v\t1\n"),
+        (&["--pair", "x", "y", "z"], "z\t2\n"),
+        (&["--pair", "x", "--pair", "z"], "z\t0\n"),
+        (&["--pair=z"], "--pair=z\t0\n"),
+        (&["-pz"], "-pz\t0\n"),
+        (&["-p", "x", "z"], "z\t1\n"),
+        (&["add", "-ap", "x", "z"], "z\t1\n"),
+        (&["add", "z"], "z\t0\n"),
+        (&["add", "a", "b", "z"], "z\t2\n"),
+        (&["add", "a", "b,z"], "b,z\t1\n"),
+        (&["add", "a", "--all", "z"], "z\t0\n"),
+        (&["add", "--", "a", "-z", "z"], "z\t2\n"),
+        (&["add", "--raw", "--raw", "z"], "z\t1\n"),
+        (&["--pair", "x", "add", "--pair", "z"], "z\t0\n"),
+    ];
+    for (words, expected) in cases {
+        let words = [&["--", "app"], words].concat();
+        let found = text("numbers", &fish, &words);
+        let of_the_completer =
+            found.lines().find(|line| line.contains('\t') && !line.contains("\tP"));
+        assert_eq!(
+            of_the_completer.map(|line| format!("{line}\n")).as_deref(),
+            Some(expected),
+            "{words:?}"
+        );
+    }
+}
+
+fn completers_of_the_original_s_registrations() {
+    let line = |level: &str| {
+        vec!["--".to_owned(), "app".into(), "set".into(), "--level".into(), level.into()]
+    };
+    let request = |shell: &str, level: &str| {
+        let variables = [("COMPLETE", shell), ("_CLAP_COMPLETE_INDEX", "3"), ("_CLAP_IFS", "|")];
+        let line = line(level);
+        let words: Vec<&str> = line.iter().map(String::as_str).collect();
+        text("builtins", &variables, &words)
+    };
+    assert_eq!(request("bash", ""), "best|low|high");
+    assert_eq!(request("elvish", "l"), "low");
+    assert_eq!(request("zsh", ""), "best|low:Saves|high");
+    assert_eq!(request("fish", ""), "best\nlow\tSaves\nhigh\n");
+    assert_eq!(request("/usr/bin/pwsh", "hu"), "hush\n");
+    // The same request is answered so with the safe shells.
+    let variables = [("COMPLETE", "bash"), ("_CLAP_COMPLETE_INDEX", "3"), ("_CLAP_IFS", "|")];
+    assert_eq!(
+        text("completers", &variables, &["--", "app", "set", "--level", ""]),
+        "best|low|high"
+    );
+}
+
+fn external_subcommands() {
+    let fish = [("COMPLETE", "fish"), ("_COMPLGEN_VALUES", "ask")];
+    let found = |words: &[&str]| text("external", &fish, &[&["--", "app"], words].concat());
+    assert_eq!(found(&["t"]), "tool\nturn\ntop\tFirst\n");
+    assert_eq!(found(&["ta"]), "tab\n");
+    assert_eq!(found(&["tool", ""]), "hit\n");
+    assert_eq!(found(&["x", "to"]), "tool\ntop\tFirst\n");
+    assert_eq!(found(&["turn", "h"]), "");
+    let bash = [("COMPLETE", "bash"), ("_CLAP_COMPLETE_INDEX", "1"), ("_CLAP_IFS", "|")];
+    assert_eq!(text("external", &bash, &["--", "app", "to"]), "tool|top");
+}
+
+fn a_shell_of_the_program_s_own() {
+    let request = |shell, words: &[&str]| text("own shell", &[("COMPLETE", shell)], words);
+    let program = env::current_exe().unwrap();
+    assert_eq!(request("own", &[]), format!("COMPLETE app app {}\n", program.display()));
+    assert_eq!(request("/bin/owner", &["--", "app", "t"]), "<t>");
+    let unknown = run("own shell", &[("COMPLETE", "bash")], &[]);
+    let message = "error: unknown shell `bash`, expected one of `own`";
+    assert_eq!(str::from_utf8(&unknown.stderr).unwrap().trim_end(), message);
+}
+
+fn another_variable() {
+    for shell in ["bash", "elvish", "fish", "powershell", "zsh"] {
+        let usual = text("app", &[("COMPLETE", shell)], &[]);
+        let other = text("variable", &[("OTHER", shell)], &[]);
+        let places = if shell == "powershell" { 3 } else { 1 };
+        assert_eq!(usual.matches("COMPLETE").count(), places, "{usual}");
+        assert_eq!(other, usual.replace("COMPLETE", "OTHER"));
+    }
+    assert_eq!(text("variable", &[("COMPLETE", "fish")], &[]), "the program itself\n");
+    assert_eq!(text("variable", &[("OTHER", "fish")], &["--", "app", "t"]), "t\n");
+}
+
+/// A registration of the original calls the original's functions and sets its variables.
+fn the_original_s_registrations() {
+    for (shell, part) in [
+        ("bash", "_CLAP_COMPLETE_COMP_TYPE=\"$_CLAP_COMPLETE_COMP_TYPE\" \\\n"),
+        ("elvish", "_CLAP_COMPLETE_INDEX=(to-string $index) COMPLETE=\"elvish\" "),
+        ("fish", "complete --keep-order --exclusive --command app --arguments \"(COMPLETE=fish "),
+        ("powershell", "\nRegister-ArgumentCompleter -Native -CommandName app -ScriptBlock {\n"),
+        ("zsh", "#compdef app\nfunction _clap_dynamic_completer_app() {\n"),
+    ] {
+        let written = text("builtins", &[("COMPLETE", shell)], &[]);
+        assert!(written.contains(part), "{written}");
+    }
 }
