@@ -9,6 +9,9 @@ release/library/lagvtsune.h and in rust/lagvtsune/src/native.rs with these param
 declare another function. Its comment there must be the doc comment of the source, and the clause of its
 contract. A function must have one clause, and no precondition.
 
+It also compares the registrations of the original in rust/lagvtsune/src/env/registrations.rs with those in
+docs/TEXTS.md.
+
 Prints a line for each difference. The status is 0 if there is none.
 """
 
@@ -21,6 +24,8 @@ TOP = pathlib.Path(__file__).resolve().parent.parent
 SOURCES = TOP / "crates/complgen_c/src"
 HEADER = TOP / "release/library/lagvtsune.h"
 NATIVE = TOP / "rust/lagvtsune/src/native.rs"
+REGISTRATIONS = TOP / "rust/lagvtsune/src/env/registrations.rs"
+TEXTS = TOP / "docs/TEXTS.md"
 
 # The declarations of a parameter and a result of each type.
 C = {
@@ -118,6 +123,23 @@ def faults(header, native, found):
     return lines
 
 
+def registration_faults():
+    """Returns the registrations in Rust that are not those of the document, in its order."""
+    section = TEXTS.read_text(encoding="utf-8").split("\n## Registrations\n")[1].split("\n## ")[0]
+    stated = re.findall(r"^```\n(.*?\n)```$", section, re.MULTILINE | re.DOTALL)
+    texts = re.findall(r"const (\w+): &\[Piece\] = &\[(.*?)^\];", REGISTRATIONS.read_text(encoding="utf-8"), re.MULTILINE | re.DOTALL)
+    if len(stated) != len(texts):
+        return [f"{TEXTS.name} has {len(stated)} registrations, {REGISTRATIONS.name} {len(texts)}"]
+    pairs = zip(texts, stated)
+    return [f"{REGISTRATIONS.name}: {name} is not the text in {TEXTS.name}" for (name, pieces), text in pairs if written(pieces) != text]
+
+
+def written(pieces):
+    """Returns the text of a registration in Rust, as the document has it."""
+    found = re.findall(r'Text\(\s*(?:r#"(.*?)"#|"([^"\\]*)"),?\s*\)|\b(Var|Name|Bin|Completer)\b,', pieces, re.DOTALL)
+    return "".join(f"«{name.lower()}»" if name else raw or plain for raw, plain, name in found)
+
+
 def main():
     if sys.argv[1:] not in ([], ["--write"]):
         sys.exit(__doc__)
@@ -127,7 +149,7 @@ def main():
         header, native = with_comments(header, native, found)
         HEADER.write_text(header, encoding="utf-8")
         NATIVE.write_text(native, encoding="utf-8")
-    wrong = faults(header, native, found)
+    wrong = faults(header, native, found) + registration_faults()
     print("\n".join(wrong) or f"{len(found)} functions: the same in the source, the header and native.rs")
     return 1 if wrong else 0
 
