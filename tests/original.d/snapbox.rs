@@ -16,7 +16,7 @@ impl IntoData for Expected {
     }
 }
 
-/// Returns whether a text is `pattern`, in which `[..]` stands for any text in a line.
+/// Returns whether a text matches `pattern`, in which `[..]` matches any text in a line.
 pub fn is_like(text: &str, pattern: &str) -> bool {
     let Some((before, rest)) = pattern.split_once("[..]") else {
         return text == pattern;

@@ -51,7 +51,7 @@ pub struct Request<'r> {
     /// The words of the command line.
     pub(crate) line: Vec<OsString>,
     pub(crate) current_dir: Option<&'r Path>,
-    /// Whether the process can end with the status that makes the shell run a command.
+    /// True if the process can end with the status that makes the shell run a command.
     pub(crate) may_run: bool,
 }
 

@@ -23,7 +23,7 @@
 //! - `unstable-dynamic`: arguments and commands have completers, by `Arg::add` and `Command::add`. It
 //!   needs a release of clap with the feature `unstable-ext`. Without it, name the argument at
 //!   [`CompleteEnv::completer_for`].
-//! - `original`: where there is no archive for the target, the package is `clap_complete`.
+//! - `original`: if there is no archive for the target, the package is `clap_complete`.
 
 #![deny(unsafe_code)]
 #![warn(missing_docs)]

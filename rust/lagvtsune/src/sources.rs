@@ -1,5 +1,5 @@
-//! Where the values of arguments come from, besides the tree: commands, and completers of the
-//! program.
+//! The sources of values that the command does not declare: commands that print them, and
+//! completers of the program.
 
 use crate::engine::{Completer, CompletionCandidate, SubcommandCandidates};
 use crate::tree_file::{External, ValuesFrom};

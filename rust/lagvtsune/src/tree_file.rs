@@ -44,7 +44,7 @@ pub struct ValuesFrom<'v> {
     pub id: &'v str,
     /// The words of the command: a program and its arguments.
     pub words: &'v [String],
-    /// Whether each live request needs the argument, because the library checks its words.
+    /// True if each live request needs the argument, because the library checks its words.
     pub is_checked: bool,
 }
 
@@ -101,10 +101,10 @@ pub struct Line<'l> {
     pub words: &'l [&'l str],
     /// The names of the subcommands to which the words lead.
     pub path: &'l [&'l str],
-    /// What is offered there as subcommands, besides those of the command.
+    /// The external subcommands that are offered there.
     pub external: &'l [External],
-    /// Whether keys stand for help texts: `a`, `c` or `v`, and the names of an argument, a
-    /// subcommand or a possible value.
+    /// True if help texts are replaced by keys, as [`arg_key`], [`command_key`] and [`value_key`]
+    /// return them.
     pub has_keys: bool,
 }
 
@@ -146,7 +146,7 @@ impl<'p> Place<'p> {
         })
     }
 
-    /// Returns the subcommands that are offered here besides those of the command.
+    /// Returns the external subcommands that are offered here.
     fn external(&self) -> &'p [External] {
         let line = self.line.filter(|_| self.path.is_some_and(<[_]>::is_empty));
         line.map_or(&[], |line| line.external)
@@ -290,17 +290,17 @@ fn about(object: &mut Object<'_>, command: &Command, has_keys: bool) {
     }
 }
 
-/// Returns the key that stands for the description of a command.
+/// Returns the key that replaces the description of a command.
 pub(crate) fn command_key(command: &Command) -> String {
     format!("c{:?}", command.get_name())
 }
 
-/// Returns the key that stands for the help text of an argument.
+/// Returns the key that replaces the help text of an argument.
 pub(crate) fn arg_key(arg: &Arg) -> String {
     format!("a{:?}", arg.get_id().as_str())
 }
 
-/// Returns the key that stands for the help text of a possible value.
+/// Returns the key that replaces the help text of a possible value.
 pub(crate) fn value_key(arg: &Arg, value: &PossibleValue) -> String {
     format!("v{:?} {:?}", arg.get_id().as_str(), value.get_name())
 }

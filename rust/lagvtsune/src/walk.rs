@@ -3,7 +3,7 @@
 
 use clap::{Arg, Command};
 
-/// Where words lead in a command whose nodes on the way are built.
+/// The place to which words lead, in a command whose nodes on the way are built.
 pub(crate) struct Walked<'c> {
     /// The command to which the words lead.
     pub(crate) command: &'c Command,
@@ -13,7 +13,7 @@ pub(crate) struct Walked<'c> {
     pending: Pending<'c>,
 }
 
-/// What may take more values after the words read so far.
+/// The option or positional that may take more values after the words read so far.
 #[derive(Clone, Copy)]
 enum Pending<'c> {
     Nothing,

@@ -100,8 +100,8 @@ impl fmt::Debug for ArgValueCandidates {
     }
 }
 
-/// A list of what a command offers as subcommands, besides its own. It counts only if the command
-/// allows external subcommands. Those that begin with what is typed are offered.
+/// A list of external subcommands. It counts only if the command allows external subcommands. Those
+/// that begin with what is typed are offered.
 #[derive(Clone)]
 pub struct SubcommandCandidates(Arc<dyn ValueCandidates>);
 
