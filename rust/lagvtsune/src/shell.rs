@@ -2,7 +2,7 @@
 
 use crate::calls;
 use crate::generation::Generator;
-use crate::tree_file::tree_file;
+use crate::tree_file::{script_file, Parts};
 use clap::builder::PossibleValue;
 use clap::{Command, ValueEnum};
 use std::fmt::{self, Display, Formatter};
@@ -47,6 +47,16 @@ impl Shell {
     /// program, or if the variable is not set.
     pub fn from_env() -> Option<Shell> {
         Shell::from_shell_path(std::env::var_os("SHELL")?)
+    }
+
+    /// Returns the parts of a tree that the scripts of the shell depend on.
+    pub(crate) fn parts(self) -> Parts {
+        match self {
+            Shell::Bash => Parts::Valued,
+            Shell::Fish => Parts::Offered,
+            Shell::Zsh => Parts::Related,
+            Shell::Elvish | Shell::Nushell | Shell::PowerShell => Parts::Described,
+        }
     }
 
     /// Returns the name with which the library and users select the shell.
@@ -119,7 +129,7 @@ impl Generator for Shell {
     ///   of a bash script.
     fn try_generate(&self, cmd: &Command, buf: &mut dyn Write) -> Result<(), Error> {
         let bin_name = cmd.get_bin_name().unwrap_or(cmd.get_name());
-        buf.write_all(&calls::script(self.name(), bin_name, &tree_file(cmd))?)
+        buf.write_all(&calls::script(self.name(), bin_name, &script_file(cmd, self.parts()))?)
     }
 
     fn takes_declared(&self) -> bool {

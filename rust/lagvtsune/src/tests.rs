@@ -1,12 +1,13 @@
 //! Tests the library's functions with arbitrary bytes, and with allocations that are refused.
 
 use crate::answering::cut_after_line;
-use crate::calls::slices;
+use crate::calls::{self, slices};
 use crate::folder::likely_folder;
 use crate::native::{self, Request, Returned};
 use crate::refusing::refused;
-use crate::tree_file::{live_file, names_file, tree_file, Line, ValuesFrom};
-use clap::{value_parser, Arg, ArgAction, ArgGroup, Command, ValueHint};
+use crate::tree_file::{live_file, names_file, script_file, tree_file, Line, ValuesFrom};
+use crate::Shell;
+use clap::{value_parser, Arg, ArgAction, ArgGroup, Command, ValueEnum, ValueHint};
 use std::collections::hash_map::DefaultHasher;
 use std::hash::{Hash, Hasher};
 use std::path::PathBuf;
@@ -484,6 +485,25 @@ fn a_live_file_answers_as_the_whole_one() {
         }
     }
     assert!(texts > 5_000 && smaller > 1_000, "{texts} {smaller}");
+}
+
+#[test]
+fn a_script_of_the_parts_is_that_of_the_whole_tree() {
+    let mut numbers = Numbers(8);
+    let (mut scripts, mut saved) = (0, 0);
+    for _ in 0..300 {
+        let command = random_command(&mut numbers, "app", 2);
+        let whole = tree_file(&command);
+        for shell in Shell::value_variants() {
+            let part = script_file(&command, shell.parts());
+            let of = |tree: &str| calls::script(&shell.to_string(), "app", tree);
+            let (script, expected) = (of(&part), of(&whole));
+            assert_eq!(script.map_err(|it| it.to_string()), expected.map_err(|it| it.to_string()));
+            scripts += 1;
+            saved += whole.len() - part.len();
+        }
+    }
+    assert!(scripts == 1_800 && saved > 100_000, "{scripts} {saved}");
 }
 
 /// Numbers that follow from a seed.

@@ -58,8 +58,15 @@ impl<'v> ValuesFrom<'v> {
 }
 
 /// Returns the tree file of a command, whether it is built or not.
+#[allow(dead_code)] // the package itself needs parts of it
 pub fn tree_file(command: &Command) -> String {
-    written(&mut command.clone(), &[], None)
+    written(&mut command.clone(), &[], None, Parts::Whole)
+}
+
+/// Returns the part of a tree file that a script needs.
+#[allow(dead_code)] // a program that only writes tree files includes this file
+pub fn script_file(command: &Command, parts: Parts) -> String {
+    written(&mut command.clone(), &[], None, parts)
 }
 
 /// Returns the part of a tree file that a live request needs, and builds the commands on the way of
@@ -67,13 +74,18 @@ pub fn tree_file(command: &Command) -> String {
 /// values.
 #[allow(dead_code)] // a program that only writes tree files includes this file
 pub fn live_file(command: &mut Command, sources: &[ValuesFrom<'_>], line: &Line<'_>) -> String {
-    written(command, sources, Some(line))
+    written(command, sources, Some(line), Parts::Offered)
 }
 
-fn written(command: &mut Command, sources: &[ValuesFrom<'_>], line: Option<&Line<'_>>) -> String {
+fn written(
+    command: &mut Command,
+    sources: &[ValuesFrom<'_>],
+    line: Option<&Line<'_>>,
+    parts: Parts,
+) -> String {
     let arg_count = command.get_arguments().count();
     let path = line.map(|line| line.path);
-    let place = Place { arg_count, globals: &[], sources, line, path };
+    let place = Place { arg_count, globals: &[], sources, line, path, parts };
     let mut out = String::with_capacity(LEAST_ROOM);
     command_object(&mut out, command, &place);
     out.push('\n');
@@ -91,6 +103,22 @@ pub fn names_file(name: &str, bin_name: &str) -> String {
     object.end();
     out.push('\n');
     out
+}
+
+/// The parts of a tree that are written. Each has the names, and how many values arguments take.
+#[derive(Clone, Copy, PartialEq, PartialOrd)]
+#[allow(dead_code)] // a program that only writes tree files includes this file
+pub enum Parts {
+    /// Help texts.
+    Described,
+    /// Values, headings and orders.
+    Valued,
+    /// Both.
+    Offered,
+    /// Conflicts too.
+    Related,
+    /// Also what only a parser needs.
+    Whole,
 }
 
 /// A command line of which a live request completes a word.
@@ -136,6 +164,7 @@ struct Place<'p> {
     line: Option<&'p Line<'p>>,
     /// The path of that line from here, if the words lead to here or further.
     path: Option<&'p [&'p str]>,
+    parts: Parts,
 }
 
 impl<'p> Place<'p> {
@@ -156,10 +185,6 @@ impl<'p> Place<'p> {
     fn path_below(&self, name: &str) -> Option<&'p [&'p str]> {
         let (first, path) = self.path?.split_first()?;
         (*first == name).then_some(path)
-    }
-
-    fn is_live(&self) -> bool {
-        self.line.is_some()
     }
 
     fn has_keys(&self) -> bool {
@@ -223,7 +248,7 @@ fn command_object(out: &mut String, command: &mut Command, place: &Place<'_>) {
     let mut object = Object::new(out);
     command_texts(&mut object, command, place);
     command_flags(&mut object, command, children.iter().any(Option::is_some));
-    if !place.is_live() {
+    if place.parts == Parts::Whole {
         parser_flags(&mut object, command);
     }
     let mut position = 0;
@@ -256,7 +281,7 @@ fn child_object(out: &mut String, child: Child<'_>, globals: &[Id], place: &Plac
     let sources = place.sources.iter().filter_map(|it| it.below(child.get_name()));
     let sources: Vec<_> = sources.collect();
     if !place.is_needed(child, &sources) {
-        return offered_object(out, child, place.has_keys());
+        return offered_object(out, child, place);
     }
     let path = place.path_below(child.get_name());
     let below = Place { arg_count, globals, sources: &sources, path, ..*place };
@@ -264,10 +289,10 @@ fn child_object(out: &mut String, child: Child<'_>, globals: &[Id], place: &Plac
 }
 
 /// Writes only what the parent of a command offers.
-fn offered_object(out: &mut String, command: &Command, has_keys: bool) {
+fn offered_object(out: &mut String, command: &Command, place: &Place<'_>) {
     let mut object = Object::new(out);
     object.text("name", Some(command.get_name()));
-    about(&mut object, command, has_keys);
+    about(&mut object, command, place);
     command_aliases(&mut object, command);
     object.flag("hide", command.is_hide_set());
     object.order(command.get_display_order());
@@ -282,10 +307,10 @@ fn external_object(out: &mut String, external: &External) {
     object.end();
 }
 
-fn about(object: &mut Object<'_>, command: &Command, has_keys: bool) {
-    if has_keys {
+fn about(object: &mut Object<'_>, command: &Command, place: &Place<'_>) {
+    if place.has_keys() {
         object.text("about", Some(&command_key(command)));
-    } else {
+    } else if place.parts != Parts::Valued {
         object.shown("about", command.get_about());
     }
 }
@@ -327,8 +352,8 @@ fn command_aliases(object: &mut Object<'_>, command: &Command) {
 fn command_texts(object: &mut Object<'_>, command: &Command, place: &Place<'_>) {
     object.text("name", Some(command.get_name()));
     object.text("bin_name", own_bin_name(command));
-    about(object, command, place.has_keys());
-    if !place.is_live() {
+    about(object, command, place);
+    if place.parts == Parts::Whole {
         object.shown("long_about", command.get_long_about());
         object.shown("after_help", command.get_after_help());
     }
@@ -392,16 +417,15 @@ fn own_default(arg: &Arg) -> Option<&str> {
     value.to_str().filter(|value| *value != usual)
 }
 
-/// Writes an argument of a built command as it was declared, with the words of the command that
-/// prints its values, if there are any. `position` is its number among the positional arguments.
+/// Writes an argument of a built command as it was declared. `position` is its number among the
+/// positional arguments.
 fn arg_object(out: &mut String, arg: &Arg, position: usize, command: &Command, place: &Place<'_>) {
-    let words = words_for(arg, place.sources);
     let mut object = Object::new(out);
     object.text("id", Some(arg.get_id().as_str()));
     arg_names(&mut object, arg);
     if place.has_keys() {
         object.text("help", Some(&arg_key(arg)));
-    } else {
+    } else if place.parts != Parts::Valued {
         object.shown("help", arg.get_help());
     }
     object.word("action", arg.get_action());
@@ -409,6 +433,29 @@ fn arg_object(out: &mut String, arg: &Arg, position: usize, command: &Command, p
         value_range(object.key("num_args"), range);
     }
     object.list("value_names", arg.get_value_names().unwrap_or(&[]), |out, it| quote(out, it));
+    if place.parts != Parts::Described {
+        arg_values(&mut object, arg, place);
+    }
+    if place.parts == Parts::Whole {
+        object.text("default_value", own_default(arg));
+    }
+    if place.parts >= Parts::Related {
+        let conflicts = command.get_arg_conflicts_with(arg);
+        object.list("conflicts_with", conflicts, |out, it| quote(out, it.get_id().as_str()));
+    }
+    if let Some(index) = arg.get_index().filter(|index| *index != position) {
+        object.number("index", index);
+    }
+    object.flag("global", arg.is_global_set());
+    if place.parts != Parts::Described {
+        arg_lists(&mut object, arg);
+    }
+    object.end();
+}
+
+/// Writes the values of an argument, or the words of the command that prints them.
+fn arg_values(object: &mut Object<'_>, arg: &Arg, place: &Place<'_>) {
+    let words = words_for(arg, place.sources);
     if words.is_empty() {
         object.list("possible_values", &arg.get_possible_values(), |out, value| {
             value_object(out, value, place.has_keys().then(|| value_key(arg, value)));
@@ -419,18 +466,13 @@ fn arg_object(out: &mut String, arg: &Arg, position: usize, command: &Command, p
     if hint != ValueHint::Unknown {
         object.word("value_hint", hint);
     }
+}
+
+/// Writes what decides how an argument and its values are listed.
+fn arg_lists(object: &mut Object<'_>, arg: &Arg) {
     object.text("value_terminator", arg.get_value_terminator().map(Str::as_str));
-    if !place.is_live() {
-        object.text("default_value", own_default(arg));
-        let conflicts = command.get_arg_conflicts_with(arg);
-        object.list("conflicts_with", conflicts, |out, it| quote(out, it.get_id().as_str()));
-    }
-    if let Some(index) = arg.get_index().filter(|index| *index != position) {
-        object.number("index", index);
-    }
     object.flag("required", arg.is_required_set());
     object.flag("last", arg.is_last_set());
-    object.flag("global", arg.is_global_set());
     object.flag("hide", arg.is_hide_set());
     object.text("help_heading", arg.get_help_heading());
     if let Some(delimiter) = arg.get_value_delimiter() {
@@ -438,7 +480,6 @@ fn arg_object(out: &mut String, arg: &Arg, position: usize, command: &Command, p
     }
     object.order(arg.get_display_order());
     object.flag("allow_hyphen_values", arg.is_allow_hyphen_values_set());
-    object.end();
 }
 
 /// Writes the names of an option, visible and hidden ones separately.

@@ -53,10 +53,14 @@ impl<'c> Walked<'c> {
     /// Returns the part of `word` that is a value of `arg`, and how many values that use of `arg`
     /// has already. The library says that `word` ends with a value of it.
     pub(crate) fn value<'w>(&self, arg: &Arg, word: &'w str) -> (&'w str, usize) {
+        // No whole word that begins with a hyphen is such a value.
+        if word.starts_with('-') {
+            return (attached_value(arg, word).unwrap_or(word), 0);
+        }
         match self.pending {
             Pending::Option(open, values) if open.get_id() == arg.get_id() => (word, values),
             Pending::Run(values) if arg.is_positional() => (word, values),
-            _ => (attached_value(arg, word).unwrap_or(word), 0),
+            _ => (word, 0),
         }
     }
 
