@@ -82,6 +82,7 @@ def main():
         cargo = Cargo(pathlib.Path(work), options)
         for part in parts:
             cargo.put(part)
+        cargo.build_all()
         rows = [(part, *cargo.run(part)) for part in parts]
     return report(rows, options)
 
@@ -201,6 +202,11 @@ class Cargo:
 
     def put(self, part):
         put(self.package / part.path, part.code)
+
+    def build_all(self):
+        """Builds all parts that can be built, several at once."""
+        command = ["cargo", "build", "--quiet", "--examples", "--tests", "--keep-going", *self.flags]
+        subprocess.run(command, cwd=self.package, env=self.environment, capture_output=True, check=False)
 
     def run(self, part):
         """Returns how many tests of a part passed and failed, and what cargo wrote."""
