@@ -89,6 +89,9 @@ pub(crate) fn asks_safely() -> bool {
 ///
 /// The library's message.
 pub(crate) fn safe_answer(shell: &str, request: Request<'_>) -> io::Result<(u8, Vec<u8>)> {
+    if request.line.is_empty() {
+        return Err(no_completion());
+    }
     let commands = Commands::of(request.may_run);
     let sources = request.sources;
     let mut asked = Asked::of(request, None, false);
@@ -153,7 +156,7 @@ pub(crate) fn offered(mut request: Request<'_>, index: usize) -> io::Result<Offe
     request.line.truncate(index.saturating_add(1));
     let (sources, has_word) = (request.sources, request.line.len() == index.saturating_add(1));
     if !has_word {
-        return Err(io::Error::other("no completion generated"));
+        return Err(no_completion());
     }
     let mut asked = Asked::of(request, None, true);
     asked.set(REQUEST, b"zsh");
@@ -344,6 +347,11 @@ fn value_and_key(item: &str) -> (String, Option<String>) {
         }
     }
     (value, None)
+}
+
+/// Returns the library's error for a word that is not there.
+fn no_completion() -> io::Error {
+    io::Error::other("no completion generated")
 }
 
 fn unexpected() -> io::Error {

@@ -26,8 +26,8 @@ impl<'s> Shells<'s> {
         Shells(&[BASH, ELVISH, FISH, POWERSHELL, ZSH])
     }
 
-    /// Returns the shells with the registrations and replies of `clap_complete`. In bash, zsh and
-    /// PowerShell, a candidate or a typed word may run a command.
+    /// Returns the shells with the registrations and replies of `clap_complete`. In bash, a value that
+    /// was inserted may run a command, and in PowerShell a typed word may.
     pub const fn builtins() -> Shells<'s> {
         Shells(&[&Bash, &Elvish, &Fish, &Powershell, &Zsh])
     }
