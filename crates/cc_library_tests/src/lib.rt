@@ -20,6 +20,8 @@ mod known_names;
 #[cfg(test)]
 mod parser;
 #[cfg(test)]
+mod program;
+#[cfg(test)]
 mod shell;
 #[cfg(test)]
 mod sinks;
