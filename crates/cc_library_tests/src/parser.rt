@@ -1,6 +1,6 @@
 //! A described command: its candidates, and the words that its parser accepts.
 
-use crate::checks::is;
+use crate::checks::{is, same};
 use bumpalo::Bump;
 use cc_fixtures::words::to_strings;
 use clap::ArgMatches;
@@ -13,7 +13,10 @@ use clap_complete::describe::{
 use clap_complete::engine::{
     ArgValueCompleter, Completers, CompletionCandidate, MemoryFolder, Sources, complete,
 };
-use clap_complete::parser::{candidates_and_parser, parser};
+use clap_complete::parser::{
+    candidates_and_parser, candidates_and_reached_parser, fits_parser, has_globals,
+    is_parsed_exactly, parser,
+};
 use std::alloc::{AllocError, Global};
 use std::fmt::Write;
 
@@ -192,4 +195,65 @@ fn what_is_offered_is_taken(rt: HostRuntime) {
         both(rt.alloc(), "--v", &line),
         "app: --verbose: none true run false make",
     );
+}
+
+// Returns the name of the command that `exec` leads to, whether it fits its parser, and the values
+// that are offered there for `word`. Then whether its parser finds `--dry-run` in `line`.
+fn reached(alloc: Global, word: &str, line: &[&str]) -> Result<String, Error> {
+    let words = to_strings(alloc, &["app", "exec", word])?;
+    let mut app = app(alloc)?;
+    reached_of(alloc, None, &mut app, words, line)
+}
+
+fn reached_of(
+    alloc: Global,
+    current_dir: Option<&str>,
+    app: &mut Command,
+    words: Vec<String>,
+    line: &[&str],
+) -> Result<String, Error> {
+    let store = Bump::new(alloc);
+    let folder = MemoryFolder::new(&[], &[]);
+    let completers = Completers::none(alloc);
+    let sources = Sources {
+        current_dir,
+        folder: &folder,
+        completers: &completers,
+    };
+    let (found, parser, reached) = candidates_and_reached_parser(
+        alloc, &store, app, words, 2, &sources,
+    )?;
+    let offered = values(alloc, found.as_slice())?;
+    let dry_run = is_dry_run(parser.try_get_matches_from(line));
+    let name = reached.get_name();
+    let fits = fits_parser(reached);
+    Ok(format!(in alloc; "{name} {fits}:{offered}: {dry_run}")?)
+}
+
+fn is_dry_run(matches: Result<ArgMatches<'_>, clap::Error>) -> bool {
+    match matches {
+        Ok(matches) => matches.get_flag("dry-run"),
+        Err(_) => false,
+    }
+}
+
+#[test]
+fn what_a_subcommand_offers_is_taken(rt: HostRuntime) {
+    let line = ["run", "--dry-run", "make"];
+    is(
+        &rt,
+        reached(rt.alloc(), "--d", &line),
+        "run true: --dry-run: true",
+    );
+}
+
+#[test]
+fn a_global_argument_is_found(rt: HostRuntime) {
+    let args = [flag("open", "Leave it open").global()];
+    let jar = command(rt.alloc(), "jar", "Keeps things", &args);
+    let mut jar = jar.expect(&rt, "no tree");
+    jar.build(rt.alloc()).expect(&rt, "no memory");
+    same(&rt, has_globals(&jar), true);
+    same(&rt, is_parsed_exactly(&jar), false);
+    same(&rt, fits_parser(&jar), true);
 }
