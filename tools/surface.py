@@ -91,13 +91,19 @@ CALLS = {
         are_readable_values ; are_readable_zsh_items ; are_readable_lines
         are_readable_entries
     """,
-    "parser": "parser ; fits_parser ; candidates_and_parser",
+    "parser": """
+        parser ; fits_parser ; has_globals ; is_parsed_exactly ; candidates_and_parser
+        candidates_and_reached_parser
+    """,
     "describe": """
         ArgDescription: short values value_hint completer many required global ;
         flag ; option ; positional ; arg ; possible_values ; command ; group ; with_arg ; with_child
         with_alias
     """,
-    "program": "run ; end ; completes ; variables ; words ; home ; Failure:",
+    "program": """
+        run ; run_over ; Program: ; Streams: ; WordParser: parse text ; ClapParser: parse text ;
+        end ; completes ; variables ; words ; home ; Failure:
+    """,
     "crate complgen_command_line": "plan",
     "crate complgen_commands": "run ; Plan: ; Refusal:",
     "crate complgen_tree_file": "read_tree ; TreeError:",
