@@ -16,8 +16,8 @@ other_status plan status plain other = (
   λ unplain. absurd (false≢true (sym unplain ∙ plain)),
 )
 
-one_is_other : 1 ≡ 2 → ⊥
-one_is_other two = omega arith
+one_is_other : (status : ℕ) → status ≡ 1 → status ≡ 2 → ⊥
+one_is_other status one two = omega (arith, one)
 
 module _ (plan : ImportPlan) (files : List HelpFile) where
   made_plain : (output report : List ℕ) → Makes plan files output report
@@ -28,11 +28,11 @@ module _ (plan : ImportPlan) (files : List HelpFile) where
   refused_status : (status : ℕ) (message : List ℕ) → Refuses plan files status message
       → (status ≡ 2) ↔ (is_plain_name plan.name ≡ false)
   refused_status status message (not_plain unplain) = (λ two. unplain, λ h. refl)
-  refused_status status message (no_memory plain) = other_status plan 1 plain one_is_other
+  refused_status status message (no_memory plain) = other_status plan 1 plain (one_is_other 1 refl)
   refused_status status message (dropped report asks strict some) =
-      other_status plan 1 asks.plain one_is_other
+      other_status plan 1 asks.plain (one_is_other 1 refl)
   refused_status status message (no_tree report text asks none) =
-      other_status plan 1 asks.plain one_is_other
+      other_status plan 1 asks.plain (one_is_other 1 refl)
 
 module _ {S E : Type 0} (taken : S → List ℕ) (failed : S → Failures) (told : E → List ℕ)
     (untold : E → Failures) (plan : ImportPlan) (files : List HelpFile) (old new : S)
