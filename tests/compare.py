@@ -1,19 +1,22 @@
 #!/usr/bin/env python3
 """Compares what two builds of `complgen` do.
 
-    tests/compare.py OLD [NEW] [--seed N] [--trees N] [--files N] [--words N] [--only KIND:N]
+    tests/compare.py OLD [NEW] [--seed N] [--trees N] [--files N] [--changes N] [--words N] [--only KIND:N]
 
 OLD and NEW are programs. OLD may come from an earlier commit; NEW is the proved program by default.
-There are three kinds of random runs:
+There are four kinds of random runs:
 
 - tree: the script and the registration of each shell for a tree file with any keys (--trees, 2,000);
 - file: a tree file of examples/, changed as tests/hostile.py changes it (--files, 3,000);
+- change: the script of a shell and the findings of `check` for a good tree file, random or of
+  examples/, with the changes of tests/check.py and others: a key that appears twice, a key or a value
+  of another object, a number out of range (--changes, 10,000);
 - words: candidates for words and an index, over random tree files and those of examples/ (--words,
   10,000).
 
-The status and the output have to be the same, byte for byte. The script prints each run that differs,
-with its kind and number, which --only repeats. Then it prints how many runs ended with which status.
-The status is 0 if no run differs.
+The status, the output and the messages have to be the same, byte for byte. The script prints each run
+that differs, with its kind and number, which --only repeats. Then it prints how many runs ended with
+which status. The status is 0 if no run differs.
 """
 
 import argparse
@@ -22,11 +25,13 @@ import concurrent.futures
 import json
 import os
 import random
+import re
 import subprocess
 import sys
 import tempfile
 
 sys.path.append(os.path.join(os.path.dirname(os.path.realpath(__file__)), "..", "tools"))
+import check
 import common
 import hostile
 
@@ -36,7 +41,9 @@ WORD_TREES = 200
 
 def main():
     options = arguments()
-    counts = {"tree": options.trees, "file": options.files, "words": options.words}
+    counts = {
+        "tree": options.trees, "file": options.files, "change": options.changes, "words": options.words,
+    }
     runs = [(kind, number) for kind, count in counts.items() for number in range(count)]
     if options.only:
         kind, number = options.only.split(":")
@@ -59,6 +66,7 @@ def arguments():
     parser.add_argument("--seed", type=int, default=1)
     parser.add_argument("--trees", type=int, default=2000)
     parser.add_argument("--files", type=int, default=3000)
+    parser.add_argument("--changes", type=int, default=10000)
     parser.add_argument("--words", type=int, default=10000)
     parser.add_argument("--only", metavar="KIND:N", help="the one run to repeat")
     return parser.parse_args()
@@ -112,6 +120,8 @@ def done(program, words, folder):
 def tree_file(chance, examples, kind, seed):
     if kind == "file":
         return hostile.changed_tree(chance, examples)
+    if kind == "change":
+        return changed_members(chance, examples)
     if kind == "words" and chance.randrange(4) == 0:
         return examples[chance.choice(sorted(examples))]
     if kind == "words":
@@ -126,10 +136,46 @@ def calls_of(chance, kind, path):
         return [["candidates", "--index", index, path, "--", *words]]
     if kind == "file":
         return [hostile.words_over(chance, path)]
+    if kind == "change":
+        return [["script", "--shell", chance.choice(hostile.SHELLS), "--bin", "app", path], ["check", path]]
     shells = [("script", shell) for shell in hostile.SHELLS]
     shells += [("register", shell) for shell in hostile.SHELLS]
     bin_name = chance.choice(["app", "my-app", "a b'c"])
     return [[what, "--shell", shell, "--bin", bin_name, path] for what, shell in shells]
+
+
+def changed_members(chance, examples):
+    """Returns a good tree file with some changes of its members, as bytes."""
+    tree = chance.choice([*(text.decode() for text in examples.values()), *[json.dumps(command(chance, 2))] * 3])
+    text = check.changed(chance, [tree]) if chance.randrange(2) else json.dumps(json.loads(tree)).encode()
+    for _ in range(chance.choice([0, 1, 1, 2])):
+        text = chance.choice([repeated, moved, hostile.replaced])(chance, text)
+    return text
+
+
+# A member of an object whose value is no object: its key and its value.
+MEMBER = re.compile(rb'("[a-z_]+"): *("[^"\\\\]*"|\[[^\[\]{}]*\]|[-+.a-z0-9]+)')
+
+
+def repeated(chance, text):
+    """Writes the key of a member once more: before it or after it, with its value or with another."""
+    members = list(MEMBER.finditer(text))
+    if not members:
+        return text
+    member = chance.choice(members)
+    values = [member[2], chance.choice(members)[2], chance.choice(hostile.ODD_VALUES).encode()]
+    again = member[1] + b": " + chance.choice(values)
+    both = chance.choice([[again, member[0]], [member[0], again]])
+    return text[: member.start()] + b", ".join(both) + text[member.end() :]
+
+
+def moved(chance, text):
+    """Writes a member of some object also at the beginning of another one."""
+    members = list(MEMBER.finditer(text))
+    if not members:
+        return text
+    at = chance.choice([found.end() for found in re.finditer(rb"\{", text)])
+    return text[:at] + chance.choice(members)[0] + b", " + text[at:]
 
 
 def some_words(chance, path):

@@ -22,7 +22,7 @@ SOURCES = TOP / "crates/complgen_tree_file/src"
 
 def keys(file):
     """Returns the keys in the table of an object, each on a line of its own."""
-    return re.findall(r'^            "(\w+)" \w+ \w+,$', (SOURCES / file).read_text(), re.M)
+    return re.findall(r'^            \d+ "(\w+)" \w+ \w+,$', (SOURCES / file).read_text(), re.M)
 
 
 def names(kind):

@@ -1,5 +1,5 @@
 -- The same is found in a value and in its view.
-use Rattle.std.proofs.Common.{◌≡◌, ◌∙◌, ◌&&◌, ◌||◌, ◌^◌, ℕ, Bool, true, false, List, [], ◌∷◌, Option, Some, None}
+use Rattle.std.proofs.Common.{◌≡◌, ◌∙◌, ◌&&◌, ◌||◌, ◌^◌, ◌+◌, ◌<◌, drop, get_or, length, ℕ, Bool, true, false, List, [], ◌∷◌, Option, Some, None}
 use Rattle.std.proofs.Common.{Bor, Global, Ordering, Less, Equal, Greater, ap, ap₂, bytes_eq, cond}
 use Rattle.std.proofs.Common.{if◌then◌else◌, is_eq, is_some, map, nat_cmp, refl, subst, sym, true≢false}
 use Rattle.std.specs.Prelude.{option_and_then, option_map}
@@ -9,6 +9,7 @@ use Rattle.std.specs.Prelude.{nat_le, nat_lt}
 use Rattle.std.specs.Cmp.Lexicographic.{slice_cmp}
 use Rattle.std.specs.Ordering.{match_ordering}
 use Rattle.std.proofs.Math.Bool.{and_assoc, and_comm, and-true}
+use Rattle.std.proofs.lemmas.List.{drop_more}
 use Rattle.std.proofs.lemmas.Map.Text.{is_eq-slice_cmp}
 use Rattle.std.proofs.lemmas.Slice.Eq.{bytes_eq-Decides}
 use Rattle.fast_float.specs.Text.{Parts, digits_of, nearest, with_sign}
@@ -21,6 +22,7 @@ use Rattle.serde_json.specs.Find.{as_bool, as_null, as_number, as_object, as_str
 use Rattle.serde_json.specs.Read.{is_integer, number_from, number_of}
 use Rattle.serde_json.proofs.Views.{get_member-put, get_member-put_other}
 use Rattle.complgen_json.specs.Keys.{is_one_of, keys_in}
+use Rattle.complgen_json.specs.Slots.{members_at, values_at}
 use Rattle.complgen_json.specs.Seen.{data_of, number_seen, members_put, members_view, view}
 
 no_text : (o : Option Num) → as_str (number_seen o) ≡ None
@@ -120,7 +122,7 @@ member_seen name j = refl
 
 -- ---- the keys
 
-and_regrouped : (a b c : Bool) → ((a && b) && c) ≡ (b && (a && c))
+pub and_regrouped : (a b c : Bool) → ((a && b) && c) ≡ (b && (a && c))
 and_regrouped a b c = ap (λ t. t && c) (and_comm a b) ∙ and_assoc b a c
 
 and_swapped : (a b c : Bool) → (a && (b && c)) ≡ (b && (a && c))
@@ -156,6 +158,11 @@ Key = Bor (List ℕ)
 abbrev pub Member : Type 0
 Member = Key × Value Global
 
+-- the members that are left begin with this one
+pub front_of : (ms : List Member) (i : ℕ) (m : Member) → i < length ms → m ≡ get_or ms i m
+    → drop i ms ≡ m ∷ drop (i + 1) ms
+front_of ms i m within at = drop_more ms i m within ∙ ap (λ y. y ∷ drop (i + 1) ms) (sym at)
+
 keys_of_all : (test : List ℕ → Bool) (ms : List Member) (found : Members)
     → (list_all (λ m. test m.0.now) ms && list_all test (keys_in found))
     ≡ list_all test (keys_in (members_put (views.members_view ms) found))
@@ -174,7 +181,7 @@ keys_seen test ms =
     sym (and-true (list_all (λ m. test m.0.now) ms)) ∙ keys_of_all test ms no_members
 
 -- a test over a mapped list
-list_any-map : {X Y : Type 0} (p : Y → Bool) (f : X → Y) (xs : List X)
+pub list_any-map : {X Y : Type 0} (p : Y → Bool) (f : X → Y) (xs : List X)
     → list_any (λ x. p (f x)) xs ≡ list_any p (map f xs)
 list_any-map p f [] = refl
 list_any-map p f (x ∷ xs) = ap (λ b. p (f x) || b) (list_any-map p f xs)
@@ -192,6 +199,35 @@ pub known_seen : (keys : List Key) (ms : List Member)
     → list_all (λ m. list_any (λ known. bytes_eq known.now m.0.now) keys) ms
     ≡ list_all (is_one_of (map (λ key. key.now) keys)) (keys_in (members_view ms))
 known_seen keys ms = same_tests keys ms ∙ keys_seen (is_one_of (map (λ key. key.now) keys)) ms
+
+-- ---- the slots
+
+nothing_in_number : (keys : List (List ℕ)) (o : Option Num)
+    → values_at keys (number_seen o) ≡ members_at keys no_members
+nothing_in_number keys None = refl
+nothing_in_number keys (Some n) = refl
+
+-- a value that is no object has nothing at the keys
+pub nothing_in : (keys : List (List ℕ)) (j : borrowed_json.Json) → as_object (data_of j) ≡ None
+    → values_at keys (data_of j) ≡ members_at keys no_members
+nothing_in keys (borrowed_json.number text) is = nothing_in_number keys (number_of text)
+nothing_in keys (borrowed_json.object ms) is = absurd (some_is_not_none is)
+  where
+    some_is_not_none : {A : Type 0} {a : A} → Some a ≡ None → ⊥
+    some_is_not_none e = cc e
+nothing_in keys j is = refl
+
+-- one more key is known, or not
+pub known_step : (test : Member → Bool) (ms : List Member) (i : ℕ) (m : Member) (known is whole : Bool)
+    → i < length ms → m ≡ get_or ms i m → is ≡ test m
+    → (known && list_all test (drop i ms)) ≡ whole
+    → ((is && known) && list_all test (drop (i + 1) ms)) ≡ whole
+known_step test ms i m known is whole within at tested left =
+    let rest = list_all test (drop (i + 1) ms) in
+    ap (λ b. (b && known) && rest) tested
+    ∙ and_regrouped (test m) known rest
+    ∙ sym (ap (λ ys. known && list_all test ys) (front_of ms i m within at))
+    ∙ left
 
 -- ---- a reference to a value
 

@@ -1,3 +1,4 @@
 pub mod Keys
 pub mod Reads
 pub mod Seen
+pub mod Slots

@@ -3,9 +3,11 @@
 
 mod look;
 mod number;
+mod object;
 mod range;
 mod read;
 
 pub use crate::look::{boolean, has_only_keys, is_null, items, member, text, whole_number};
+pub use crate::object::find_keys;
 pub use crate::read::{JsonError, read_value};
 pub use json::{Scratch, Value};

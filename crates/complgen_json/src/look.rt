@@ -105,7 +105,7 @@ fn is_among(keys: &[&str], key: &str) -> bool
 
 // Most keys differ in length, and comparing the bytes is a call.
 #[inline(always)]
-fn is_same(known: &str, key: &str) -> bool
+pub fn is_same(known: &str, key: &str) -> bool
     ensures { result ≡ bytes_eq known.now key.now }
 {
     known.len() == key.len() && known == key

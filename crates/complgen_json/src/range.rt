@@ -8,7 +8,9 @@ use crate::number::is_in_range;
 use json::Value;
 
 /// Returns whether each number of `value` is in range.
+// Inlined into the loops, so that a value without items costs no call.
 #[cycle(range)]
+#[inline(always)]
 pub fn has_range(value: &Value<'_>) -> bool
     ensures { result ≡ in_range (value_view value.now) }
 {
@@ -21,6 +23,7 @@ pub fn has_range(value: &Value<'_>) -> bool
 }
 
 #[cycle(range)]
+#[inline(never)]
 fn have_range(items: &Vec<Value<'_>>) -> bool
     ensures { result ≡ are_in_range (items_view items.now.items) }
 {
@@ -33,6 +36,7 @@ fn have_range(items: &Vec<Value<'_>>) -> bool
 }
 
 #[cycle(range)]
+#[inline(never)]
 fn members_have_range(members: &Vec<(&str, Value<'_>)>) -> bool
     ensures { result ≡ members_are_in_range (members_view members.now.items) }
 {

@@ -1,5 +1,6 @@
 pub mod ChildrenLemmas
 pub mod FaultLemmas
 pub mod NestingLemmas
+pub mod SlotLemmas
 pub mod TreeFormExamples
 pub mod TreeFormLemmas

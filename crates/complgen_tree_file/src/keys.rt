@@ -1,25 +1,25 @@
 //! Macros over the list of keys that an object of a tree file may have. The list has one line for
-//! each key: the key, its group, and the field that it sets.
+//! each key: its index in the list, the key, its group, and the field that it sets.
 
 // Lists the keys.
 macro_rules! all_keys {
-    ([] $($key:literal $group:ident $field:ident,)*) => {
+    ([] $($index:literal $key:literal $group:ident $field:ident,)*) => {
         &[$($key),*]
     };
 }
 
 // Sets the field of each key of a group.
 macro_rules! set_group {
-    ([$asked:ident, $parts:ident, $alloc:ident, $tree:ident]
-        $($key:literal $group:ident $field:ident,)*) => {
-        $(only_in!($asked $group set(&mut $parts.$field, $alloc, $tree, $key)?);)*
+    ([$asked:ident, $parts:ident, $alloc:ident, $tree:ident, $slots:ident]
+        $($index:literal $key:literal $group:ident $field:ident,)*) => {
+        $(only_in!($asked $group set(&mut $parts.$field, $alloc, $tree, $key, $slots, $index)?);)*
     };
 }
 
 // Checks the value at the key of each line of a group.
 macro_rules! check_group {
     ([$asked:ident, $blank:ident, $faults:ident, $tree:ident]
-        $($key:literal $group:ident $field:ident,)*) => {
+        $($index:literal $key:literal $group:ident $field:ident,)*) => {
         $(only_in!($asked $group check_field(&$blank.$field, $faults, $tree, $key)?);)*
     };
 }

@@ -4,18 +4,20 @@
 ghost use Rattle.std.specs.Prelude.{◌≡◌, IfOk, false, is_some};
 ghost use Rattle.cc_arg.specs.ValueSources.{has_byte, is_runnable, nul};
 ghost use Rattle.complgen_json.specs.Seen.{view};
-ghost use Rattle.complgen_tree_file.specs.ArgumentForm.{sources, with_sources};
+ghost use Rattle.complgen_json.specs.Slots.{Hold, values_at};
+ghost use Rattle.complgen_tree_file.specs.Slots.{AreHeldFrom};
+ghost use Rattle.complgen_tree_file.specs.ArgumentForm.{argument_keys, sources, with_sources};
 ghost use Rattle.complgen_tree_file.specs.Faults.{FindsUnless, has_none, sources_fit};
 ghost use Rattle.complgen_tree_file.specs.SourceForm.{has_one_source, is_path, is_separator};
 ghost use Rattle.complgen_tree_file.specs.SourceForm.{is_well_sourced, passes_if_there};
 ghost use Rattle.complgen_tree_file.specs.TreeForm.{Sets, all_fit, set_all};
 
-use crate::args::each_key;
+use crate::args::{each_key, find_values};
 use crate::check::check_field;
 use crate::error::TreeError;
 use crate::faults::{FaultKind, Faults, SourceFault, Step};
 use crate::keys::{check_group, only_in, set_group};
-use crate::values::set;
+use crate::values::{MOST_KEYS, set};
 use cc_arg::{ArgParts, is_runnable};
 use cc_base::Text;
 use complgen_json::Value;
@@ -31,10 +33,12 @@ pub(crate) fn set_sources(
     parts: &mut ArgParts,
     alloc: Global,
     tree: &Value<'_>,
+    slots: &[Option<&Value<'_>>; MOST_KEYS],
 ) -> Result<(), TreeError>
+    requires { Hold slots.now (values_at argument_keys (view tree.now)) }
     ensures { Sets result (with_sources (view tree.now)) parts.old parts.new }
 {
-    set_source_keys(parts, alloc, tree)?;
+    set_source_keys(parts, alloc, tree, slots)?;
     if is_well_sourced(parts) {
         Ok(())
     } else {
@@ -42,10 +46,16 @@ pub(crate) fn set_sources(
     }
 }
 
-fn set_source_keys(parts: &mut ArgParts, alloc: Global, tree: &Value<'_>) -> Result<(), TreeError>
+fn set_source_keys(
+    parts: &mut ArgParts,
+    alloc: Global,
+    tree: &Value<'_>,
+    slots: &[Option<&Value<'_>>; MOST_KEYS],
+) -> Result<(), TreeError>
+    requires { AreHeldFrom 11 sources slots.now (view tree.now) }
     ensures { Sets result (set_all sources (view tree.now)) parts.old parts.new }
 {
-    each_key!(set_group! sources, parts, alloc, tree);
+    each_key!(set_group! sources, parts, alloc, tree, slots);
     Ok(())
 }
 
@@ -146,7 +156,9 @@ fn check_read<'t>(
     ensures { IfOk result (λ _. FindsUnless (is_some (with_sources (view tree.now) parts.old))
         faults.old faults.new) }
 {
-    match set_source_keys(parts, faults.allocator(), tree) {
+    let mut slots = [None; MOST_KEYS];
+    let _ = find_values(&mut slots, tree);
+    match set_source_keys(parts, faults.allocator(), tree, &slots) {
         Ok(()) => check_given(faults, parts),
         Err(TreeError::BadForm) => check_source_keys(parts, faults, tree),
         Err(_) => Err(AllocError),

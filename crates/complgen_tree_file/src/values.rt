@@ -1,9 +1,10 @@
 //! Reads the values of a tree file, each kind by a type of its own.
 
-ghost use Rattle.std.specs.Prelude.{◌≡◌, string_bytes};
+ghost use Rattle.std.specs.Prelude.{◌≡◌, ◌<◌, None, get_or, string_bytes};
 ghost use Rattle.std.specs.Str.{chars};
-ghost use Rattle.serde_json.specs.Find.{as_str};
+ghost use Rattle.serde_json.specs.Find.{as_str, get};
 ghost use Rattle.complgen_json.specs.Seen.{view};
+ghost use Rattle.complgen_json.specs.Slots.{held};
 ghost use Rattle.complgen_tree_file.specs.TreeForm.{Gives, GivesSame, Sets, bound_of, field_from, number_of};
 ghost use Rattle.complgen_tree_file.specs.TreeForm.{only};
 
@@ -55,22 +56,30 @@ pub trait FromValue: Drop {
     }
 }
 
-/// Sets `field` to the value at `key` of the object `tree`. Leaves it unchanged if the object lacks
-/// the key.
+/// The most keys that an object may have.
+pub const MOST_KEYS: usize = 28;
+
+/// Sets `field` to the value at `key` of the object `tree`, which is in the slot `index`. Leaves it
+/// unchanged if the object lacks the key.
 ///
 /// # Errors
 ///
 /// `BadForm` if the value is of another kind, `Memory` if an allocation fails.
+#[inline(always)]
 #[tactic(auto, unfolding(crate::specs::TreeForm::field_from))]
 pub fn set<T: FromValue>(
     field: &mut T,
     alloc: Global,
-    tree: &Value<'_>,
-    key: &str,
+    _tree: &Value<'_>,
+    _key: &str,
+    slots: &[Option<&Value<'_>>; MOST_KEYS],
+    index: usize,
 ) -> Result<(), TreeError>
-    ensures { Sets result (field_from key.now T.form (view tree.now)) field.old field.new }
+    requires inside { index < 28 }
+    requires found { held (get_or slots.now index None) ≡ get _key.now (view _tree.now) }
+    ensures { Sets result (field_from _key.now T.form (view _tree.now)) field.old field.new }
 {
-    let Some(value) = complgen_json::member(tree, key) else {
+    let Some(value) = slots[index] else {
         return Ok(());
     };
     *field = T::from_value(alloc, value)?;

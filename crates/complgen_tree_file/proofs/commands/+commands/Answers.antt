@@ -8,8 +8,13 @@ use Rattle.cc_command.specs.Tree.{Tree}
 use Rattle.complgen_tree_file.specs.CommandForm.{commands_of, own_of}
 use Rattle.complgen_tree_file.proofs.ChildrenLemmas.{own_alone, own_with_children}
 use Rattle.complgen_tree_file.proofs.NestingLemmas.{found_is_flatter, item_is_flatter}
+use Rattle.complgen_tree_file.proofs.SlotLemmas.{children_held}
 use Rattle.complgen_tree_file.proofs.TreeFormLemmas.{step_passes_on}
 use Rattle.complgen_tree_file.proofs.commands.+commands.Goals as goal
+
+pub command-children-requires : goal.command-children-requires
+command-children-requires t c = children_held c.find_values-has_only_keys.new.slots (view c.args.tree.now)
+    c.find_values-has_only_keys.ensures.found
 
 pub command-add_children-requires : goal.command-add_children-requires
 command-add_children-requires t c =

@@ -1,8 +1,14 @@
-use Rattle.std.proofs.Common.{◌≡◌, ◌&&◌, Bool, IfOk, ap, subst}
+use Rattle.std.proofs.Common.{◌≡◌, ◌&&◌, Bool, IfOk, refl, subst}
 use Rattle.complgen_json.specs.Seen.{view}
+use Rattle.complgen_tree_file.specs.ArgumentForm.{argument_keys, sources}
 use Rattle.complgen_tree_file.specs.Faults.{has_none}
 use Rattle.complgen_tree_file.proofs.FaultLemmas.{sources_read, sources_unread}
+use Rattle.complgen_tree_file.proofs.SlotLemmas.{held_from}
 use Rattle.complgen_tree_file.proofs.sources.check_read.Goals as goal
+
+pub set_source_keys-requires : goal.set_source_keys-requires
+unfolding argument_keys
+set_source_keys-requires c = held_from 11 sources argument_keys c.find_values.new.slots (view c.args.tree.now) c.find_values.ensures.found refl
 
 pub returns-in-Ok : goal.returns-in-Ok
 returns-in-Ok c =
