@@ -7,6 +7,7 @@ ghost use Rattle.cc_command.specs.Built.{built_under};
 ghost use Rattle.complgen_lints.specs.Notes.{are_notes};
 ghost use Rattle.cc_bash.specs.Labels.{shared_label};
 ghost use Rattle.cc_shell.specs.Shells.{shell_spec};
+ghost use Rattle.complgen_check.specs.SafeScripts.{WritesIfSafe};
 ghost use Rattle.complgen_check.specs.TreeWarnings.{warnings_of};
 
 use crate::all_warnings::tree_warnings;
@@ -33,6 +34,8 @@ pub fn write_shell_if_no_warnings<W: Sink>(
 ) -> Result<bool, Error>
     ensures writes { IfOk result (λ done.
         done ≡ are_notes (warnings_of (Some (string_bytes bin_name)) command.old)) }
+    ensures written { WritesIfSafe W.taken W.failed ((shell_spec shell).script
+        (built_under (Some (string_bytes bin_name)) command.old)) result sink.old sink.new }
     ensures reads { IfOk result (λ done. IsTrue done →
         (shell_spec shell).Reads (built_under (Some (string_bytes bin_name)) command.old)) }
     ensures errors { IfErr result IsMemoryOrWrite }
@@ -51,6 +54,8 @@ fn write_if_no_warnings<G: Generator + Drop, W: Sink>(
 ) -> Result<bool, Error>
     ensures writes { IfOk result (λ done.
         done ≡ are_notes (warnings_of (Some (string_bytes bin_name)) command.old)) }
+    ensures written { WritesIfSafe W.taken W.failed ((G.spec generator).script
+        (built_under (Some (string_bytes bin_name)) command.old)) result sink.old sink.new }
     ensures reads { IfOk result (λ done. IsTrue done →
         (G.spec generator).Reads (built_under (Some (string_bytes bin_name)) command.old)) }
     ensures errors { (shared_label (built_under (Some (string_bytes bin_name)) command.old) ≡ None →
