@@ -3,3 +3,4 @@ pub mod Found
 pub mod Placed
 pub mod RangeSteps
 pub mod Readings
+pub mod SlotExamples

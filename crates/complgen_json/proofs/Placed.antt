@@ -1,6 +1,6 @@
 -- A value put at a key is in the key's slot, and in no other.
-use Rattle.std.proofs.Common.{◌≡◌, ◌∙◌, ◌+◌, ◌<◌, drop, ◌&&◌, ◌||◌, ℕ, zero, suc, Bool, true, false, List, [], ◌∷◌, Option, Some, None}
-use Rattle.std.proofs.Common.{ap, ap₂, arith, bytes_eq, get_or, length, map, refl, subst, sym, true≢false}
+use Rattle.std.proofs.Common.{◌≡◌, ◌∙◌, ◌+◌, ◌<◌, drop, ◌&&◌, ◌||◌, ℕ, zero, suc, Bool, true, false, List, [], ◌∷◌, Some}
+use Rattle.std.proofs.Common.{ap, ap₂, arith, bytes_eq, get_or, length, refl, subst, sym, true≢false}
 use Rattle.std.specs.Prelude.{not, slice_set}
 use Rattle.std.specs.List.{list_any}
 use Rattle.std.proofs.lemmas.List.{drop_more}

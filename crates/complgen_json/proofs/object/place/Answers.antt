@@ -1,4 +1,4 @@
-use Rattle.std.proofs.Common.{◌∙◌, ◌<◌, ◌++◌, Some, [], ap, arith, bytes_eq, length, map, sym}
+use Rattle.std.proofs.Common.{◌∙◌, ◌<◌, ◌++◌, Some, ap, arith, bytes_eq, length, map, sym}
 use Rattle.std.specs.Prelude.{slice_set}
 use Rattle.std.proofs.lemmas.List.{length-map, map-set, set-append_left}
 use Rattle.serde_json.specs.Find.{get_member}
