@@ -1,6 +1,6 @@
 -- A slot holds the value at the key of its index.
-use Rattle.std.proofs.Common.{◌≡◌, ◌∙◌, ◌+◌, ◌<◌, ◌&&◌, ◌++◌, ℕ, Bool, true, false, List, [], ◌∷◌, Option, None, ap, arith, bytes_eq}
-use Rattle.std.proofs.Common.{Bor, Global, codes, get_or, length, map, option_map, refl, sym, true≢false}
+use Rattle.std.proofs.Common.{◌≡◌, ◌∙◌, ◌+◌, ◌<◌, ◌&&◌, ℕ, Bool, true, false, List, [], ◌∷◌, Option, None, ap, arith, bytes_eq}
+use Rattle.std.proofs.Common.{Bor, Global, codes, get_or, length, refl, sym, true≢false}
 use Rattle.std.specs.Prelude.{nat_lt}
 use Rattle.std.proofs.lemmas.List.{get_or-map, get_or_append_left, length-append, length-map}
 use Rattle.std.proofs.lemmas.Slice.Eq.{bytes_eq-Decides}
