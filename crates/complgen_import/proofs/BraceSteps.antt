@@ -4,6 +4,7 @@ use Rattle.std.proofs.lemmas.List.{at_drop_more, at_drop_all}
 use Rattle.std.proofs.Common.{◌≡◌, ◌<◌, ◌≤◌, ◌+◌, ◌∙◌, ◌∷◌, ◌++◌, ℕ, Bool, true, false, List, [], Option, Some, None, ap, append_assoc, append-nil, drop, inl, inr, length, refl, sym}
 use Rattle.cc_base.specs.Found.{after}
 use Rattle.cc_base.specs.PlainName.{is_plain_name}
+use Rattle.complgen_import.specs.declared.class.Class.{Class}
 use Rattle.complgen_import.specs.declared.class.Class.TheVariants.{InCurlies}
 use Rattle.complgen_import.specs.Aliases.{names_in}
 use Rattle.complgen_import.specs.Braces.{brace_names, braces_of, is_closed, names_at}
@@ -48,17 +49,17 @@ lines_end whole done all e is = sym (append-nil done) ∙ ap (λ ls. done ++ bra
 abbrev IsPlainIn : List ℕ → List ℕ → Type 0
 IsPlainIn text name = IsPiece name text × (is_plain_name name ≡ true)
 
-piece_at : (dots text name : List ℕ) (found : Option (List ℕ)) → ((rest : List ℕ) → found ≡ Some rest → IsEnd rest text) →
-    IsAmong name (elim found [ Some rest ↦ if is_closed dots (past InCurlies rest) then names_in (run InCurlies rest) else [] | None ↦ [] ]) → IsPlainIn text name
+pub piece_at : (class : Class) (test : List ℕ → Bool) (text name : List ℕ) (found : Option (List ℕ)) → ((rest : List ℕ) → found ≡ Some rest → IsEnd rest text) →
+    IsAmong name (elim found [ Some rest ↦ if test rest then names_in (run class rest) else [] | None ↦ [] ]) → IsPlainIn text name
 unfolding IsAmong
-piece_at dots text name None each h = absurd h
-piece_at dots text name (Some rest) each h = by (is_closed dots (past InCurlies rest)) h
+piece_at class test text name None each h = absurd h
+piece_at class test text name (Some rest) each h = by (test rest) h
   where
-    by : (b : Bool) → IsAmong name (if b then names_in (run InCurlies rest) else []) → IsPlainIn text name
+    by : (b : Bool) → IsAmong name (if b then names_in (run class rest) else []) → IsPlainIn text name
     by true h =
-        let list = run InCurlies rest in
+        let list = run class rest in
         let found = list_piece is_list_mark list name h in
-        (piece_in name list text found.0 (piece_in list rest text (piece_front list (past InCurlies rest) rest (run_past InCurlies rest)) (end_piece rest text (each rest refl))), found.1)
+        (piece_in name list text found.0 (piece_in list rest text (piece_front list (past class rest) rest (run_past class rest)) (end_piece rest text (each rest refl))), found.1)
     by false h = absurd h
 
 -- a name in braces is plain, and a piece of the line
@@ -66,7 +67,7 @@ pub brace_piece : (dots line name : List ℕ) → IsAmong name (brace_names dots
 unfolding IsAmong brace_names names_at
 brace_piece dots [] name h = absurd h
 brace_piece dots (byte ∷ text) name h = elim (among_split name (names_at dots (byte ∷ text)) (brace_names dots text) h) [
-  | inl here ↦ piece_at dots (byte ∷ text) name (after (codes " {") (byte ∷ text)) (end_after (codes " {") (byte ∷ text)) here
+  | inl here ↦ piece_at InCurlies (λ rest. is_closed dots (past InCurlies rest)) (byte ∷ text) name (after (codes " {") (byte ∷ text)) (end_after (codes " {") (byte ∷ text)) here
   | inr later ↦
       let more = brace_piece dots text name later in
       (piece_in name text (byte ∷ text) more.0 (byte ∷ [], [], ap (λ t. byte ∷ t) (sym (append-nil text))), more.1)

@@ -4,29 +4,30 @@ use Rattle.std.specs.List.{flat_map}
 use Rattle.std.specs.Option.{option_and_then, option_or, unwrap_or}
 use Rattle.std.proofs.Common.{◌≡◌, ◌==◌, ◌&&◌, ◌∷◌, ◌++◌, ◌∙◌, ℕ, Bool, true, false, List, [], Option, Some, None, ap, if◌then◌else◌, inl, inr, length, map, refl, subst, sym}
 use Rattle.cc_base.specs.Differ.{AllDifferBy}
-use Rattle.cc_base.specs.Found.{after}
+use Rattle.cc_base.specs.Found.{after, cut_at}
 use Rattle.cc_base.specs.PlainName.{is_plain_name}
-use Rattle.complgen_import.specs.declared.class.Class.TheVariants.{Blank as BlankByte, InSquares, ListByte, ListMark, PlainByte}
+use Rattle.complgen_import.specs.declared.class.Class.TheVariants.{Blank as BlankByte, InParentheses, InSquares, ListByte, ListMark, PlainByte}
 use Rattle.complgen_import.specs.declared.commands.Command.{Command}
 use Rattle.complgen_import.specs.declared.commands.Entry.{Entry}
 use Rattle.complgen_import.specs.declared.sections.Section.{Section}
 use Rattle.complgen_import.specs.declared.sections.Section.TheVariants.{Other, Opened, Entries, Listed}
-use Rattle.complgen_import.specs.Aliases.{before_help, names_after, names_in, note_in, noted_names, text_before}
+use Rattle.complgen_import.specs.Aliases.{before_help, names_after, names_in, names_noted, note_in, noted_names, text_before}
 use Rattle.complgen_import.specs.Braces.{brace_names, braces_of}
 use Rattle.complgen_import.specs.Classes.{begins, is_list_mark, past, run}
 use Rattle.complgen_import.specs.CommandWord.{command_word, is_over_entries}
 use Rattle.complgen_import.specs.Dots.{dots_before}
 use Rattle.complgen_import.specs.Commands.{HasCommandsOnce, HasEachEntry, HasNamesOf, IsPiece, alone, command_names, commands_from, commands_of, entries_of, entry_at, entry_names, entry_of, line_entries, named, text_entries}
-use Rattle.complgen_import.specs.Entries.{entry_help, entry_name, entry_rest, entry_text, from_gap, help_in, if_named, indent_of, is_usage, past_bullet, past_dash, past_mark, past_marks, past_program}
+use Rattle.complgen_import.specs.Entries.{closes_names, entry_help, entry_name, entry_rest, entry_text, from_gap, help_in, if_named, indent_of, is_usage, past_bullet, past_dash, past_mark, past_marks, past_program}
 use Rattle.complgen_import.specs.Lines.{IsAmong, lines_of}
 use Rattle.complgen_import.specs.NameLists.{is_in_list, listed_names, section_next, words_named}
 use Rattle.complgen_import.specs.Names.{kept_names, new_names, said_after}
 use Rattle.complgen_import.specs.Sections.{is_entry_of, may_be_entry}
 use Rattle.complgen_import.specs.Spread.{is_between}
 use Rattle.complgen_import.specs.Unfolded.{help_of}
-use Rattle.complgen_import.proofs.BraceSteps.{brace_piece}
+use Rattle.complgen_import.proofs.BraceSteps.{brace_piece, piece_at}
 use Rattle.complgen_import.proofs.KeptNames.{among_split, kept_among, kept_differ}
 use Rattle.complgen_import.proofs.NamesRead.{kept_or_said}
+use Rattle.complgen_import.proofs.Options.{or-some}
 use Rattle.complgen_import.proofs.TextPieces.{IsEnd, cut_end, end_after, end_of, end_or, end_piece, list_piece, piece_end, piece_front, piece_in, piece_more, text_before_front}
 use Rattle.complgen_import.proofs.Sound.{run_past}
 
@@ -177,11 +178,15 @@ unfolding IsAmong
 among_one name other (inl here) = here
 among_one name other (inr later) = absurd later
 
+piece_in_note : (rest name : List ℕ) → IsAmong name (names_noted rest) → IsPlainIn rest name
+unfolding names_noted
+piece_in_note rest name h = piece_at InParentheses closes_names rest name (after (codes " (") rest) (end_after (codes " (") rest) h
+
 piece_after : (rest name : List ℕ) → IsAmong name (names_after rest) → IsPlainIn rest name
 unfolding names_after IsAmong
 piece_after rest name h = by (begins ListMark (past BlankByte rest)) h
   where
-    by : (b : Bool) → IsAmong name (if b then names_in (run ListByte (before_help rest)) else []) → IsPlainIn rest name
+    by : (b : Bool) → IsAmong name (if b then names_in (run ListByte (before_help rest)) else names_noted rest) → IsPlainIn rest name
     by true h =
         let list = run ListByte (before_help rest) in
         let found = list_piece is_list_mark list name h in
@@ -190,7 +195,7 @@ piece_after rest name h = by (begins ListMark (past BlankByte rest)) h
               (piece_in (before_help rest) gap rest (text_before_front (codes " - ") gap) (text_before_front (codes "  ") rest))),
           found.1,
         )
-    by false h = absurd h
+    by false h = piece_in_note rest name h
 
 piece_noted : (help name : List ℕ) (cut : Option (List ℕ × List ℕ)) → ((front behind : List ℕ) → cut ≡ Some (front, behind) → IsEnd behind help) → IsAmong name (noted_names cut) → IsPlainIn help name
 unfolding noted_names IsAmong
@@ -225,7 +230,10 @@ piece_of_entry program line behind name plain h =
             let found = piece_after rest name other in
             (in_whole name (piece_in name rest line found.0 (end_piece rest line end_rest)), found.1)
         | inr noted ↦
-            let found = piece_noted all_help name (note_in all_help) (cut_end (codes " [aliases: ") all_help) noted in
+            let found = piece_noted all_help name (note_in all_help) (λ front behind is. elim (or-some (cut_at (codes " [aliases: ") all_help) (cut_at (codes " [alias: ") all_help) (front, behind) is) [
+              | inl one ↦ cut_end (codes " [aliases: ") all_help front behind one
+              | inr other ↦ cut_end (codes " [alias: ") all_help front behind other
+            ]) noted in
             (piece_in name all_help whole found.0 help_end, found.1)
       ]
     ]

@@ -3,25 +3,29 @@ use Rattle.std.specs.Prelude.{codes}
 use Rattle.std.specs.List.{list_all}
 use Rattle.std.specs.Option.{option_or, option_and_then, option_map}
 use Rattle.std.proofs.lemmas.Bool.{cases_Bool}
-use Rattle.std.proofs.Common.{◌≡◌, ◌⊎◌, ◌&&◌, ℕ, Bool, true, false, List, [], ◌∷◌, ◌++◌, Option, Some, None, if◌then◌else◌, inl, inr, map, refl, sym, ◌∙◌, ap, subst, append_assoc, append-nil}
+use Rattle.std.proofs.lemmas.List.{take-append-drop}
+use Rattle.std.proofs.Common.{◌≡◌, ◌⊎◌, ◌&&◌, ℕ, Bool, true, false, List, [], ◌∷◌, ◌++◌, Option, Some, None, if◌then◌else◌, inl, inr, map, refl, sym, ◌∙◌, ap, subst, append_assoc, append-nil, drop}
 use Rattle.cc_base.specs.Differ.{AllDifferBy}
-use Rattle.cc_base.specs.Found.{after}
+use Rattle.cc_base.specs.Found.{after, cut_at}
 use Rattle.complgen_import.specs.declared.class.Class.{Class}
-use Rattle.complgen_import.specs.declared.class.Class.TheVariants.{InSquares, InParentheses, QuietByte, Padding}
+use Rattle.complgen_import.specs.declared.class.Class.TheVariants.{InSquares, InParentheses, InCurlies, QuietByte, Padding, InChoice, InSentence}
 use Rattle.complgen_import.specs.declared.possible.Listing.{Listing}
-use Rattle.complgen_import.specs.declared.possible.Listing.TheVariants.{Choices, Alternatives}
+use Rattle.complgen_import.specs.declared.possible.Listing.TheVariants.{Choices, Alternatives, Words}
+use Rattle.complgen_import.specs.declared.sentences.HelpList.{HelpList}
+use Rattle.complgen_import.specs.declared.sentences.HelpList.TheVariants.{Noted, Barred, Sentence}
 use Rattle.complgen_import.specs.Classes.{in_class, is_quiet_byte, past, run}
 use Rattle.complgen_import.specs.Lines.{IsAmong, with_byte}
 use Rattle.complgen_import.specs.Names.{new_names}
 use Rattle.complgen_import.specs.Parts.{after_one, parts_of, parts_of_some}
-use Rattle.complgen_import.specs.Possible.{after_choices, after_keyword, after_one_of, after_values, bracket_at, choices_at, first_list, help_choices, inside, is_choice, is_value_text, list_at, listed, may_be_value, part_value, round_at, several, some_listed, square_at}
+use Rattle.complgen_import.specs.Possible.{after_are, after_be, after_capital, after_choices, after_gap, after_keyword, after_one_of, after_values, after_words, are_units, barred_at, bracket_at, choices_at, comma_at, enclosed_at, first_list, help_choices, if_alone, in_braces_at, in_commas, in_parentheses_at, inside, is_choice, is_stop, is_value_text, last_or, list_at, listed, may_be_value, may_end, near, no_units, part_value, past_default, round_at, sentence_values, several, some_barred, some_listed, some_sentence, some_worded, square_at, values_as, unnoted_values, worded, worded_values}
 use Rattle.complgen_import.specs.PossibleLaws.{IsPieceOf, is_quiet_value}
 use Rattle.complgen_import.specs.Reading.{held_at}
 use Rattle.complgen_import.proofs.FrontsRead.{after-text, run-cons}
-use Rattle.complgen_import.proofs.KeptNames.{differ_more, new_among}
-use Rattle.complgen_import.proofs.Options.{and_then-some, map-some, or-some}
+use Rattle.complgen_import.proofs.KeptNames.{among_split, differ_more, new_among}
+use Rattle.complgen_import.proofs.Options.{and_then-some, map-some, or-some, when-some}
 use Rattle.complgen_import.proofs.PartsSplit.{split}
 use Rattle.complgen_import.proofs.Sound.{run_past}
+use Rattle.complgen_import.proofs.TextPieces.{cut_is}
 
 -- ---- pieces
 
@@ -126,6 +130,7 @@ choice_of : (form : Listing) (part : List ℕ) → may_be_value form part ≡ tr
 unfolding may_be_value
 choice_of Choices part h = h
 choice_of Alternatives part h = (both (is_choice part) _ h).0
+choice_of Words part h = (both (is_choice part) _ h).0
 
 quiet_part : (form : Listing) (part : List ℕ) → may_be_value form part ≡ true → is_quiet_value (part_value part) ≡ true
 quiet_part form part h =
@@ -162,17 +167,21 @@ of_listed false values value h = absurd h
 abbrev pub QuietPieces : List ℕ → List (List ℕ) → Type 0
 QuietPieces text values = (value : List ℕ) → IsAmong value values → IsPieceOf value text × (is_quiet_value value ≡ true)
 
-pub listed_pieces : (form : Listing) (text : List ℕ) → QuietPieces text (listed form text)
-listed_pieces form text value h =
-    let parts = parts_of (inside form) text in
+-- the values of a list are quiet pieces of a text if its parts are pieces of it
+parts_pieces : (form : Listing) (list text : List ℕ) → ((part : List ℕ) → IsAmong part (parts_of (inside form) list) → IsPieceOf part text) → QuietPieces text (listed form list)
+parts_pieces form list text each value h =
+    let parts = parts_of (inside form) list in
     let whole = of_listed (list_all (may_be_value form) parts) (new_names [] (map part_value parts)) value h in
     let of_part = among_mapped part_value parts value (new_among [] (map part_value parts) value whole.1) in
     let part = of_part.0 in
     let P : List ℕ → Type 0 = λ v. IsPieceOf v text × (is_quiet_value v ≡ true) in
     subst P (sym of_part.2) (
-      piece_of_piece (part_value part) part text (value_piece part) (part_piece (inside form) text part of_part.1),
+      piece_of_piece (part_value part) part text (value_piece part) (each part of_part.1),
       quiet_part form part (member_passes (may_be_value form) parts part whole.0 of_part.1),
     )
+
+pub listed_pieces : (form : Listing) (text : List ℕ) → QuietPieces text (listed form text)
+listed_pieces form text = parts_pieces form text text (part_piece (inside form) text)
 
 -- ---- none twice
 
@@ -283,29 +292,233 @@ here_pieces text (Some list) is value h =
     let l = listed_pieces Choices list value h in
     (piece_of_piece value list text l.0 (finds_list text list is), l.1)
 
-at_pieces : (text : List ℕ) → QuietPieces text (choices_at text)
+-- ---- between bars
+
+of_no_units : (values : List (List ℕ)) (value : List ℕ) → IsAmong value (no_units values) → IsAmong value values
+unfolding IsAmong
+of_no_units values value h = by (are_units values) h
+  where
+    by : (b : Bool) → IsAmong value (if b then [] else values) → IsAmong value values
+    by true h = absurd h
+    by false h = h
+
+once_no_units : (values : List (List ℕ)) → Once values → Once (no_units values)
+once_no_units values h = by (are_units values)
+  where
+    by : (b : Bool) → Once (if b then [] else values)
+    by true = tt
+    by false = h
+
+-- the text between brackets
+finds_enclosed : (class : Class) (opening closing text : List ℕ) (read : List ℕ × List ℕ) → option_and_then (held_at class closing) (after opening text) ≡ Some read → IsPieceOf read.0 text
+unfolding held_at
+finds_enclosed class opening closing text read is =
+    let a = and_then-some (held_at class closing) (after opening text) read is in
+    let h = map-some (λ (rest : List ℕ). (run class a.0, rest)) (after closing (past class a.0)) read a.2 in
+    let P : List ℕ → Type 0 = λ t. IsPieceOf t text in
+    subst P (ap (λ (r : List ℕ × List ℕ). r.0) h.2) (piece_of_piece (run class a.0) a.0 text (run_piece class a.0) (after_piece opening text a.0 a.1))
+
+finds_barred : FindsPiece barred_at
+unfolding barred_at if_alone
+finds_barred text found is =
+    let a = and_then-some if_alone (enclosed_at text) found is in
+    let w = when-some (may_end a.0.1) a.0.0 found a.2 in
+    let P : List ℕ → Type 0 = λ t. IsPieceOf t text in
+    subst P w.1 (elim (or-some (in_parentheses_at text) (in_braces_at text) a.0 a.1) [
+      | inl round ↦ finds_enclosed InParentheses (codes "(") (codes ")") text a.0 round
+      | inr curly ↦ finds_enclosed InCurlies (codes "{") (codes "}") text a.0 curly
+    ])
+
+barred_pieces : (text : List ℕ) (found : Option (List ℕ)) → barred_at text ≡ found → QuietPieces text (some_barred found)
+unfolding IsAmong
+barred_pieces text None is value h = absurd h
+barred_pieces text (Some held) is value h =
+    let l = listed_pieces Alternatives held value (of_no_units (listed Alternatives held) value h) in
+    (piece_of_piece value held text l.0 (finds_barred text held is), l.1)
+
+-- ---- in a sentence
+
+finds_capital : FindsPiece after_capital
+unfolding after_capital
+finds_capital = finds_or (after (codes "One of: ")) (after (codes "One of ")) (finds_after (codes "One of: ")) (finds_after (codes "One of "))
+
+finds_are : FindsPiece after_are
+unfolding after_are
+finds_are = finds_or (after (codes "values: ")) (after (codes "values are: ")) (finds_after (codes "values: ")) (finds_after (codes "values are: "))
+
+finds_be : FindsPiece after_be
+unfolding after_be
+finds_be =
+    finds_or (λ text. option_or (after (codes "can be '") text) (after (codes "may be '") text)) (after (codes "must be '"))
+    (finds_or (after (codes "can be '")) (after (codes "may be '")) (finds_after (codes "can be '")) (finds_after (codes "may be '")))
+    (finds_after (codes "must be '"))
+
+finds_words : FindsPiece after_words
+unfolding after_words
+finds_words =
+    finds_or (λ text. option_or (option_or (after_one_of text) (after_capital text)) (after_are text)) after_be
+    (finds_or (λ text. option_or (after_one_of text) (after_capital text)) after_are (finds_or after_one_of after_capital finds_one_of finds_capital) finds_are)
+    finds_be
+
+-- each part of a list with one comma more is a part of one of its halves
+with_more : (byte : ℕ) (first : List ℕ) (parts others : List (List ℕ)) → with_byte byte ((first ∷ parts) ++ others) ≡ with_byte byte (first ∷ parts) ++ others
+unfolding with_byte
+with_more byte first parts others = refl
+
+in_more : (class : Class) (byte : ℕ) (text : List ℕ) → in_class class byte ≡ true → parts_of class (byte ∷ text) ≡ with_byte byte (parts_of class text)
+unfolding parts_of
+in_more class byte text e = rw (parts_of, e) refl
+
+parts_joined : (class : Class) (front : List ℕ) (byte : ℕ) (behind : List ℕ) → in_class class byte ≡ false → parts_of class (front ++ (byte ∷ behind)) ≡ parts_of class front ++ parts_of class behind
+parts_joined class [] byte behind out =
+    parts_out class byte behind out ∙ ap (λ ps. ps ++ parts_of class behind) (sym (nil_parts class))
+parts_joined class (first ∷ front) byte behind out = elim (cases_Bool (in_class class first)) [
+  | inl in_it ↦
+      let others = parts_of class behind in
+      in_more class first (front ++ (byte ∷ behind)) in_it
+      ∙ ap (with_byte first) (parts_joined class front byte behind out)
+      ∙ ap (λ ps. with_byte first (ps ++ others)) (split class front)
+      ∙ with_more first (run class front) (parts_of_some class (after_one (past class front))) others
+      ∙ ap (λ ps. with_byte first ps ++ others) (sym (split class front)) ∙ ap (λ ps. ps ++ others) (sym (in_more class first front in_it))
+  | inr is_out ↦
+      parts_out class first (front ++ (byte ∷ behind)) is_out ∙ ap (λ ps. [] ∷ ps) (parts_joined class front byte behind out)
+      ∙ ap (λ ps. ps ++ parts_of class behind) (sym (parts_out class first front is_out))
+]
+
+halves : (mark list front behind : List ℕ) → cut_at mark list ≡ Some (front, behind) → IsPieceOf front list × IsPieceOf behind list
+halves mark list front behind is =
+    let e = cut_is mark list front behind is in (
+      ([], mark ++ behind, e),
+      (front ++ mark, [], e ∙ sym (append_assoc front mark behind) ∙ ap (λ t. (front ++ mark) ++ t) (sym (append-nil behind))),
+    )
+
+comma_out : in_class InChoice 44 ≡ false
+unfolding in_class
+comma_out = refl
+
+comma_parts : (list : List ℕ) (cut : Option (List ℕ × List ℕ)) → last_or list ≡ cut → (part : List ℕ) → IsAmong part (parts_of InChoice (comma_at list cut)) → IsPieceOf part list
+unfolding comma_at
+comma_parts list None is part h = part_piece InChoice list part h
+comma_parts list (Some (front, behind)) is part h =
+    let P : List (List ℕ) → Type 0 = λ ps. IsAmong part ps in
+    let pieces : IsPieceOf front list × IsPieceOf behind list = elim (or-some (cut_at (codes ", or ") list) (cut_at (codes " or ") list) (front, behind) is) [
+      | inl one ↦ halves (codes ", or ") list front behind one
+      | inr other ↦ halves (codes " or ") list front behind other
+    ] in
+    elim (among_split part (parts_of InChoice front) (parts_of InChoice behind) (subst P (parts_joined InChoice front 44 behind comma_out) h)) [
+      | inl one ↦ piece_of_piece part front list (part_piece InChoice front part one) pieces.0
+      | inr other ↦ piece_of_piece part behind list (part_piece InChoice behind part other) pieces.1
+    ]
+
+sentence_pieces : (text : List ℕ) → QuietPieces text (sentence_values text)
+unfolding IsAmong inside
+sentence_pieces text value h = by (is_stop (past_default (past InSentence text))) h
+  where
+    list : List ℕ
+    list = run InSentence text
+
+    by : (b : Bool) → IsAmong value (if b then no_units (listed Words (in_commas list)) else []) → IsPieceOf value text × (is_quiet_value value ≡ true)
+    by true h =
+        let l = parts_pieces Words (in_commas list) list (comma_parts list (last_or list) refl) value (of_no_units (listed Words (in_commas list)) value h) in
+        (piece_of_piece value list text l.0 (run_piece InSentence text), l.1)
+    by false h = absurd h
+
+some_pieces : (text : List ℕ) (found : Option (List ℕ)) → after_words text ≡ found → QuietPieces text (some_sentence found)
+unfolding IsAmong
+some_pieces text None is value h = absurd h
+some_pieces text (Some rest) is value h =
+    let s = sentence_pieces (near rest) value h in
+    let whole : IsPieceOf (near rest) rest = ([], drop 1000 rest, sym (take-append-drop 1000 rest)) in
+    (piece_of_piece value rest text (piece_of_piece value (near rest) rest s.0 whole) (finds_words text rest is), s.1)
+
+worded_pieces : (text : List ℕ) → QuietPieces text (worded text)
+unfolding worded
+worded_pieces text = some_pieces text (after_words text) refl
+
+finds_gap : FindsPiece after_gap
+unfolding after_gap
+finds_gap = finds_or (after (codes " ")) (after (codes "(")) (finds_after (codes " ")) (finds_after (codes "("))
+
+gap_pieces : (text : List ℕ) (found : Option (List ℕ)) → after_gap text ≡ found → QuietPieces text (some_worded found)
+unfolding IsAmong
+gap_pieces text None is value h = absurd h
+gap_pieces text (Some rest) is value h =
+    let w = worded_pieces rest value h in
+    (piece_of_piece value rest text w.0 (finds_gap text rest is), w.1)
+
+-- ---- the first list
+
+at_pieces : (form : HelpList) (text : List ℕ) → QuietPieces text (choices_at form text)
 unfolding choices_at
-at_pieces text = here_pieces text (list_at text) refl
+at_pieces Noted text = here_pieces text (list_at text) refl
+at_pieces Barred text = barred_pieces text (barred_at text) refl
+at_pieces Sentence text = gap_pieces text (after_gap text) refl
+
+pieces_as : (form : HelpList) (help : List ℕ) → QuietPieces help (values_as form help)
+unfolding IsAmong values_as
+pieces_as form [] value h = absurd h
+pieces_as form (byte ∷ help) value h = elim (either_list (choices_at form (byte ∷ help)) (values_as form help) value h) [
+  | inl here ↦ at_pieces form (byte ∷ help) value here
+  | inr later ↦
+      let more = pieces_as form help value later in
+      (piece_later value byte help more.0, more.1)
+]
 
 pub help_pieces : (help : List ℕ) → QuietPieces help (help_choices help)
-unfolding IsAmong help_choices
-help_pieces [] value h = absurd h
-help_pieces (byte ∷ help) value h = elim (either_list (choices_at (byte ∷ help)) (help_choices help) value h) [
-  | inl here ↦ at_pieces (byte ∷ help) value here
-  | inr later ↦
-      let more = help_pieces help value later in
-      (piece_later value byte help more.0, more.1)
+help_pieces help value h = elim (either_list (values_as Noted help) (unnoted_values help) value h) [
+  | inl noted ↦ pieces_as Noted help value noted
+  | inr others ↦ elim (either_list (values_as Barred help) (worded_values help) value others) [
+    | inl barred ↦ pieces_as Barred help value barred
+    | inr said ↦ elim (either_list (worded help) (values_as Sentence help) value said) [
+      | inl first ↦ worded_pieces help value first
+      | inr later ↦ pieces_as Sentence help value later
+    ]
+  ]
 ]
 
 some_once : (list : Option (List ℕ)) → Once (some_listed list)
 some_once None = tt
 some_once (Some list) = listed_once Choices list
 
-at_once : (text : List ℕ) → Once (choices_at text)
+barred_once : (found : Option (List ℕ)) → Once (some_barred found)
+barred_once None = tt
+barred_once (Some held) = once_no_units (listed Alternatives held) (listed_once Alternatives held)
+
+sentence_once : (text : List ℕ) → Once (sentence_values text)
+sentence_once text = by (is_stop (past_default (past InSentence text)))
+  where
+    list : List ℕ
+    list = in_commas (run InSentence text)
+
+    by : (b : Bool) → Once (if b then no_units (listed Words list) else [])
+    by true = once_no_units (listed Words list) (listed_once Words list)
+    by false = tt
+
+found_once : (found : Option (List ℕ)) → Once (some_sentence found)
+found_once None = tt
+found_once (Some rest) = sentence_once (near rest)
+
+worded_once : (text : List ℕ) → Once (worded text)
+unfolding worded
+worded_once text = found_once (after_words text)
+
+gap_once : (found : Option (List ℕ)) → Once (some_worded found)
+gap_once None = tt
+gap_once (Some rest) = worded_once rest
+
+at_once : (form : HelpList) (text : List ℕ) → Once (choices_at form text)
 unfolding choices_at
-at_once text = some_once (list_at text)
+at_once Noted text = some_once (list_at text)
+at_once Barred text = barred_once (barred_at text)
+at_once Sentence text = gap_once (after_gap text)
+
+once_as : (form : HelpList) (help : List ℕ) → Once (values_as form help)
+unfolding values_as
+once_as form [] = tt
+once_as form (byte ∷ help) = either_once (choices_at form (byte ∷ help)) (values_as form help) (at_once form (byte ∷ help)) (once_as form help)
 
 pub help_once : (help : List ℕ) → Once (help_choices help)
-unfolding help_choices
-help_once [] = tt
-help_once (byte ∷ help) = either_once (choices_at (byte ∷ help)) (help_choices help) (at_once (byte ∷ help)) (help_once help)
+help_once help =
+    either_once (values_as Noted help) (unnoted_values help) (once_as Noted help)
+    (either_once (values_as Barred help) (worded_values help) (once_as Barred help)
+    (either_once (worded help) (values_as Sentence help) (worded_once help) (once_as Sentence help)))

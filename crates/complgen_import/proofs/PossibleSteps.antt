@@ -2,7 +2,8 @@
 use Rattle.std.specs.List.{list_all}
 use Rattle.std.proofs.lemmas.List.{at_drop_more, at_drop_all}
 use Rattle.std.proofs.Common.{◌≡◌, ◌≢◌, ◌<◌, ◌≤◌, ◌+◌, ◌&&◌, ℕ, Bool, true, false, List, [], ◌∷◌, length, drop, get_or, map, refl, sym, ◌∙◌, ap}
-use Rattle.complgen_import.specs.Possible.{choices_at, first_list, help_choices}
+use Rattle.complgen_import.specs.declared.sentences.HelpList.{HelpList}
+use Rattle.complgen_import.specs.Possible.{choices_at, first_list, values_as}
 
 -- ---- each part
 
@@ -30,24 +31,24 @@ unfolding first_list
 first_none [] other none = refl
 first_none (x ∷ xs) other none = cc
 
-pub choices_found : (help : List ℕ) (i : ℕ) (values whole : List (List ℕ)) → i < length help → values ≡ choices_at (drop i help) → values ≢ [] →
-    help_choices (drop i help) ≡ whole → values ≡ whole
-unfolding help_choices
-choices_found help i values whole below here some is =
+pub choices_found : (form : HelpList) (help : List ℕ) (i : ℕ) (values whole : List (List ℕ)) → i < length help → values ≡ choices_at form (drop i help) → values ≢ [] →
+    values_as form (drop i help) ≡ whole → values ≡ whole
+unfolding values_as
+choices_found form help i values whole below here some is =
     let rest = drop (i + 1) help in
-    let at : values ≡ choices_at (get_or help i 0 ∷ rest) = here ∙ at_drop_more choices_at help i 0 below in
-    sym (first_some values (help_choices rest) some) ∙ ap (λ vs. first_list vs (help_choices rest)) at
-    ∙ sym (at_drop_more help_choices help i 0 below) ∙ is
+    let at : values ≡ choices_at form (get_or help i 0 ∷ rest) = here ∙ at_drop_more (choices_at form) help i 0 below in
+    sym (first_some values (values_as form rest) some) ∙ ap (λ vs. first_list vs (values_as form rest)) at
+    ∙ sym (at_drop_more (values_as form) help i 0 below) ∙ is
 
-pub choices_passed : (help : List ℕ) (i : ℕ) (values whole : List (List ℕ)) → i < length help → values ≡ choices_at (drop i help) → values ≡ [] →
-    help_choices (drop i help) ≡ whole → help_choices (drop (i + 1) help) ≡ whole
-unfolding help_choices
-choices_passed help i values whole below here none is =
+pub choices_passed : (form : HelpList) (help : List ℕ) (i : ℕ) (values whole : List (List ℕ)) → i < length help → values ≡ choices_at form (drop i help) → values ≡ [] →
+    values_as form (drop i help) ≡ whole → values_as form (drop (i + 1) help) ≡ whole
+unfolding values_as
+choices_passed form help i values whole below here none is =
     let rest = drop (i + 1) help in
-    let at : values ≡ choices_at (get_or help i 0 ∷ rest) = here ∙ at_drop_more choices_at help i 0 below in
-    sym (first_none values (help_choices rest) none) ∙ ap (λ vs. first_list vs (help_choices rest)) at
-    ∙ sym (at_drop_more help_choices help i 0 below) ∙ is
+    let at : values ≡ choices_at form (get_or help i 0 ∷ rest) = here ∙ at_drop_more (choices_at form) help i 0 below in
+    sym (first_none values (values_as form rest) none) ∙ ap (λ vs. first_list vs (values_as form rest)) at
+    ∙ sym (at_drop_more (values_as form) help i 0 below) ∙ is
 
-pub choices_none : (help : List ℕ) (i : ℕ) (whole : List (List ℕ)) → length help ≤ i → help_choices (drop i help) ≡ whole → [] ≡ whole
-unfolding help_choices
-choices_none help i whole over is = sym (at_drop_all help_choices help i over) ∙ is
+pub choices_none : (form : HelpList) (help : List ℕ) (i : ℕ) (whole : List (List ℕ)) → length help ≤ i → values_as form (drop i help) ≡ whole → [] ≡ whole
+unfolding values_as
+choices_none form help i whole over is = sym (at_drop_all (values_as form) help i over) ∙ is

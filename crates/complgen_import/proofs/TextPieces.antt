@@ -71,7 +71,7 @@ abbrev behind_or : Cut → List ℕ
 behind_or None = []
 behind_or (Some cut) = cut.1
 
-cut_is : (mark text front behind : List ℕ) → cut_at mark text ≡ Some (front, behind) → text ≡ front ++ (mark ++ behind)
+pub cut_is : (mark text front behind : List ℕ) → cut_at mark text ≡ Some (front, behind) → text ≡ front ++ (mark ++ behind)
 unfolding cut_at with_front
 cut_is mark [] front behind e = cc
 cut_is mark (byte ∷ text) front behind e = by (after mark (byte ∷ text)) refl (cut_at mark text) (cut_is mark text) e

@@ -2,12 +2,13 @@
 -- `[aliases: rm, del]`.
 use Rattle.std.specs.Prelude.{ℕ, Bool, ◌&&◌, ◌==◌, List, [], ◌∷◌, ◌++◌, Option, Some, None, codes, if◌then◌else◌, length, map}
 use Rattle.std.specs.List.{flat_map}
-use Rattle.std.specs.Option.{unwrap_or}
+use Rattle.std.specs.Option.{option_or, unwrap_or}
 use Rattle.cc_base.specs.Bytes.{line_feed}
 use Rattle.cc_base.specs.Found.{after, cut_at}
 use Rattle.cc_base.specs.PlainName.{is_plain_name}
-use Rattle.complgen_import.specs.declared.class.Class.TheVariants.{Blank as BlankByte, InSquares, ListByte, ListMark, PlainByte}
+use Rattle.complgen_import.specs.declared.class.Class.TheVariants.{Blank as BlankByte, InParentheses, InSquares, ListByte, ListMark, PlainByte}
 use Rattle.complgen_import.specs.Classes.{begins, is_list_mark, past, run}
+use Rattle.complgen_import.specs.Entries.{closes_names}
 use Rattle.complgen_import.specs.Lines.{lines_of}
 
 -- ---- lists of names
@@ -49,16 +50,24 @@ text_before mark text = front_of text (cut_at mark text)
 abbrev pub before_help : List ℕ → List ℕ
 before_help rest = text_before (codes " - ") (text_before (codes "  ") rest)
 
+-- the names in parentheses at the beginning of a text
+unfoldable pub names_noted : List ℕ → List (List ℕ)
+names_noted text = elim (after (codes " (") text) [
+  | Some names ↦ if closes_names names then names_in (run InParentheses names) else []
+  | None ↦ []
+]
+
 -- the other names after a name
 unfoldable pub names_after : List ℕ → List (List ℕ)
 names_after rest =
-    if begins ListMark (past BlankByte rest) then names_in (run ListByte (before_help rest)) else []
+    if begins ListMark (past BlankByte rest) then names_in (run ListByte (before_help rest))
+    else names_noted rest
 
 -- ---- in the help text
 
 -- the help text before and after the mark of a note
 abbrev pub note_in : List ℕ → Option (List ℕ × List ℕ)
-note_in help = cut_at (codes " [aliases: ") help
+note_in help = option_or (cut_at (codes " [aliases: ") help) (cut_at (codes " [alias: ") help)
 
 -- the names in the note
 unfoldable pub noted_names : Option (List ℕ × List ℕ) → List (List ℕ)

@@ -1,9 +1,11 @@
 -- An entry of a list of commands: a name, what may follow it, and a help text.
 use Rattle.std.specs.Prelude.{ℕ, Bool, true, false, not, ◌||◌, ◌&&◌, ◌==◌, ◌-◌, List, [], ◌∷◌, ◌++◌, Option, Some, None, codes, if◌then◌else◌, is_some, length, nat_lt}
+use Rattle.std.specs.List.{list_any}
 use Rattle.std.specs.Option.{option_and_then, option_or, unwrap_or}
+use Rattle.std.specs.Str.{str_eq_ignore_ascii_case}
 use Rattle.cc_base.specs.Found.{after}
 use Rattle.cc_base.specs.PlainName.{is_plain_name}
-use Rattle.complgen_import.specs.declared.class.Class.TheVariants.{Blank as BlankByte, Capital, Small, PlainByte, Opening}
+use Rattle.complgen_import.specs.declared.class.Class.TheVariants.{Blank as BlankByte, Capital, Small, PlainByte, Opening, InParentheses}
 use Rattle.complgen_import.specs.declared.entries.Columns.{Columns}
 use Rattle.complgen_import.specs.Classes.{begins, past, run}
 use Rattle.complgen_import.specs.Form.{is_tail}
@@ -45,10 +47,29 @@ is_value [] = false
 is_value (byte ∷ text) =
     begins Opening (byte ∷ text) || (begins Capital (byte ∷ text) && not (begins Small text))
 
+-- words in parentheses after a name that are no other names of it
+unfoldable pub remarks : List (List ℕ)
+remarks = codes "default" ∷ codes "deprecated" ∷ codes "experimental" ∷ []
+
+-- a parenthesis closes after other names, and the end or a help text follows
+unfoldable pub closes_names : List ℕ → Bool
+closes_names text = elim (after (codes ")") (past InParentheses text)) [
+  | Some rest ↦
+      is_tail rest && not (list_any (str_eq_ignore_ascii_case (run InParentheses text)) remarks)
+  | None ↦ false
+]
+
+-- other names in parentheses, as `(rm, del)`
+unfoldable pub is_noted : List ℕ → Bool
+is_noted text = elim (after (codes "(") text) [
+  | Some names ↦ closes_names names
+  | None ↦ false
+]
+
 -- a value, or another name of the command
 unfoldable pub is_usage : List ℕ → Bool
 is_usage text = elim (after (codes " ") text) [
-  | Some value ↦ is_value value || is_some (after (codes "| ") value)
+  | Some value ↦ is_value value || is_some (after (codes "| ") value) || is_noted value
   | None ↦ is_some (after (codes ", ") text) || is_some (after (codes "|") text)
 ]
 

@@ -1,13 +1,15 @@
 -- The number of values of an option.
-use Rattle.std.specs.Prelude.{ℕ, Bool, true, false, not, ◌||◌, List, [], ◌∷◌, Some, None, codes, count_by, drop, if◌then◌else◌, is_some, length}
+use Rattle.std.specs.Prelude.{ℕ, Bool, true, false, not, ◌||◌, ◌&&◌, ◌==◌, List, [], ◌∷◌, Some, None, codes, count_by, drop, if◌then◌else◌, is_some, length}
 use Rattle.std.specs.List.{list_any, prefix_len, take_while}
 use Rattle.cc_base.specs.Found.{after}
+use Rattle.complgen_import.specs.declared.class.Class.TheVariants.{BeforeBar, Opening}
 use Rattle.complgen_import.specs.declared.form.Mark.{Mark}
 use Rattle.complgen_import.specs.declared.form.Mark.TheVariants.{Word, Angle, Curly}
 use Rattle.complgen_import.specs.declared.form.Piece.{Piece}
 use Rattle.complgen_import.specs.declared.form.Piece.TheVariants.{First, Next, Joined, Optional, Spaced, Group, Lower}
 use Rattle.complgen_import.specs.declared.form.Value.{Value}
 use Rattle.complgen_import.specs.declared.takes.ValueCount.{ValueCount}
+use Rattle.complgen_import.specs.Classes.{begins, past}
 
 abbrev pub is_name : Piece → Bool
 is_name (First name) = true
@@ -21,11 +23,17 @@ is_value piece = not (is_name piece)
 unfoldable pub values_of : List Piece → List Piece
 values_of pieces = take_while is_value (drop (prefix_len is_name pieces) pieces)
 
--- a value after a `=` or a space is required
+-- the text has a bar
+abbrev pub has_bar : List ℕ → Bool
+has_bar text = not (length (past BeforeBar text) == 0)
+
+-- A value after a `=` or a space is required. So are choices in brackets, as `[red|blue]`, which
+-- click writes; `[<red|blue>]` and `[COLOR]` may be left out.
 abbrev pub is_needed : Piece → Bool
 is_needed (Joined value) = true
 is_needed (Spaced value) = true
 is_needed (Lower word) = true
+is_needed (Group held) = has_bar held && not (begins Opening held)
 is_needed _ = false
 
 -- the text contains `...`

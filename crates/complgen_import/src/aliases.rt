@@ -3,20 +3,18 @@
 ghost use Rattle.std.specs.Prelude.{◌≡◌, ◌++◌, IfOk, OnOk, codes, map};
 ghost use Rattle.std.specs.List.{flat_map};
 ghost use Rattle.cc_base.specs.Found.{cut_at};
-ghost use Rattle.complgen_import.specs.Aliases.{before_help, cut_byte, names_after, names_in, note_in, noted_names, part_name, text_before, without_note};
+ghost use Rattle.complgen_import.specs.Aliases.{before_help, cut_byte, names_after, names_in, names_noted, note_in, noted_names, part_name, text_before, without_note};
 ghost use Rattle.complgen_import.specs.Classes.{is_list_mark};
 ghost use Rattle.complgen_import.specs.Lines.{lines_left};
 
 use crate::bytes::Bytes;
 use crate::class::Class;
+use crate::entries::closes_names;
 use crate::fronts::{after, begins, split_run};
 use crate::lines::Lines;
 use crate::option_name::OptionName;
 use crate::words::is_plain_word;
 use std::alloc::{AllocError, Global};
-
-/// The mark of a note in a help text.
-const NOTE: &[u8] = b" [aliases: ";
 
 /// Adds the other names in the text after a name.
 #[tactic(auto, unfolding(crate::specs::Aliases::names_after))]
@@ -29,9 +27,28 @@ pub(crate) fn push_names_after(
 {
     let (_, text) = split_run(Class::Blank, rest);
     if !begins(Class::ListMark, text.as_slice()) {
-        return Ok(());
+        return push_names_noted(alloc, rest, names);
     }
     let (list, _) = split_run(Class::ListByte, before_help(rest));
+    push_names_in(alloc, list.as_slice(), names)
+}
+
+// Adds the names in parentheses at the beginning of the text.
+#[tactic(auto, unfolding(crate::specs::Aliases::names_noted))]
+fn push_names_noted(
+    alloc: Global,
+    text: &[u8],
+    names: &mut Vec<OptionName>,
+) -> Result<(), AllocError>
+    ensures { OnOk result (names.new.items ≡ names.old.items ++ names_noted text.now) }
+{
+    let Some(noted) = after(b" (", text) else {
+        return Ok(());
+    };
+    if !closes_names(noted) {
+        return Ok(());
+    }
+    let (list, _) = split_run(Class::InParentheses, noted);
     push_names_in(alloc, list.as_slice(), names)
 }
 
@@ -44,7 +61,7 @@ pub(crate) fn push_noted_names(
 ) -> Result<(), AllocError>
     ensures { OnOk result (names.new.items ≡ names.old.items ++ noted_names (note_in help.now)) }
 {
-    match cut_at(NOTE, help) {
+    match note_in(help) {
         Some((_, behind)) => {
             let (list, _) = split_run(Class::InSquares, behind.as_slice());
             push_names_in(alloc, list.as_slice(), names)
@@ -58,7 +75,7 @@ pub(crate) fn push_noted_names(
 pub(crate) fn without_note(alloc: Global, help: &[u8]) -> Result<Vec<u8>, AllocError>
     ensures { IfOk result (λ text. text.items ≡ without_note help.now (note_in help.now)) }
 {
-    match cut_at(NOTE, help) {
+    match note_in(help) {
         Some((front, behind)) => {
             let (_, rest) = split_run(Class::InSquares, behind.as_slice());
             let mut text = Vec::from_slice(alloc, front.as_slice())?;
@@ -152,8 +169,15 @@ fn text_before<'a>(mark: &[u8], text: &'a [u8]) -> &'a [u8]
     }
 }
 
-// Returns the texts before and after the first occurrence of a mark.
-fn cut_at<'a>(mark: &[u8], text: &'a [u8]) -> Option<(Bytes<'a>, Bytes<'a>)>
+// Returns the help text before and after the mark of a note.
+fn note_in<'a>(help: &'a [u8]) -> Option<(Bytes<'a>, Bytes<'a>)>
+    ensures { result ≡ note_in help.now }
+{
+    cut_at(b" [aliases: ", help).or_else(|| cut_at(b" [alias: ", help))
+}
+
+/// Returns the texts before and after the first occurrence of a mark.
+pub(crate) fn cut_at<'a>(mark: &[u8], text: &'a [u8]) -> Option<(Bytes<'a>, Bytes<'a>)>
     ensures { result ≡ cut_at mark.now text.now }
 {
     for at in 0..text.len() {

@@ -1,7 +1,7 @@
 //! Classes of bytes.
 
 ghost use Rattle.std.specs.Prelude.{◌≡◌};
-ghost use Rattle.complgen_import.specs.Classes.{in_class, is_capital_byte, is_foreign_end, is_help_mark, is_label_byte, is_list_mark, is_name_byte, is_opening, is_padding, is_plain_byte, is_quiet_byte, is_small_byte};
+ghost use Rattle.complgen_import.specs.Classes.{in_class, is_bracket, is_capital_byte, is_foreign_end, is_help_mark, is_label_byte, is_list_mark, is_name_byte, is_opening, is_padding, is_plain_byte, is_quiet_byte, is_small_byte};
 
 /// A class of bytes.
 #[derive(Clone, Copy, Drop)]
@@ -60,6 +60,10 @@ pub enum Class {
     ForeignByte,
     /// A space, or one of `:=)-,|`.
     HelpMark,
+    /// Any byte except a bracket, `.` and `;`.
+    InSentence,
+    /// A space, or one of `),.;`.
+    SentenceEnd,
 }
 
 impl Class {
@@ -96,6 +100,8 @@ impl Class {
             Class::LabelByte => is_label_byte(byte),
             Class::ForeignByte => !is_foreign_end(byte),
             Class::HelpMark => is_help_mark(byte),
+            Class::InSentence => !(is_bracket(byte) || matches!(byte, b'.' | b';')),
+            Class::SentenceEnd => matches!(byte, b' ' | b')' | b',' | b'.' | b';'),
         }
     }
 }
@@ -138,6 +144,12 @@ fn is_label_byte(byte: u8) -> bool
     ensures { result ≡ is_label_byte byte }
 {
     is_plain_byte(byte) || matches!(byte, b' ' | b'.' | b'/' | b'=' | b',' | b'|')
+}
+
+fn is_bracket(byte: u8) -> bool
+    ensures { result ≡ is_bracket byte }
+{
+    matches!(byte, b'(' | b')' | b'<' | b'>' | b'[' | b']' | b'{' | b'}')
 }
 
 fn is_padding(byte: u8) -> bool

@@ -2,7 +2,7 @@
 
 ghost use Rattle.std.specs.Prelude.{◌≡◌, ◌++◌, IfOk, is_some};
 ghost use Rattle.std.specs.Option.{option_copied};
-ghost use Rattle.complgen_import.specs.Entries.{columns_of, entry_help, entry_name, entry_rest, entry_text, from_gap, help_column, help_in, indent_of, is_entry, is_usage, is_value, may_follow_name, past_bullet, past_dash, past_mark, past_marks, past_program};
+ghost use Rattle.complgen_import.specs.Entries.{closes_names, columns_of, entry_help, entry_name, entry_rest, entry_text, from_gap, help_column, help_in, indent_of, is_entry, is_noted, is_usage, is_value, may_follow_name, past_bullet, past_dash, past_mark, past_marks, past_program};
 ghost use Rattle.complgen_import.specs.Lines.{lines_left};
 
 use crate::bytes::Bytes;
@@ -10,6 +10,7 @@ use crate::class::Class;
 use crate::fronts::{after, begins, split_run};
 use crate::lines::Lines;
 use crate::pieces::is_tail;
+use crate::possible::is_one_of;
 use crate::unfold::push_help;
 use crate::words::is_plain_word;
 use std::alloc::{AllocError, Global};
@@ -178,8 +179,33 @@ fn is_usage(rest: &[u8]) -> bool
     ensures { result ≡ is_usage rest.now }
 {
     match after(b" ", rest) {
-        Some(value) => is_value(value) || after(b"| ", value).is_some(),
+        Some(value) => is_value(value) || after(b"| ", value).is_some() || is_noted(value),
         None => after(b", ", rest).is_some() || after(b"|", rest).is_some(),
+    }
+}
+
+// Returns whether the text begins with other names in parentheses.
+#[tactic(auto, unfolding(crate::specs::Entries::is_noted))]
+fn is_noted(text: &[u8]) -> bool
+    ensures { result ≡ is_noted text.now }
+{
+    match after(b"(", text) {
+        Some(names) => closes_names(names),
+        None => false,
+    }
+}
+
+const REMARKS: &[&str] = &["default", "deprecated", "experimental"];
+
+/// Returns whether a parenthesis closes after other names, and the end or a help text follows.
+#[tactic(auto, unfolding(crate::specs::Entries::closes_names, crate::specs::Entries::remarks))]
+pub(crate) fn closes_names(text: &[u8]) -> bool
+    ensures { result ≡ closes_names text.now }
+{
+    let (names, end) = split_run(Class::InParentheses, text);
+    match after(b")", end.as_slice()) {
+        Some(rest) => is_tail(rest) && !is_one_of(names.as_slice(), REMARKS),
+        None => false,
     }
 }
 

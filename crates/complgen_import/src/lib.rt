@@ -37,6 +37,7 @@ mod pieces;
 mod positionals;
 mod possible;
 mod sections;
+mod sentences;
 mod spread;
 mod takes;
 mod tree_argument;

@@ -3,23 +3,22 @@
 ghost use Rattle.std.specs.Prelude.{◌≡◌, [], IfOk, map};
 ghost use Rattle.std.specs.Char.{is_ascii_uppercase};
 ghost use Rattle.std.specs.List.{list_all, list_any};
-ghost use Rattle.std.specs.Option.{option_copied};
 ghost use Rattle.std.specs.Str.{str_eq_ignore_ascii_case};
 ghost use Rattle.complgen_import.specs.Names.{new_names};
 ghost use Rattle.complgen_import.specs.Parts.{parts_of};
-ghost use Rattle.complgen_import.specs.Possible.{after_choices, after_keyword, after_one_of, after_values, bracket_at, choices_at, first_list, help_choices, inside, is_choice, is_placeholder, is_value_text, list_at, listed, mark_choices, may_be_value, part_value, past_value, piece_choices, placeholders, possible_of, round_at, several, square_at};
+ghost use Rattle.complgen_import.specs.Possible.{first_list, help_choices, inside, is_choice, is_placeholder, is_value_text, listed, mark_choices, may_be_value, part_value, past_value, piece_choices, placeholders, possible_of, several};
 ghost use Rattle.complgen_import.specs.Takes.{values_of};
 
 use crate::bytes::Bytes;
 use crate::class::Class;
 use crate::form::{Mark, OptionLine, Piece};
-use crate::fronts::{after, split_run};
+use crate::fronts::split_run;
 use crate::option_name::OptionName;
 use crate::option_names::insert_name;
 use crate::parts::Parts;
+use crate::sentences::help_choices;
 use crate::takes::{has_dots, values_of};
 use crate::tree_argument::push_copy;
-use crate::values::held_at;
 use cc_base::Items;
 use std::alloc::{AllocError, Global};
 use std::collections::BTreeSet;
@@ -31,6 +30,8 @@ pub(crate) enum Listing {
     Choices,
     /// Values between `|`. They may also be names of values, and then they are no list.
     Alternatives,
+    /// The same between commas or `|`, as in a sentence.
+    Words,
 }
 
 /// Returns the possible values of the option in `line`, each once: those in the name of its first
@@ -112,101 +113,6 @@ pub(crate) fn mark_choices(alloc: Global, mark: &Mark) -> Result<Items<Items<u8>
     }
 }
 
-// ---- in the help text
-
-// Returns the values in the first brackets that list values.
-fn help_choices(alloc: Global, help: &[u8]) -> Result<Items<Items<u8>>, AllocError>
-    ensures { IfOk result (λ values. values ≡ help_choices help.now) }
-{
-    for at in 0..help.len() {
-        let values = choices_at(alloc, &help[at..])?;
-        if !values.as_slice().is_empty() {
-            return Ok(values);
-        }
-    }
-    Ok(Items::new(alloc))
-}
-
-// Returns the values in the brackets at the beginning of the text.
-#[tactic(auto, unfolding(crate::specs::Possible::choices_at))]
-fn choices_at(alloc: Global, text: &[u8]) -> Result<Items<Items<u8>>, AllocError>
-    ensures { IfOk result (λ values. values ≡ choices_at text.now) }
-{
-    match list_at(text) {
-        Some(list) => listed(alloc, Listing::Choices, list.as_slice()),
-        None => Ok(Items::new(alloc)),
-    }
-}
-
-// Returns the list in the brackets, which follows a keyword.
-#[tactic(auto, unfolding(crate::specs::Possible::list_at))]
-fn list_at<'a>(text: &'a [u8]) -> Option<Bytes<'a>>
-    ensures { result ≡ list_at text.now }
-{
-    let held = bracket_at(text)?;
-    let list = after_keyword(held.as_slice())?;
-    Some(Bytes::new(list))
-}
-
-#[tactic(auto, unfolding(crate::specs::Possible::bracket_at))]
-fn bracket_at<'a>(text: &'a [u8]) -> Option<Bytes<'a>>
-    ensures { result ≡ bracket_at text.now }
-{
-    square_at(text).or_else(|| round_at(text))
-}
-
-#[tactic(auto, unfolding(crate::specs::Possible::square_at))]
-fn square_at<'a>(text: &'a [u8]) -> Option<Bytes<'a>>
-    ensures { result ≡ square_at text.now }
-{
-    let (held, _) = held_at(Class::InSquares, b"]", after(b"[", text)?)?;
-    Some(held)
-}
-
-#[tactic(auto, unfolding(crate::specs::Possible::round_at))]
-fn round_at<'a>(text: &'a [u8]) -> Option<Bytes<'a>>
-    ensures { result ≡ round_at text.now }
-{
-    let (held, _) = held_at(Class::InParentheses, b")", after(b"(", text)?)?;
-    Some(held)
-}
-
-#[tactic(auto, unfolding(crate::specs::Possible::after_keyword))]
-fn after_keyword<'a>(text: &'a [u8]) -> Option<&'a [u8]>
-    ensures { option_copied result ≡ after_keyword text.now }
-{
-    after_values(text)
-        .or_else(|| after_choices(text))
-        .or_else(|| after_one_of(text))
-}
-
-#[tactic(auto, unfolding(crate::specs::Possible::after_values))]
-fn after_values<'a>(text: &'a [u8]) -> Option<&'a [u8]>
-    ensures { option_copied result ≡ after_values text.now }
-{
-    after(b"possible values: ", text)
-        .or_else(|| after(b"possible: ", text))
-        .or_else(|| after(b"values: ", text))
-}
-
-#[tactic(auto, unfolding(crate::specs::Possible::after_choices))]
-fn after_choices<'a>(text: &'a [u8]) -> Option<&'a [u8]>
-    ensures { option_copied result ≡ after_choices text.now }
-{
-    after(b"choices: ", text)
-        .or_else(|| after(b"Choices: ", text))
-        .or_else(|| after(b"choose from ", text))
-}
-
-#[tactic(auto, unfolding(crate::specs::Possible::after_one_of))]
-fn after_one_of<'a>(text: &'a [u8]) -> Option<&'a [u8]>
-    ensures { option_copied result ≡ after_one_of text.now }
-{
-    after(b"one of: ", text)
-        .or_else(|| after(b"one of ", text))
-        .or_else(|| after(b"must be one of: ", text))
-}
-
 // ---- a list
 
 /// Returns the values in a list, each once. If a part of the list is no value, or there are not at
@@ -281,6 +187,7 @@ impl Listing {
         match self {
             Listing::Choices => Class::InChoice,
             Listing::Alternatives => Class::BeforeBar,
+            Listing::Words => Class::InChoice,
         }
     }
 
@@ -291,7 +198,7 @@ impl Listing {
     {
         match self {
             Listing::Choices => is_choice(part),
-            Listing::Alternatives => is_choice(part)
+            Listing::Alternatives | Listing::Words => is_choice(part)
                 && !is_placeholder(part_value(part).as_slice()),
         }
     }

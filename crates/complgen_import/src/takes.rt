@@ -2,10 +2,11 @@
 
 ghost use Rattle.std.specs.Prelude.{◌≡◌, ◌≤◌, None, Some, count_by, if◌then◌else◌, length};
 ghost use Rattle.std.specs.List.{list_any, prefix_len};
-ghost use Rattle.complgen_import.specs.Takes.{has_dots, is_name, is_needed, is_value, mark_has_dots, may_repeat, value_count, value_may_repeat, values_of};
+ghost use Rattle.complgen_import.specs.Takes.{has_bar, has_dots, is_name, is_needed, is_value, mark_has_dots, may_repeat, value_count, value_may_repeat, values_of};
 
+use crate::class::Class;
 use crate::form::{Mark, OptionLine, Piece, Value};
-use crate::fronts::after;
+use crate::fronts::{after, begins, split_run};
 
 /// The number of values of an option.
 #[derive(Clone, Copy, Drop)]
@@ -96,7 +97,12 @@ impl<'a> Piece<'a> {
     fn is_needed(&self) -> bool
         ensures { result ≡ is_needed self.now }
     {
-        matches!(self, Piece::Joined(_) | Piece::Spaced(_) | Piece::Lower(_))
+        match self {
+            Piece::Joined(_) | Piece::Spaced(_) | Piece::Lower(_) => true,
+            Piece::Group(held) => has_bar(held.as_slice())
+                && !begins(Class::Opening, held.as_slice()),
+            _ => false,
+        }
     }
 
     // Returns whether the value may be repeated.
@@ -128,6 +134,14 @@ impl<'a> Mark<'a> {
             Mark::Word(text) | Mark::Angle(text) | Mark::Curly(text) => has_dots(text.as_slice()),
         }
     }
+}
+
+// Returns whether the text has a bar.
+fn has_bar(text: &[u8]) -> bool
+    ensures { result ≡ has_bar text.now }
+{
+    let (_, rest) = split_run(Class::BeforeBar, text);
+    !(rest.as_slice().len() == 0)
 }
 
 /// Returns whether the text contains `...`.

@@ -78,10 +78,10 @@ fn entries_below_a_word(rt: HostRuntime) {
 
 what to do:
   WORK        Any of these
-    hem       Hems
+    hem (h)   Hems
     knot      Ties
 ";
-    lists(&rt, rt.alloc(), text, b"hem Hems\nknot Ties\n");
+    lists(&rt, rt.alloc(), text, b"hem h Hems\nknot Ties\n");
 }
 
 // Returns a line for each line that is dropped: its number as a digit, its first word and the

@@ -65,11 +65,13 @@ fn values_of_each_format(rt: HostRuntime) {
       --log-file FILE   The log
       --out-dirs=DIRS   The results
       --server HOST     The server
+      --order WORD      The order (\"up\"|\"down\")
+      --tint WORD       The tint, one of red, green or blue. Twice
   -q, --quiet           Says less [possible values: a, b]
 ";
     let wanted = b"color =auto =always =never\nformat =json =text\nlevel =low =high\n\
         mode =fast =slow\nside =left =right\neither DirPath\nlog-file FilePath\nout-dirs DirPath\n\
-        server Hostname\nquiet\n";
+        server Hostname\norder =up =down\ntint =red =green =blue\nquiet\n";
     says(&rt, rt.alloc(), text, wanted);
 }
 
