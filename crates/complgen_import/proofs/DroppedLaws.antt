@@ -6,10 +6,11 @@ use Rattle.std.specs.List.{AllByRecursion}
 use Rattle.std.specs.Option.{option_to_list}
 use Rattle.std.proofs.Common.{◌≡◌, ◌==◌, ◌||◌, not, ◌⊎◌, ◌∷◌, ◌++◌, ◌+◌, ◌∙◌, ℕ, Bool, true, false, List, [], Option, Some, None, ap, append_assoc, arith, inl, inr, length, refl, subst, suc, sym, zero}
 use Rattle.std.proofs.lemmas.Bool.Decides.{eqb_tells}
+use Rattle.cc_base.specs.Found.{after}
 use Rattle.cc_base.proofs.Members.{AllByRecursion-append}
 use Rattle.complgen_import.specs.declared.arguments.Argument.{Argument}
 use Rattle.complgen_import.specs.declared.class.Class.{Class}
-use Rattle.complgen_import.specs.declared.class.Class.TheVariants.{Blank as BlankByte, WordByte}
+use Rattle.complgen_import.specs.declared.class.Class.TheVariants.{Blank as BlankByte, BeforeColon, WordByte}
 use Rattle.complgen_import.specs.declared.clean.Column.{Column}
 use Rattle.complgen_import.specs.declared.clean.Place.{Place}
 use Rattle.complgen_import.specs.declared.clean.Place.TheVariants.{Shown, Escaped, Coded, Titled}
@@ -23,9 +24,10 @@ use Rattle.complgen_import.specs.Clean.{clean_text, column_after, expanded, is_i
 use Rattle.complgen_import.specs.Dropped.{AreDropped, AreReports, HasArgument, HavePrintableWords, IsPrintable, IsReport, IsReported, LosesNone, begins_option, first_word, has_one_hyphen, joined_line, reason_of, reported, shown_lines}
 use Rattle.complgen_import.specs.Lines.{IsAmong, IsReading, lines_of, with_byte}
 use Rattle.complgen_import.specs.Names.{line_names}
-use Rattle.complgen_import.specs.Unfolded.{continues, help_below, help_of, is_below, is_dashed, is_note, note_of, notes_of, past_help, unfolded}
+use Rattle.complgen_import.specs.Unfolded.{continues, help_below, help_of, is_below, is_dashed, is_in_list, is_list_head, is_note, item_of, items_of, list_below, list_note, note_of, notes_of, past_help, unfolded, value_list}
 use Rattle.complgen_import.proofs.Among.{among_front, among_later}
 use Rattle.complgen_import.proofs.ArgumentsRead.{has_each_name}
+use Rattle.complgen_import.proofs.FrontsRead.{after-text}
 use Rattle.complgen_import.proofs.LinesRead.{lines-end, lines-more}
 
 -- ---- parts of texts
@@ -117,18 +119,77 @@ lines_past indent (line ∷ lines) all = by (continues indent line) (lines_past 
     by true more = more
     by false more = all
 
+-- ---- the note of a list
+
+all_behind : (P : ℕ → Type 0) (front rest : List ℕ) → AllByRecursion P (front ++ rest) → AllByRecursion P rest
+all_behind P [] rest all = all
+all_behind P (byte ∷ front) rest all = all_behind P front rest all.1
+
+item_line : (line : List ℕ) → IsLine line → IsLine (item_of line)
+unfolding item_of
+item_line line is = by (after (codes "- ") (past BlankByte line)) refl
+  where
+    by : (found : Option (List ℕ)) → after (codes "- ") (past BlankByte line) ≡ found → IsLine (elim found [ Some item ↦ codes ", " ++ run BeforeColon item | None ↦ [] ])
+    by (Some item) e =
+        let P : List ℕ → Type 0 = λ text. IsLine text in (
+          refl,
+          (
+            refl,
+            all_run IsInLine BeforeColon item (
+                all_behind IsInLine (codes "- ") item (subst P (after-text (codes "- ") (past BlankByte line) item e) (all_past IsInLine BlankByte line is))
+                ),
+          ),
+        )
+    by None e = tt
+
+items_line : (indent : ℕ) (lines : List (List ℕ)) → AllByRecursion IsLine lines → IsLine (items_of indent lines)
+unfolding items_of
+items_line indent [] all = tt
+items_line indent (line ∷ lines) all = by (is_in_list indent line) (items_line indent lines all.1)
+  where
+    by : (b : Bool) → IsLine (items_of indent lines) → IsLine (elim b [ true ↦ item_of line ++ items_of indent lines | false ↦ [] ])
+    by true more = AllByRecursion-append IsInLine (item_of line) (items_of indent lines) (item_line line all.0) more
+    by false more = tt
+
+lines_listed : (indent : ℕ) (lines : List (List ℕ)) → AllByRecursion IsLine lines → AllByRecursion IsLine (list_below indent lines)
+unfolding list_below
+lines_listed indent [] all = tt
+lines_listed indent (line ∷ lines) all = by (is_list_head indent line) (is_below indent line) (lines_listed indent lines all.1)
+  where
+    by : (head below : Bool) → AllByRecursion IsLine (list_below indent lines) → AllByRecursion IsLine (elim head [ true ↦ lines | false ↦ elim below [ true ↦ list_below indent lines | false ↦ [] ] ])
+    by true below more = all.1
+    by false true more = more
+    by false false more = tt
+
+list_note_line : (items : List ℕ) → IsLine items → IsLine (list_note items)
+unfolding list_note
+list_note_line [] all = tt
+list_note_line (comma ∷ []) all = tt
+list_note_line (comma ∷ blank ∷ list) all =
+    AllByRecursion-append IsInLine (codes "  [possible values: " ++ list) (codes "]")
+    (AllByRecursion-append IsInLine (codes "  [possible values: ") list
+    (refl, (refl, (refl, (refl, (refl, (refl, (refl, (refl, (refl, (refl, (refl, (refl, (refl, (refl, (refl, (refl, (refl, (refl, (refl, (refl, tt))))))))))))))))))))
+    all.1.1)
+    (refl, tt)
+
+value_list_line : (indent : ℕ) (lines : List (List ℕ)) → AllByRecursion IsLine lines → IsLine (value_list indent lines)
+value_list_line indent lines all = list_note_line (items_of indent (list_below indent lines)) (items_line indent (list_below indent lines) (lines_listed indent lines all))
+
 below_line : (line : List ℕ) (lines : List (List ℕ)) → AllByRecursion IsLine lines → IsLine (help_below line lines)
 unfolding help_below
 below_line line lines all = by (is_dashed (past BlankByte line))
   where
     by : (b : Bool) → IsLine (elim b [
-      | true ↦ help_of (length (run BlankByte line)) lines ++ notes_of (length (run BlankByte line)) (past_help (length (run BlankByte line)) lines)
+      | true ↦ help_of (length (run BlankByte line)) lines ++ notes_of (length (run BlankByte line)) (past_help (length (run BlankByte line)) lines) ++ value_list (length (run BlankByte line)) lines
       | false ↦ []
     ])
     by true =
-        AllByRecursion-append IsInLine (help_of (length (run BlankByte line)) lines) (notes_of (length (run BlankByte line)) (past_help (length (run BlankByte line)) lines))
-        (help_line (length (run BlankByte line)) lines all)
-        (notes_line (length (run BlankByte line)) (past_help (length (run BlankByte line)) lines) (lines_past (length (run BlankByte line)) lines all))
+        let indent = length (run BlankByte line) in
+        AllByRecursion-append IsInLine (help_of indent lines ++ notes_of indent (past_help indent lines)) (value_list indent lines)
+        (AllByRecursion-append IsInLine (help_of indent lines) (notes_of indent (past_help indent lines))
+        (help_line indent lines all)
+        (notes_line indent (past_help indent lines) (lines_past indent lines all)))
+        (value_list_line indent lines all)
     by false = tt
 
 is_joined_line : (line : List ℕ) (lines : List (List ℕ)) → IsLine line → AllByRecursion IsLine lines → IsLine (joined_line line lines)

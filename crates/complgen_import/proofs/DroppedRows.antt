@@ -12,7 +12,7 @@ use Rattle.complgen_import.specs.Clean.{column_after, expanded, is_over, is_seen
 use Rattle.complgen_import.specs.Dropped.{AreDropped, AreReports, IsReport, begins_option, has_one_hyphen, is_hyphenated, reason_of}
 use Rattle.complgen_import.specs.Lines.{IsReading, lines_of, with_byte}
 use Rattle.complgen_import.specs.Names.{long_names, piece_names, plain_names}
-use Rattle.complgen_import.specs.Unfolded.{help_below, help_of, is_dashed, is_plain, notes_of, past_help}
+use Rattle.complgen_import.specs.Unfolded.{help_below, help_of, is_dashed, is_list_head, is_plain, item_of, items_of, list_below, list_note, notes_of, past_help}
 
 -- lines that begin with a hyphen and a space, or only with a hyphen, are none
 item_row : begins_option (codes "  - an item") ≡ false
@@ -61,6 +61,6 @@ bs = 8 ∷ []
 number_row : IsReading (codes "  -Xmx  Memory  of all") None → IsReading (codes "--q!") None →
     AreDropped (codes "Usage: sew\n\n  -X" ++ bs ++ codes "Xmx\tMemory\n      of all\n" ++ esc ++ codes "[1m--q!")
     (record { number = 3; word = codes "-Xmx"; reason = OneHyphen } ∷ record { number = 5; word = codes "--q!"; reason = OtherForm } ∷ [])
-unfolding AreReports IsReport after begins column_after expanded has_one_hyphen help_below help_of in_class is_dashed is_hyphenated is_over is_plain is_seen is_struck kept lines_of notes_of past past_help place_after reason_of run seen trimmed unstruck with_byte
+unfolding AreReports IsReport after begins column_after expanded has_one_hyphen help_below help_of in_class is_dashed is_hyphenated is_list_head is_over is_plain is_seen is_struck item_of items_of kept lines_of list_below list_note notes_of past past_help place_after reason_of run seen trimmed unstruck with_byte
 number_row first second =
     ([], _, refl, refl, ([], _, refl, refl, (_, _, (None, first, refl), refl, ([], _, refl, refl, (_, [], (None, second, refl), refl, refl)))))

@@ -24,6 +24,7 @@ pub mod HintSteps
 pub mod KeptNames
 pub mod LineRead
 pub mod LinesRead
+pub mod ListBelowSteps
 pub mod ListSteps
 pub mod NamesRead
 pub mod Options

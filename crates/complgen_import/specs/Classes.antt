@@ -3,7 +3,7 @@ use Rattle.std.specs.Prelude.{ℕ, Bool, true, false, not, ◌||◌, ◌==◌, L
 use Rattle.std.specs.List.{list_any}
 use Rattle.std.specs.Char.{is_ascii_alphabetic, is_ascii_alphanumeric, is_ascii_digit, is_ascii_lowercase, is_ascii_uppercase}
 use Rattle.complgen_import.specs.declared.class.Class.{Class}
-use Rattle.complgen_import.specs.declared.class.Class.TheVariants.{Blank, NameByte, ValueByte, Capital, CapitalByte, Small, SmallByte, InLine, InAngles, InCurlies, InSquares, PlainByte, Opening, HeadingByte, BeforeNote, InParentheses, Letter, QuietByte, Padding, BeforeBar, InChoice, WordByte, ListMark, ListByte, LabelByte, ForeignByte, HelpMark, InSentence, SentenceEnd}
+use Rattle.complgen_import.specs.declared.class.Class.TheVariants.{Blank, NameByte, ValueByte, Capital, CapitalByte, Small, SmallByte, InLine, InAngles, InCurlies, InSquares, PlainByte, Opening, HeadingByte, BeforeNote, InParentheses, Letter, QuietByte, Padding, BeforeBar, InChoice, WordByte, ListMark, ListByte, LabelByte, ForeignByte, HelpMark, InSentence, SentenceEnd, BeforeColon}
 
 -- a letter, a digit, or one of `_.:+-`
 abbrev pub is_name_byte : ℕ → Bool
@@ -95,6 +95,7 @@ in_class ForeignByte byte = not (is_foreign_end byte)
 in_class HelpMark byte = is_help_mark byte
 in_class InSentence byte = not (is_bracket byte || (byte == 46 || byte == 59))
 in_class SentenceEnd byte = byte == 32 || byte == 41 || (byte == 44 || byte == 46 || byte == 59)
+in_class BeforeColon byte = not (byte == 58)
 
 -- the text begins with a byte of the class
 unfoldable pub begins : Class → List ℕ → Bool

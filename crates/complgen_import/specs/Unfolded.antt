@@ -1,7 +1,8 @@
 -- A text with the help texts of its option lines on one line each.
-use Rattle.std.specs.Prelude.{ℕ, Bool, true, false, not, ◌&&◌, ◌||◌, ◌==◌, List, [], ◌∷◌, ◌++◌, codes, if◌then◌else◌, length, nat_lt}
+use Rattle.std.specs.Prelude.{ℕ, Bool, true, false, not, ◌&&◌, ◌||◌, ◌==◌, List, [], ◌∷◌, ◌++◌, Some, None, codes, if◌then◌else◌, is_some, length, nat_lt}
 use Rattle.cc_base.specs.Bytes.{dash, line_feed, open_bracket}
-use Rattle.complgen_import.specs.declared.class.Class.TheVariants.{Blank as BlankByte}
+use Rattle.cc_base.specs.Found.{after}
+use Rattle.complgen_import.specs.declared.class.Class.TheVariants.{Blank as BlankByte, BeforeColon}
 use Rattle.complgen_import.specs.Classes.{past, run}
 
 -- the text begins with a hyphen, as an option line does after its indent
@@ -58,13 +59,67 @@ past_help indent (line ∷ lines) = elim (continues indent line) [
   | false ↦ line ∷ lines
 ]
 
+-- ---- a list of possible values, as clap writes it
+
+-- a list begins below the line
+unfoldable pub is_list_head : ℕ → List ℕ → Bool
+is_list_head indent line = elim (after (codes "Possible values:") (past BlankByte line)) [
+  | Some rest ↦ nat_lt indent (length (run BlankByte line)) && length rest == 0
+  | None ↦ false
+]
+
+-- the lines after the first such line below an option line
+unfoldable pub list_below : ℕ → List (List ℕ) → List (List ℕ)
+list_below indent [] = []
+list_below indent (line ∷ lines) = elim (is_list_head indent line) [
+  | true ↦ lines
+  | false ↦ elim (is_below indent line) [
+    | true ↦ list_below indent lines
+    | false ↦ []
+  ]
+]
+
+-- the text is a value of a list, or a part of its help text
+abbrev pub is_item : List ℕ → Bool
+is_item text = is_plain text || is_some (after (codes "- ") text)
+
+-- the line is a part of a list below an option line with this indent
+abbrev pub is_in_list : ℕ → List ℕ → Bool
+is_in_list indent line =
+    nat_lt indent (length (run BlankByte line)) && is_item (past BlankByte line)
+
+-- the value in the line, with a comma and a space before it
+unfoldable pub item_of : List ℕ → List ℕ
+item_of line = elim (after (codes "- ") (past BlankByte line)) [
+  | Some item ↦ codes ", " ++ run BeforeColon item
+  | None ↦ []
+]
+
+-- the values of the list at the beginning of the lines
+unfoldable pub items_of : ℕ → List (List ℕ) → List ℕ
+items_of indent [] = []
+items_of indent (line ∷ lines) = elim (is_in_list indent line) [
+  | true ↦ item_of line ++ items_of indent lines
+  | false ↦ []
+]
+
+-- the note that says the same
+unfoldable pub list_note : List ℕ → List ℕ
+list_note (comma ∷ blank ∷ list) = (codes "  [possible values: " ++ list) ++ codes "]"
+list_note _ = []
+
+abbrev pub value_list : ℕ → List (List ℕ) → List ℕ
+value_list indent lines = list_note (items_of indent (list_below indent lines))
+
 -- ---- the text
 
--- the help text of a line in the lines after it, and later notes, if it begins as an option line
+-- the help text of a line in the lines after it, later notes, and a list of its possible values, if
+-- it begins as an option line
 unfoldable pub help_below : List ℕ → List (List ℕ) → List ℕ
 help_below line lines = elim (is_dashed (past BlankByte line)) [
   | true ↦ help_of (length (run BlankByte line)) lines
       ++ notes_of (length (run BlankByte line)) (past_help (length (run BlankByte line)) lines)
+      ++ value_list (length (run BlankByte line)) lines
   | false ↦ []
 ]
 

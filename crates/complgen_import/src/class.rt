@@ -64,6 +64,8 @@ pub enum Class {
     InSentence,
     /// A space, or one of `),.;`.
     SentenceEnd,
+    /// Any byte except `:`.
+    BeforeColon,
 }
 
 impl Class {
@@ -102,6 +104,7 @@ impl Class {
             Class::HelpMark => is_help_mark(byte),
             Class::InSentence => !(is_bracket(byte) || matches!(byte, b'.' | b';')),
             Class::SentenceEnd => matches!(byte, b' ' | b')' | b',' | b'.' | b';'),
+            Class::BeforeColon => byte != b':',
         }
     }
 }

@@ -120,7 +120,7 @@ fn joined_line(alloc: Global, line: &[u8], lines: &Lines) -> Result<Vec<u8>, All
     ensures { IfOk result (λ joined. joined.items ≡ joined_line line.now (lines_left lines.now)) }
 {
     let mut joined = Vec::from_slice(alloc, line)?;
-    push_help_below(&mut joined, line, lines)?;
+    push_help_below(alloc, &mut joined, line, lines)?;
     Ok(joined)
 }
 

@@ -43,6 +43,7 @@ mod takes;
 mod tree_argument;
 mod unfold;
 mod value_hint;
+mod value_list;
 mod values;
 mod words;
 

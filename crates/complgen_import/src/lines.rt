@@ -1,6 +1,6 @@
 //! The lines of a text, and the option lines among them.
 
-ghost use Rattle.std.specs.Prelude.{◌≡◌, ◌∷◌, ◌++◌, ℕ, List, Option, IfOk, OnOk};
+ghost use Rattle.std.specs.Prelude.{◌≡◌, ◌∷◌, ◌++◌, [], ℕ, List, Option, IfOk, OnOk};
 ghost use Rattle.std.specs.Option.{option_to_list};
 ghost use Rattle.complgen_import.specs.Lines.{AreOfForm, AreOptionLines, HasEach, IsAmong, IsReading, lines_left, lines_of, lines_of_some};
 
@@ -27,6 +27,14 @@ impl<'a> Lines<'a> {
         Lines {
             rest: Some(Bytes::new(text)),
         }
+    }
+
+    // Returns an iterator over no lines.
+    #[tactic(auto, unfolding(crate::specs::Lines::lines_of_some))]
+    pub(crate) fn none() -> Lines<'a>
+        ensures { lines_left result ≡ [] }
+    {
+        Lines { rest: None }
     }
 
     // Returns an iterator over the lines that are still to come.

@@ -4,16 +4,18 @@ ghost use Rattle.std.specs.Prelude.{◌≡◌, ◌++◌, IfOk, OnOk, codes};
 ghost use Rattle.complgen_import.specs.declared.class.Class.TheVariants.{Blank as BlankByte};
 ghost use Rattle.complgen_import.specs.Classes.{past};
 ghost use Rattle.complgen_import.specs.Lines.{lines_left, lines_of};
-ghost use Rattle.complgen_import.specs.Unfolded.{continues, help_below, help_of, is_below, is_dashed, is_note, is_plain, note_of, notes_of, past_help, unfolded, unfolded_line};
+ghost use Rattle.complgen_import.specs.Unfolded.{continues, help_below, help_of, is_below, is_dashed, is_note, is_plain, note_of, notes_of, past_help, unfolded, unfolded_line, value_list};
 
 use crate::class::Class;
 use crate::fronts::split_run;
 use crate::lines::Lines;
+use crate::value_list::push_value_list;
 use std::alloc::{AllocError, Global};
 
 /// Returns the text with each help text on the line of its option: after a line that begins with a
 /// hyphen, the lines that are deeper are added to it, up to an empty line or one that begins with a
-/// hyphen. Notes such as `[default: 1]` are also added if they come later. All lines stay.
+/// hyphen. Notes such as `[default: 1]` are also added if they come later, and a list of possible
+/// values is added as a note. All lines stay.
 ///
 /// # Errors
 ///
@@ -24,24 +26,30 @@ pub fn unfold_text(alloc: Global, text: &[u8]) -> Result<Vec<u8>, AllocError>
     let mut out = Vec::with_capacity(alloc, text.len())?;
     let mut lines = Lines::new(text);
     while let Some(line) = lines.next() {
-        push_unfolded(&mut out, line.as_slice(), &lines)?;
+        push_unfolded(alloc, &mut out, line.as_slice(), &lines)?;
     }
     Ok(out)
 }
 
 // Adds a line with the help text in the lines after it.
-fn push_unfolded(out: &mut Vec<u8>, line: &[u8], lines: &Lines) -> Result<(), AllocError>
+fn push_unfolded(
+    alloc: Global,
+    out: &mut Vec<u8>,
+    line: &[u8],
+    lines: &Lines,
+) -> Result<(), AllocError>
     ensures { OnOk result
         (out.new.items ≡ out.old.items ++ unfolded_line line.now (lines_left lines.now)) }
 {
     out.extend_from_slice(line)?;
-    push_help_below(out, line, lines)?;
+    push_help_below(alloc, out, line, lines)?;
     Ok(out.push(b'\n')?)
 }
 
 /// Adds the help text in `lines`, the lines after a line, if it begins as an option line does.
 #[tactic(auto, unfolding(crate::specs::Unfolded::help_below))]
 pub(crate) fn push_help_below(
+    alloc: Global,
     out: &mut Vec<u8>,
     line: &[u8],
     lines: &Lines,
@@ -55,7 +63,8 @@ pub(crate) fn push_help_below(
     }
     let indent = blanks.as_slice().len();
     push_help(out, indent, lines.ahead())?;
-    push_notes(out, indent, past_help(indent, lines.ahead()))
+    push_notes(out, indent, past_help(indent, lines.ahead()))?;
+    push_value_list(alloc, out, indent, lines.ahead())
 }
 
 /// Adds the help text in `lines`, the lines after a line with this indent.
@@ -111,8 +120,8 @@ fn push_note(out: &mut Vec<u8>, line: &[u8]) -> Result<(), AllocError>
     push_added(out, line)
 }
 
-// Returns whether the line is below an option line with this indent, as its help text is.
-fn is_below(indent: usize, line: &[u8]) -> bool
+/// Returns whether the line is below an option line with this indent, as its help text is.
+pub(crate) fn is_below(indent: usize, line: &[u8]) -> bool
     ensures { result ≡ is_below indent line.now }
 {
     let (_, text) = split_run(Class::Blank, line);
@@ -156,8 +165,9 @@ pub fn is_dashed(text: &[u8]) -> bool
     }
 }
 
+/// Returns whether the text begins with another byte than a hyphen.
 #[tactic(auto, unfolding(crate::specs::Unfolded::is_plain))]
-fn is_plain(text: &[u8]) -> bool
+pub(crate) fn is_plain(text: &[u8]) -> bool
     ensures { result ≡ is_plain text.now }
 {
     match text {

@@ -87,6 +87,32 @@ fn values_after_an_empty_line(rt: HostRuntime) {
     says(&rt, rt.alloc(), text, b"color =auto =never\n");
 }
 
+#[test]
+fn values_of_a_long_list(rt: HostRuntime) {
+    let text = b"  -c, --color <WHEN>
+          With colors
+
+          Possible values:
+          - auto:  If a terminal
+            shows it
+          - never: Not at all
+
+          [default: auto]
+
+      --level <LEVEL>
+          The level
+          Possible values:
+          - low
+          - high
+";
+    says(
+        &rt,
+        rt.alloc(),
+        text,
+        b"color =auto =never\nlevel =low =high\n",
+    );
+}
+
 // Fails unless the positionals of the help text, beside its options, are these.
 fn says_positionals(rt: &impl Abort, alloc: Global, text: &[u8], wanted: &[u8]) {
     let options = options(alloc, text).expect(rt, "no options");
