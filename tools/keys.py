@@ -47,8 +47,8 @@ WITHOUT_CLAP = {"argument": {"values_file", "values_split"}}
 # The functions of the writer that write the keys of an object. The methods of `object`, such as `text` and `flag`,
 # take the key as their first argument, and `order` writes `display_order`.
 FUNCTIONS = {
-    "command": ["command_object", "command_texts", "command_flags"],
-    "argument": ["arg_object", "arg_names"],
+    "command": ["command_object", "command_texts", "about", "command_aliases", "command_flags", "parser_flags"],
+    "argument": ["arg_object", "arg_values", "arg_lists", "arg_names"],
     "possible_value": ["value_object"],
 }
 
