@@ -247,7 +247,8 @@ fn command_object(out: &mut String, command: &mut Command, place: &Place<'_>) {
     build_alone(command);
     let mut object = Object::new(out);
     command_texts(&mut object, command, place);
-    command_flags(&mut object, command, children.iter().any(Option::is_some));
+    let has_children = children.iter().any(Option::is_some) || !place.external().is_empty();
+    command_flags(&mut object, command, has_children);
     if place.parts == Parts::Whole {
         parser_flags(&mut object, command);
     }

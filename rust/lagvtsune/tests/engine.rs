@@ -49,14 +49,14 @@ fn candidates_are_those_of_the_command_that_words_lead_to() {
     assert_eq!(values(&found(&["app", "r"])), ["r", "remote"]);
     assert_eq!(values(&found(&["app", "remote", "a"])), ["add"]);
     assert_eq!(values(&found(&["app", "help", "remote", ""])), ["add"]);
-    assert_eq!(values(&found(&["app", "--l"])), ["--lvl"]);
-    assert_eq!(values(&found(&["app", "--level", ""])), ["a:b", "low"]);
+    assert_eq!(values(&found(&["app", "--l"])), ["--level"]);
+    assert_eq!(values(&found(&["app", "--level", ""])), ["low", "a:b"]);
     assert_eq!(values(&found(&["app", "--level=l"])), ["--level=low"]);
     assert_eq!(values(&found(&["app", "-ll"])), ["-llow"]);
-    assert_eq!(values(&found(&["app", "--level", "low,"])), ["low,a:b", "low,low"]);
+    assert_eq!(values(&found(&["app", "--level", "low,"])), ["low,low", "low,a:b"]);
     assert_eq!(
         values(&found(&["app", "x", ""])),
-        ["r", "remote", "help", "--lvl", "--help", "--version"]
+        ["r", "remote", "help", "--level", "--help", "--version"]
     );
     // Hidden ones are offered if nothing else is.
     assert_eq!(values(&found(&["app", "--q"])), ["--quiet"]);
@@ -75,7 +75,7 @@ fn candidates_have_the_texts_of_the_command() {
     assert_eq!(run.get_id().map(String::as_str), Some("command::run"));
     assert_eq!(text(run.get_tag()).as_deref(), Some("Commands"));
     assert!(run.get_display_order().is_some() && !run.is_hide_set());
-    let level = of("--lvl");
+    let level = of("--level");
     assert_eq!(text(level.get_help()).as_deref(), Some("How \\ much: \"it\"\nis"));
     assert_eq!(level.get_id().map(String::as_str), Some("arg::level"));
     assert_eq!(text(level.get_tag()).as_deref(), Some("Tuning"));
@@ -90,8 +90,8 @@ fn candidates_have_the_texts_of_the_command() {
 #[test]
 fn values_have_the_tag_of_their_argument() {
     let offered = found(&["app", "--level", ""]);
-    assert_eq!(text(offered[1].get_help()).as_deref(), Some("Not: much"));
-    assert_eq!(offered[0].get_help(), None);
+    assert_eq!(text(offered[0].get_help()).as_deref(), Some("Not: much"));
+    assert_eq!(offered[1].get_help(), None);
     for candidate in &offered {
         assert_eq!(text(candidate.get_tag()).as_deref(), Some("--level <level>"));
         assert_eq!(candidate.get_id(), None);
@@ -145,9 +145,11 @@ fn paths_are_those_below_the_current_directory() {
     assert_eq!(values(&root), [".", "a.txt", "b c", "src/"]);
     assert!(root.iter().all(|it| text(it.get_tag()).as_deref() == Some("[path]")), "{root:?}");
     assert_eq!(values(&found("src/").unwrap()), ["src/main.rs"]);
-    let hidden = found(".").unwrap();
-    assert_eq!(values(&hidden), [".git/", ".rc"]);
-    assert!(hidden.iter().all(CompletionCandidate::is_hide_set));
+    for (typed, expected) in [(".g", ".git/"), (".r", ".rc")] {
+        let hidden = found(typed).unwrap();
+        assert_eq!(values(&hidden), [expected]);
+        assert!(hidden[0].is_hide_set());
+    }
 }
 
 #[test]

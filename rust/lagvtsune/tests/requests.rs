@@ -90,6 +90,7 @@ fn completers() -> CompleteEnv<'static, fn() -> Command> {
         assert!(env::var_os("COMPLETE").is_none());
         let low = CompletionCandidate::new("low").help(Some("Saves\npower".into()));
         let secret = CompletionCandidate::new("hush").hide(true);
+        // A candidate without a display order comes before those with one.
         let first = CompletionCandidate::new("best").display_order(Some(0)).id(Some("b".into()));
         let again = CompletionCandidate::new("again").id(Some("b".into()));
         let unfit = CompletionCandidate::new("two\nlines");
@@ -317,7 +318,7 @@ fn values_of_completers() {
     };
     // The words that are typed, and what is offered for the last one.
     let cases: [(&[&str], &str); 10] = [
-        (&["--level", ""], "best\nlow\tSaves\nhigh\n"),
+        (&["--level", ""], "low\tSaves\nhigh\nbest\n"),
         (&["--level", "l"], "low\tSaves\n"),
         (&["--level", "hu"], "hush\n"),
         (&["--level=h"], "--level=high\n"),
@@ -388,16 +389,16 @@ fn completers_of_the_original_s_registrations() {
         let words: Vec<&str> = line.iter().map(String::as_str).collect();
         text("builtins", &variables, &words)
     };
-    assert_eq!(request("bash", ""), "best|low|high");
+    assert_eq!(request("bash", ""), "low|high|best");
     assert_eq!(request("elvish", "l"), "low");
-    assert_eq!(request("zsh", ""), "best|low:Saves|high");
-    assert_eq!(request("fish", ""), "best\nlow\tSaves\nhigh\n");
+    assert_eq!(request("zsh", ""), "low:Saves|high|best");
+    assert_eq!(request("fish", ""), "low\tSaves\nhigh\nbest\n");
     assert_eq!(request("/usr/bin/pwsh", "hu"), "hush\n");
     // The same request is answered so with the safe shells.
     let variables = [("COMPLETE", "bash"), ("_CLAP_COMPLETE_INDEX", "3"), ("_CLAP_IFS", "|")];
     assert_eq!(
         text("completers", &variables, &["--", "app", "set", "--level", ""]),
-        "best|low|high"
+        "low|high|best"
     );
 }
 
