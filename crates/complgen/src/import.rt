@@ -25,10 +25,9 @@ pub(crate) fn import<R: Files + Print + Eprint + AllocGlobal>(
 ) -> Result<u8, Refusal> {
     let Plan::Import {
         name,
-        list,
-        strict,
         onto,
         path,
+        ..
     } = plan
     else {
         return Ok(1);
@@ -37,6 +36,26 @@ pub(crate) fn import<R: Files + Print + Eprint + AllocGlobal>(
     let bytes = match onto {
         Some(path) => contents(rt, path.as_str())?,
         None => None,
+    };
+    import_read(rt, plan, files.as_slice(), &bytes)
+}
+
+// Carries out the plan over the help texts and the tree file to extend.
+fn import_read<'a, R: Print + Eprint + AllocGlobal>(
+    rt: &R,
+    plan: &'a Plan,
+    files: &'a [TextFile],
+    bytes: &'a Option<Vec<u8>>,
+) -> Result<u8, Refusal> {
+    let Plan::Import {
+        name,
+        list,
+        strict,
+        onto,
+        ..
+    } = plan
+    else {
+        return Ok(1);
     };
     let plan = ImportPlan {
         name: TextRef::new(name.as_str()),
@@ -47,7 +66,7 @@ pub(crate) fn import<R: Files + Print + Eprint + AllocGlobal>(
             None => None,
         },
     };
-    let files = help_files(rt.alloc(), files.as_slice())?;
+    let files = help_files(rt.alloc(), files)?;
     print(rt, &plan, files.as_slice())
 }
 
