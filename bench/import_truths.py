@@ -104,8 +104,11 @@ class Comparison:
     def find(self, kind, place, what):
         self.findings.append((kind, place, what))
 
-    def command(self, truth, tree, folder, place):
-        """Compares a command with its truth, if there is a text for it, and then its subcommands."""
+    def command(self, truth, tree, folder, place, inherited):
+        """Compares a command with its truth, if there is a text for it, and then its subcommands.
+
+        `inherited` has the names of the global options of the commands above.
+        """
         path = os.path.join(folder, "help.txt")
         if not os.path.exists(path):
             return
@@ -118,13 +121,13 @@ class Comparison:
                 self.counts["stated"] += STATED.fullmatch(line) is not None
                 if STATED.fullmatch(line) is None:
                     self.find("unstated", place, line)
-        self.options(truth, tree, text, place)
+        self.options(truth, {**inherited, **names_of(tree.get("args", []))}, text, place)
         if truth["commands"] is not None:
-            self.children(truth, tree, text, folder, place)
+            shared = names_of(arg for arg in tree.get("args", []) if arg.get("global"))
+            self.children(truth, tree, text, folder, place, {**inherited, **shared})
 
-    def options(self, truth, tree, text, place):
+    def options(self, truth, found, text, place):
         accepted, kinds = truth["options"], truth.get("kinds", ["long", "short"])
-        found = names_of(tree)
         for option in accepted:
             if not is_plain(option) or option in truth["hidden"] and option not in found:
                 continue
@@ -147,7 +150,7 @@ class Comparison:
                 self.counts["wrong"] += 1
                 self.find("wrong", place, option)
 
-    def children(self, truth, tree, text, folder, place):
+    def children(self, truth, tree, text, folder, place, inherited):
         found = {name: child for child in tree.get("subcommands", [])
                  for name in [child["name"], *child.get("visible_aliases", [])]}
         true = {**truth["commands"], **{alias: truth["commands"][name] for alias, name in truth["aliases"].items()}}
@@ -165,15 +168,16 @@ class Comparison:
                 self.find("commands", place, f"wrong {name}")
         for name, child in truth["commands"].items():
             below = os.path.join(folder, name)
+            above = inherited if name in found else {}
             if name not in found and os.path.exists(os.path.join(below, "help.txt")):
                 found[name] = imported(self.program, below, name)[0] or {}
-            self.command(child, found.get(name, {}), below, f"{place} {name}")
+            self.command(child, found.get(name, {}), below, f"{place} {name}", above)
 
 
-def names_of(tree):
-    """Returns the names of the options of a command, and whether they need a value."""
+def names_of(args):
+    """Returns the names of options, and whether they need a value."""
     names = {}
-    for arg in tree.get("args", []):
+    for arg in args:
         needs = arg.get("action", "Set") in ("Set", "Append") and arg.get("num_args", [1])[0] > 0
         for key in ("short", "visible_short_aliases", "short_aliases"):
             names.update({"-" + name: needs for name in arg.get(key, [])})
@@ -211,7 +215,7 @@ def compare(program, folder, truth):
     findings = [("unclean", truth["name"], line) for line in complaints(program, tree)]
     comparison = Comparison(program, findings)
     comparison.counts.update({"programs": 1, "clean": not findings})
-    comparison.command(truth, tree, folder, truth["name"])
+    comparison.command(truth, tree, folder, truth["name"], {})
     return comparison.counts, findings, reports
 
 
