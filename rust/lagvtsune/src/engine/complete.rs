@@ -3,7 +3,9 @@
 use super::CompletionCandidate;
 use crate::answering::{offered, Offered, Request};
 use crate::sources::Sources;
-use crate::tree_file::{arg_key, command_key, value_key, LaterGetters as _};
+#[allow(unused_imports)] // Only early releases of clap 4 need it.
+use crate::tree_file::LaterGetters as _;
+use crate::tree_file::{arg_key, command_key, value_key};
 use crate::walk::Walked;
 use clap::builder::StyledStr;
 use clap::{Arg, Command};
