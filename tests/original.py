@@ -34,7 +34,7 @@ TOP = pathlib.Path(__file__).resolve().parent.parent
 sys.path.append(str(TOP / "tools"))
 import common
 
-# What stands for `super` in the tests of a file.
+# The names that replace `super` in the tests of each file.
 MODULES = {
     "src/aot/generator/utils.rs": ["lagvtsune::aot::utils::*", "clap::Command"],
     "src/env/shells.rs": ["lagvtsune::env::*"],
