@@ -17,6 +17,7 @@ use Rattle.complgen_import.specs.declared.commands.Command.{Command}
 use Rattle.complgen_import.specs.declared.tree_argument.TreeArgument.{TreeArgument}
 use Rattle.complgen_import_forms.specs.Regular.{InventsNone, IsRegularText, KeepsForms}
 use Rattle.complgen_import_usage.specs.UsageNames.{usage_positionals_of}
+use Rattle.complgen_import_usage.specs.UsageOptions.{AddsOptions, KeepsLines, with_usage_options}
 use Rattle.complgen_import_file.specs.BuiltOptions.{HaveTheirOptions}
 use Rattle.complgen_import_file.specs.TreeTokens.{missing_paths, path_below, tree_tokens}
 use Rattle.complgen_import_file.specs.declared.read.HelpText.{HelpText}
@@ -33,6 +34,14 @@ pub record IsOfOptions (text : List ℕ) (arguments : List Argument) : Type 0 wh
   pub sound : HasOnlyNames text arguments
   pub once : HasNamesOnce arguments
 
+-- The options in the usage follow the text, each on an option line of its own. Each line of the text
+-- stays, and no option is invented. So an option that an option line of the text names, too, is the
+-- one of that line.
+pub record IsWithUsage (text said : List ℕ) : Type 0 where
+  pub exact : said ≡ with_usage_options text
+  pub kept : KeepsLines text said
+  pub sound : AddsOptions text said
+
 -- The arguments are those of the text in which lines of further forms have the stated form. A line
 -- of the stated form stays, and no name is invented. Each help text is on the line of its option.
 pub record IsOfForms (text regular : List ℕ) (arguments : List Argument) : Type 0 where
@@ -40,6 +49,14 @@ pub record IsOfForms (text regular : List ℕ) (arguments : List Argument) : Typ
   pub kept : KeepsForms text regular
   pub sound : InventsNone text regular
   pub options : IsOfOptions (unfolded (lines_of regular)) arguments
+
+-- The arguments of a text: the options of its option lines, and those of its usage that no option
+-- line names.
+pub record AreOptionsOf (text : List ℕ) (arguments : List Argument) : Type 0 where
+  pub said : List ℕ
+  pub regular : List ℕ
+  pub usage : IsWithUsage text said
+  pub forms : IsOfForms said regular arguments
 
 -- the subcommands of a text that a program printed: each entry of a section of commands, each name
 -- once, and no other
@@ -94,7 +111,7 @@ program_path name (byte ∷ path) = path_below name (byte ∷ path)
 -- a text of the program `name` is read as its arguments and subcommands
 pub record IsReadFrom (name : List ℕ) (text : HelpText) (read : ReadText)
     (arguments : List Argument) : Type 0 where
-  pub options : (regular : List ℕ) × IsOfForms (shown_text text.text) regular arguments
+  pub options : AreOptionsOf (shown_text text.text) arguments
   pub made : read.arguments ≡ map tree_argument arguments
   pub labels : IsOfLabels (program_path name text.path) read.arguments read.commands
       (shown_text text.text) read.positionals

@@ -9,7 +9,7 @@ ghost use Rattle.complgen_import.specs.PossibleLaws.{HaveQuietValues, HaveSaidVa
 ghost use Rattle.complgen_import.specs.TreeArguments.{tree_argument};
 ghost use Rattle.complgen_import.specs.Unfolded.{unfolded};
 ghost use Rattle.complgen_import.specs.declared.arguments.Argument.{Argument};
-ghost use Rattle.complgen_import_file.specs.Imported.{AreCleanBeside, AreRead, IsOfEntries, IsOfForms, IsOfLabels, IsOfOptions, IsRead, program_path, shown_text};
+ghost use Rattle.complgen_import_file.specs.Imported.{AreCleanBeside, AreOptionsOf, AreRead, IsOfEntries, IsOfForms, IsOfLabels, IsOfOptions, IsRead, program_path, shown_text};
 ghost use Rattle.complgen_import_file.specs.TreeTokens.{path_below, read_at};
 
 use cc_base::Items;
@@ -18,7 +18,7 @@ use complgen_import::{
     read_positionals, tree_arguments, unfold_text,
 };
 use complgen_import_forms::regular_text;
-use complgen_import_usage::usage_positionals;
+use complgen_import_usage::{usage_positionals, with_usage_options};
 use std::alloc::{AllocError, Global};
 
 /// The help text of a program, or of one of its subcommands.
@@ -153,6 +153,19 @@ fn program_path(alloc: Global, name: &[u8], path: &[u8]) -> Result<Items<u8>, Al
 
 // Returns the arguments of a clean text.
 fn options(alloc: Global, text: &[u8]) -> Result<Items<TreeArgument>, AllocError>
+    ensures read { IfOk result (λ made. (arguments : List Argument)
+        × AreOptionsOf text.now arguments × (made ≡ map tree_argument arguments)) }
+    ensures ids { IfOk result (λ made. HaveIdsOnce made) }
+    ensures said { IfOk result (λ made. HaveSaidValues made) }
+    ensures quiet { IfOk result (λ made. HaveQuietValues made) }
+    ensures once { IfOk result (λ made. HaveValuesOnce made) }
+{
+    let said = with_usage_options(alloc, text)?;
+    Ok(said_options(alloc, said.as_slice())?)
+}
+
+// Returns the arguments of a clean text that names the options of its usage in option lines.
+fn said_options(alloc: Global, text: &[u8]) -> Result<Items<TreeArgument>, AllocError>
     ensures read { IfOk result (λ made. (arguments : List Argument) × (regular : List ℕ)
         × IsOfForms text.now regular arguments × (made ≡ map tree_argument arguments)) }
     ensures ids { IfOk result (λ made. HaveIdsOnce made) }

@@ -251,7 +251,7 @@ in_piece Outside line = nothing_piece line
 in_piece (Opened indent) line = nothing_piece line
 in_piece (Within indent) line = whole_piece line
 
-usage_piece : (block : Block) (line : List ℕ) → IsPieceOf (usage_in block line) line
+pub usage_piece : (block : Block) (line : List ℕ) → IsPieceOf (usage_in block line) line
 unfolding usage_in
 usage_piece block line = by (usage_after line) refl
   where

@@ -1,3 +1,4 @@
 pub mod Spots
 pub mod UsageLines
 pub mod UsageNames
+pub mod UsageOptions

@@ -2,6 +2,7 @@
 
 ghost use Rattle.std.specs.Prelude.{◌≡◌, ◌∷◌};
 ghost use Rattle.complgen_import_usage.specs.Spots.{begins_word, edge_in_word, edge_past_bar, edge_past_opening, edge_past_space, goes_on, holds_text, is_closing, is_held, is_mark, is_name_at, is_open, is_opening, is_option, is_short, is_word_at, may_be_name, past_byte, past_held, past_mark, past_start, role_at_word, role_of_option, role_of_word, role_past_bar, role_past_closing, role_past_equals, spot_after, start};
+ghost use Rattle.complgen_import_usage.specs.UsageOptions.{is_opened};
 
 use complgen_import::after;
 
@@ -160,8 +161,8 @@ impl Spot {
 }
 
 impl Edge {
-    // Returns whether the text begins with a word.
-    fn is_word_at(self, text: &[u8]) -> bool
+    /// Returns whether the text begins with a word.
+    pub(crate) fn is_word_at(self, text: &[u8]) -> bool
         ensures { result ≡ is_word_at self text.now }
     {
         self.is_open() && begins_word(text)
@@ -172,6 +173,14 @@ impl Edge {
         ensures { result ≡ is_open self }
     {
         matches!(self, Edge::Opened | Edge::Apart)
+    }
+
+    /// Returns whether a word would be the first in brackets, or after a bar there.
+    #[tactic(auto, unfolding(crate::specs::UsageOptions::is_opened))]
+    pub(crate) fn is_opened(self) -> bool
+        ensures { result ≡ is_opened self }
+    {
+        matches!(self, Edge::Opened)
     }
 
     #[tactic(auto, unfolding(crate::specs::Spots::is_held))]
@@ -304,8 +313,9 @@ fn holds_text(text: &[u8]) -> bool
     }
 }
 
+/// Returns whether the text begins with an option.
 #[tactic(auto, unfolding(crate::specs::Spots::is_option))]
-fn is_option(text: &[u8]) -> bool
+pub(crate) fn is_option(text: &[u8]) -> bool
     ensures { result ≡ is_option text.now }
 {
     match after(b"--", text) {
@@ -335,13 +345,15 @@ fn goes_on(text: &[u8]) -> bool
     }
 }
 
-fn is_opening(byte: u8) -> bool
+/// Returns whether the byte opens brackets.
+pub(crate) fn is_opening(byte: u8) -> bool
     ensures { result ≡ is_opening byte }
 {
     matches!(byte, b'[' | b'(' | b'{')
 }
 
-fn is_closing(byte: u8) -> bool
+/// Returns whether the byte closes brackets.
+pub(crate) fn is_closing(byte: u8) -> bool
     ensures { result ≡ is_closing byte }
 {
     matches!(byte, b']' | b')' | b'}')

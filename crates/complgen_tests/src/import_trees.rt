@@ -212,3 +212,62 @@ fn a_text_makes_a_tree_of_its_own(rt: HostRuntime) {
     let tree = import_text(rt.alloc(), "sew", text).expect(&rt, "no tree");
     assert_eq!(rt; tree.as_slice(), wanted.as_slice());
 }
+
+// `-v` has a line of its own, so its help text stays.
+const LISTED: &[u8] = b"usage: sew [-qX] [-o FILE] [-v | --verbose] [--level[=N]] -x [-words] cloth
+
+  -v  Says more
+";
+
+const LISTED_TREE: &[u8] = br#"{
+  "name": "sew",
+  "disable_help_flag": true,
+  "args": [
+    {
+      "id": "-v",
+      "short": "v",
+      "action": "SetTrue",
+      "help": "Says more"
+    },
+    {
+      "id": "-q",
+      "short": "q",
+      "action": "SetTrue"
+    },
+    {
+      "id": "-X",
+      "short": "X",
+      "action": "SetTrue"
+    },
+    {
+      "id": "-o",
+      "short": "o",
+      "value_names": [
+        "FILE"
+      ],
+      "value_hint": "FilePath"
+    },
+    {
+      "id": "verbose",
+      "long": "verbose",
+      "action": "SetTrue"
+    },
+    {
+      "id": "level",
+      "long": "level",
+      "value_names": [
+        "N"
+      ],
+      "num_args": [
+        0,
+        1
+      ]
+    }
+  ]
+}"#;
+
+#[test]
+fn options_of_a_usage_come_after_option_lines(rt: HostRuntime) {
+    let tree = import_text(rt.alloc(), "sew", LISTED).expect(&rt, "no tree");
+    assert_eq!(rt; tree.as_slice(), LISTED_TREE);
+}

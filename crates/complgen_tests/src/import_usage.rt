@@ -1,7 +1,7 @@
-//! The positionals in the usage of help texts.
+//! The positionals and options in the usage of help texts.
 
 use complgen_import::TreeArgument;
-use complgen_import_usage::usage_positionals;
+use complgen_import_usage::{usage_positionals, with_usage_options};
 use std::alloc::{AllocError, Global};
 use std::process::Abort;
 
@@ -53,4 +53,40 @@ Options:
   -t <DIR>
 ";
     says(&rt, rt.alloc(), text, b"FILES FilePath +\n");
+}
+
+// Fails unless these option lines follow the text.
+fn adds(rt: &impl Abort, alloc: Global, text: &str, wanted: &str) {
+    let made = with_usage_options(alloc, text.as_bytes()).expect(rt, "no text");
+    let mut all = Vec::from_slice(alloc, text.as_bytes()).expect(rt, "no text");
+    all.extend_from_slice(b"\n\n").expect(rt, "no text");
+    all.extend_from_slice(wanted.as_bytes())
+        .expect(rt, "no text");
+    assert_eq!(rt; made.as_slice(), all.as_slice());
+}
+
+#[test]
+fn options_in_a_usage(rt: HostRuntime) {
+    let text = "usage: sew [-abC] [-o FILE] [-v | --verbose] [--color[=WHEN]] FILE...";
+    let wanted = "  -a  \n  -b  \n  -C  \n  -o FILE  \n  -v  \n  --verbose  \n  --color[=WHEN]  \n";
+    adds(&rt, rt.alloc(), text, wanted);
+    let text = "usage: git [-C <path>] [-c <name>=<value>]
+           [--exec-path[=<path>]] [-p | --no-pager] [-w local[:remote]]
+           <command> [<args>]";
+    let wanted =
+        "  -C <path>  \n  -c <name>=<value>  \n  --exec-path[=<path>]  \n  -p  \n  --no-pager  \n  -w local[:remote]  \n";
+    adds(&rt, rt.alloc(), text, wanted);
+}
+
+#[test]
+fn a_word_after_one_hyphen_is_no_cluster(rt: HostRuntime) {
+    let text = "usage: sew [-help] [-dry] -x [ -4 | -6 ] (-q|-s)";
+    let wanted = "  -help  \n  -d  \n  -r  \n  -y  \n  -4  \n  -6  \n  -q  \n  -s  \n";
+    adds(&rt, rt.alloc(), text, wanted);
+    adds(
+        &rt,
+        rt.alloc(),
+        "usage: sew [-dry]\n\n -help  Prints help",
+        "  -dry  \n",
+    );
 }
