@@ -10,6 +10,7 @@ ghost use Rattle.cc_lines.specs.SystemLines.{SystemGives};
 ghost use Rattle.cc_program.specs.Requests.{TriesSome, system_facts};
 ghost use Rattle.cc_replies.specs.Environment.{value_of};
 
+use crate::environment::{directories, environment};
 use cc_asking::{Called, try_complete_asking};
 use cc_base::{CandidateSources, Error, Sink};
 use cc_candidates::Completers;
@@ -18,24 +19,10 @@ use cc_engine::Sources;
 use cc_env::{CompleteEnv, SafeShell};
 use cc_lines::SystemLines;
 use cc_paths::{Folder, RealFolder};
-use cc_replies::{home, variables};
 use std::alloc::Global;
-use std::env::{self, Env};
+use std::env::Env;
 use std::io::Input;
 use std::rt::Files;
-
-// The variables by which a shell asks, by the safe registration or by one of the original's form;
-// the one by which a user turns commands off; and the one that lists the directories of programs.
-pub(crate) const VARIABLES: [&str; 8] = [
-    "COMPLETE",
-    "_COMPLGEN_VALUES",
-    "_COMPLGEN_KEPT",
-    "_COMPLGEN_QUOTE",
-    "_CLAP_COMPLETE_INDEX",
-    "_CLAP_IFS",
-    "COMPLGEN_COMMANDS",
-    "PATH",
-];
 
 /// Writes what a shell asks for by the environment to `out`, through the safe adapters, and returns
 /// the exit status with which the program then ends: 0 after a reply or a registration, and 3 after
@@ -69,9 +56,10 @@ where
         completers.now (system_facts home) current)) SystemGives (value_of variable env))
         out.old out.new result) }
 {
-    let variables = variables(rt, &VARIABLES)?;
-    let folder = RealFolder::new(rt, home(rt)?);
-    let current = env::current_dir(rt).ok();
+    let variables = environment(rt)?;
+    let found = directories(rt, &variables)?;
+    let (home, current) = found;
+    let folder = RealFolder::new(rt, home);
     let current_dir = current.as_ref().map(|path| path.as_str());
     let called = Called {
         args: words,

@@ -23,6 +23,7 @@ mod commands;
 mod completing;
 mod description;
 mod ending;
+mod environment;
 mod failure;
 mod over;
 mod parsing;

@@ -10,7 +10,7 @@ ghost use Rattle.cc_program.specs.Seen.{Seen};
 ghost use Rattle.cc_program.specs.Statuses.{IsOfWords};
 ghost use Rattle.cc_program.specs.declared.streams.Streams.{Streams as StreamsOf};
 
-use crate::completing::VARIABLES;
+use crate::environment::{directories, environment};
 use crate::failure::Failure;
 use crate::over::{Program, run_over};
 use crate::streams::{ErrorWriter, Streams};
@@ -23,10 +23,10 @@ use cc_engine::Sources;
 use cc_env::CompleteEnv;
 use cc_lines::SystemLines;
 use cc_paths::{Folder, RealFolder};
-use cc_replies::{home, variables, words};
+use cc_replies::words;
 use clap::ArgMatches;
 use std::alloc::Global;
-use std::env::{self, Env};
+use std::env::Env;
 use std::io::{self, Input};
 use std::process::ExitCode;
 use std::rt::Files;
@@ -36,7 +36,8 @@ use std::rt::Files;
 /// tree, `completers` are those that its arguments name, and `carry_out` does the program's own
 /// work on the matches.
 ///
-/// The words and the environment are read once. If the values of an argument come from a command, a
+/// The words and the environment are read once; the current directory and the user's home directory
+/// only if a shell requests something. If the values of an argument come from a command, a
 /// file or a hint, `SystemLines` reads them. Replies, registrations, help texts and the version go
 /// to the standard output, and messages about mistakes to the standard error.
 ///
@@ -68,9 +69,10 @@ where
         current) words env current variable bin completer shells new ended) result }
 {
     let words = read_words(rt)?;
-    let variables = variables(rt, &VARIABLES)?;
-    let folder = RealFolder::new(rt, home(rt)?);
-    let current = env::current_dir(rt).ok();
+    let variables = environment(rt)?;
+    let found = directories(rt, &variables)?;
+    let (home, current) = found;
+    let folder = RealFolder::new(rt, home);
     let current_dir = current.as_ref().map(|path| path.as_str());
     let called = Called {
         args: words.as_slice(),

@@ -12,6 +12,7 @@ use complgen_live::{
     BadTree, OWN_TREE, Origin, ReplyError, Request, command_name, known_names, reply,
     request_words, tree_folders, tree_paths, write_registrations,
 };
+use complgen_tree_file::Release;
 use std::alloc::{AllocError, Global};
 use std::borrow::CowStr;
 use std::convert::AsStr;
@@ -120,6 +121,7 @@ fn write_answer<'r, R: Files + Input + AllocGlobal, D: Folder, W: Sink>(
         file,
         current_dir,
         folder,
+        release: Release::AtExit,
     };
     let lines = SystemLines {
         rt,

@@ -20,6 +20,7 @@ use cc_base::{Collected, Error, Items, Text};
 use cc_replies::EnvValues;
 use complgen_commands::{Refusal, error_refusal};
 use complgen_live::{Origin, ReplyError, Request, answer_request};
+use complgen_tree_file::Release;
 use std::alloc::{AllocError, Global};
 
 // The variable with the path of the user's home directory.
@@ -150,6 +151,7 @@ fn answer_in(
         file: Some(passed.tree),
         current_dir: env.get(CURRENT_DIR),
         folder: &folder,
+        release: Release::AtOnce,
     };
     let lines = PassedLines {
         bytes: passed.output,

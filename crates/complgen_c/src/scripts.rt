@@ -8,6 +8,7 @@ ghost use Rattle.complgen_c.specs.Scripts.{MakesScript};
 use crate::outcome::Outcome;
 use cc_base::{Collected, Items, Sink};
 use complgen_commands::{Refusal, script};
+use complgen_tree_file::Release;
 use std::alloc::{AllocError, Global};
 
 /// Makes the script for the shell with the name `shell`, of the command in the tree file `tree`,
@@ -42,7 +43,7 @@ fn make_script(alloc: Global, shell: &[u8], bin: &[u8], tree: &[u8]) -> Outcome
         return Outcome::NotUtf8;
     };
     let mut sink = Collected::new(alloc);
-    match script(alloc, shell, bin, Some(tree), &mut sink) {
+    match script(alloc, shell, bin, Some(tree), Release::AtOnce, &mut sink) {
         Ok(()) => Outcome::Made(Items::from(sink.into_vec())),
         Err(refusal) => Outcome::Failed(in_memory(refusal, &sink)),
     }

@@ -8,14 +8,16 @@ ghost use Rattle.complgen_commands.specs.Writing.{Finishes};
 
 use crate::refusals::{Refusal, error_refusal};
 use crate::shells::shell_of;
-use crate::tree_files::tree;
+use crate::tree_files::tree_and_release;
 use cc_base::Sink;
 use cc_generator::generate;
 use cc_shell::Shell;
+use complgen_tree_file::{Release, release};
 use std::alloc::Global;
 
 /// Writes the script for the shell named `shell` to `out`. `file` has the bytes of the tree file,
-/// or is `None` if it cannot be read. The command is built under the name `bin`.
+/// or is `None` if it cannot be read. The command is built under the name `bin`. `when` tells when
+/// the memory of the tree is released.
 ///
 /// # Errors
 ///
@@ -26,6 +28,7 @@ pub fn script<W: Sink>(
     shell: &str,
     bin: &str,
     file: Option<&[u8]>,
+    when: Release,
     out: &mut W,
 ) -> Result<(), Refusal>
     ensures ends { EndsScript W.taken W.failed shell.now bin.now (option_copied file.entry)
@@ -34,7 +37,7 @@ pub fn script<W: Sink>(
         (NamedScriptReads shell.now bin.now (option_copied file.entry)) }
 {
     let shell = shell_of(alloc, shell)?;
-    script_by(alloc, shell, bin, file, out)
+    script_by(alloc, shell, bin, file, when, out)
 }
 
 // Writes the script for `shell` of the command in a tree file.
@@ -43,15 +46,18 @@ fn script_by<W: Sink>(
     shell: Shell,
     bin: &str,
     file: Option<&[u8]>,
+    when: Release,
     out: &mut W,
 ) -> Result<(), Refusal>
     ensures ends { Finishes W.taken W.failed true (SharesLabel shell bin.now)
         (IsScript shell bin.now) out.old out.new (option_copied file.entry) result }
     ensures read_back { OnOk result (ScriptReads shell bin.now (option_copied file.entry)) }
 {
-    let mut command = tree(alloc, file)?;
+    let mut command = tree_and_release(alloc, file, when)?;
     let bin = String::from_str(alloc, bin)?;
-    match generate(alloc, shell, &mut command, bin, out) {
+    let written = generate(alloc, shell, &mut command, bin, out);
+    release(command, when);
+    match written {
         Ok(()) => Ok(()),
         Err(error) => Err(error_refusal(alloc, &error)),
     }

@@ -11,6 +11,7 @@ use crate::registrations::register;
 use crate::replies::reply;
 use cc_base::Sink;
 use cc_paths::Folder;
+use complgen_tree_file::Release;
 use std::alloc::Global;
 
 const OTHER_PLAN: &str = "plan: not carried out by run\n";
@@ -104,7 +105,8 @@ impl Plan {
 
 /// Carries out a plan of `script`, `register` or `candidates` over the bytes of its tree file, or
 /// `None` if that file cannot be read, and writes to `out`. Looks up the shell before it parses the
-/// tree. Completes paths from `folder`, in which the current directory is `.`.
+/// tree. Completes paths from `folder`, in which the current directory is `.`. Leaves the memory of
+/// the tree to the end of the process.
 ///
 /// # Errors
 ///
@@ -122,7 +124,16 @@ pub fn run<D: Folder, W: Sink>(
     ensures read_back { OnOk result (ReadsBack plan.now (option_copied file.entry)) }
 {
     match plan {
-        Plan::Script(shell, bin, _) => script(alloc, shell.as_str(), bin.as_str(), file, out),
+        Plan::Script(shell, bin, _) => {
+            script(
+                alloc,
+                shell.as_str(),
+                bin.as_str(),
+                file,
+                Release::AtExit,
+                out,
+            )
+        }
         Plan::Register(shell, bin, _) => register(alloc, shell.as_str(), bin.as_str(), file, out),
         Plan::Candidates(index, _, words) => {
             reply(alloc, words.as_slice(), *index, file, folder, out)

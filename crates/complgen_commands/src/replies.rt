@@ -7,20 +7,22 @@ ghost use Rattle.complgen_commands.specs.Ends.{EndsReply};
 ghost use Rattle.complgen_commands.specs.Replies.{AreFound, FindsNone};
 
 use crate::refusals::{Refusal, error_refusal};
-use crate::tree_files::tree;
+use crate::tree_files::tree_and_release;
 use cc_base::{Error, Sink};
 use cc_candidates::{Completers, CompletionCandidate};
 use cc_command::Command;
 use cc_engine::complete;
 use cc_paths::Folder;
 use cc_replies::write_lines;
+use complgen_tree_file::{Release, release};
 use std::alloc::{AllocError, Global};
 
 /// The directory in which relative paths begin.
 pub(crate) const CURRENT_DIR: &str = ".";
 
 /// Writes the candidates for the word of `words` at `index` to `out`, in the form of a reply to
-/// fish. `file` has the bytes of the tree file, or is `None` if it cannot be read.
+/// fish. `file` has the bytes of the tree file, or is `None` if it cannot be read. Leaves the memory
+/// of the tree to the end of the process.
 ///
 /// # Errors
 ///
@@ -37,7 +39,7 @@ pub(crate) fn reply<D: Folder, W: Sink>(
     ensures { EndsReply W.taken W.failed (PathsOf (D.facts folder.now) (Some (codes ".")))
         (map string_bytes words.now) index (option_copied file.entry) out.old out.new result }
 {
-    let command = tree(alloc, file)?;
+    let command = tree_and_release(alloc, file, Release::AtExit)?;
     let words = copies(alloc, words)?;
     let found = match candidates(alloc, command, words, index, folder) {
         Ok(found) => found,
@@ -76,7 +78,7 @@ fn candidates<D: Folder>(
         (map string_bytes words.items) index command found.items) }
     ensures err { IfErr result (FindsNone (length words.items) index command) }
 {
-    complete(
+    let found = complete(
         alloc,
         &mut command,
         words,
@@ -84,5 +86,7 @@ fn candidates<D: Folder>(
         Some(CURRENT_DIR),
         folder,
         &Completers::none(alloc),
-    )
+    );
+    release(command, Release::AtExit);
+    found
 }

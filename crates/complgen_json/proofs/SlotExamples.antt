@@ -21,7 +21,7 @@ in_no_object : values_at keys (string (codes "id")) ≡ None ∷ None ∷ None �
 unfolding serde_json_on_literals
 in_no_object = refl
 
--- the last value of a key that stands twice counts
+-- the last value of a key that is there twice counts
 the_last : members_at keys (put (codes "id") null (put (codes "id") (boolean true) no_members))
     ≡ Some null ∷ None ∷ None ∷ []
 unfolding serde_json_on_literals

@@ -1,6 +1,6 @@
 -- The values at some keys of an object, each in a slot.
-use Rattle.std.specs.Prelude.{◌≡◌, ◌&&◌, ◌≤◌, ◌<◌, ◌++◌, ℕ, List, [], ◌∷◌, Bool, true, not, map, length}
-use Rattle.std.specs.Prelude.{Option, get_or, option_map}
+use Rattle.std.specs.Prelude.{◌≡◌, ◌&&◌, ◌++◌, ℕ, List, [], ◌∷◌, Bool, true, not, map}
+use Rattle.std.specs.Prelude.{Option, option_map}
 use Rattle.std.specs.Borrow.{Bor}
 use Rattle.std.specs.List.{list_any}
 use Rattle.std.specs.Str.{bytes_eq}
@@ -26,7 +26,7 @@ members_at keys ms = map (λ key. get_member key ms) keys
 abbrev pub values_at : List (List ℕ) → Data → List (Option Data)
 values_at keys d = map (λ key. get key d) keys
 
--- no key stands twice
+-- each key is in the list once
 abbrev pub are_distinct : List (List ℕ) → Bool
 are_distinct [] = true
 are_distinct (key ∷ keys) = not (list_any (λ other. bytes_eq other key) keys) && are_distinct keys
@@ -34,7 +34,3 @@ are_distinct (key ∷ keys) = not (list_any (λ other. bytes_eq other key) keys)
 -- the first slots hold these values
 abbrev pub Hold : List (Option (Bor (Value Global))) → List (Option Data) → Type 0
 Hold slots values = (rest : List (Option Data)) × (all_held slots ≡ values ++ rest)
-
--- the key stands at the index
-abbrev pub IsKeyAt : List (List ℕ) → ℕ → List ℕ → Type 0
-IsKeyAt keys index key = (index < length keys) × (get_or keys index [] ≡ key)

@@ -8,6 +8,7 @@ ghost use Rattle.complgen_live.specs.Requests.{begins_request, is_request, names
 ghost use Rattle.complgen_live.specs.Requests.{request_words};
 
 use cc_replies::EnvValues;
+use complgen_tree_file::Release;
 
 /// Where a tree comes from.
 #[derive(Clone, Copy, Drop)]
@@ -47,6 +48,8 @@ pub struct Request<'r, D> {
     pub current_dir: Option<&'r str>,
     /// The folder whose paths complete the values of value hints.
     pub folder: &'r D,
+    /// When the memory of the tree file's JSON is released.
+    pub release: Release,
 }
 
 /// Returns whether a shell requests registrations or candidates. In a request, the variable

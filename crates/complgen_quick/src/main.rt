@@ -9,6 +9,7 @@ use cc_base::Counted;
 use complgen_check::{Report, check};
 use complgen_command_line::plan;
 use complgen_commands::{Plan, Refusal, script, unreadable};
+use complgen_tree_file::Release;
 use std::alloc::AllocError;
 use std::convert::AsStr;
 use std::env::{self, Env};
@@ -55,7 +56,8 @@ fn carry_out_plan<R: Files + Print + AllocGlobal>(
     let mut out = Counted::new(io::writer(rt));
     match plan {
         Plan::Script(shell, bin, _) => {
-            script(alloc, shell.as_str(), bin.as_str(), file, &mut out)?;
+            let (shell, bin) = (shell.as_str(), bin.as_str());
+            script(alloc, shell, bin, file, Release::AtExit, &mut out)?;
             Ok(0)
         }
         Plan::Check { bin, json, tree } => {

@@ -7,6 +7,7 @@ use cc_fixtures::words::to_strings;
 use cc_paths::MemoryFolder;
 use cc_replies::EnvValues;
 use complgen_live::{Origin, Request, reply};
+use complgen_tree_file::Release;
 use std::alloc::{AllocError, Global};
 
 const TREE: &str = r#"{"name": "app", "disable_help_flag": true, "args": [
@@ -59,6 +60,7 @@ fn answer(
         file: Some(TREE.as_bytes()),
         current_dir: None,
         folder: &folder,
+        release: Release::AtOnce,
     };
     let mut out = Collected::new(alloc);
     let lines = Fixed("main\tthe branch\ntopic\n");

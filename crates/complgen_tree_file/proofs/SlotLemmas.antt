@@ -29,7 +29,7 @@ held_at slots keys d k holds is_key =
     ∙ get_or_append_left (values_at keys d) holds.0 None k keyed
     ∙ get_or-map (λ key. get key d) keys k [] None inside
 
--- whether the keys of some settings stand in a list from an index on
+-- whether the keys of some settings follow each other in a list from an index on
 abbrev pub stand_from : {S : Type 0} → ℕ → List (Setting S) → List (List ℕ) → Bool
 stand_from k [] keys = true
 stand_from k (one ∷ settings) keys =

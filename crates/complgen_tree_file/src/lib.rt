@@ -11,6 +11,7 @@ mod faults;
 mod keys;
 mod kinds;
 mod possible_values;
+mod release;
 mod sources;
 mod values;
 
@@ -25,6 +26,7 @@ pub use crate::error::TreeError;
 pub use crate::faults::{Fault, FaultKind, Faults, SourceFault, Step};
 pub use crate::kinds::{ObjectKind, ValueKind};
 pub use crate::possible_values::possible_value_faults;
+pub use crate::release::{Release, release};
 use cc_command::Command;
 use complgen_json::{JsonError, Scratch, Value, read_value};
 use std::alloc::Global;
@@ -40,19 +42,37 @@ use std::alloc::Global;
 pub fn read_tree(alloc: Global, bytes: &[u8]) -> Result<Command, TreeError>
     ensures { ReadsTree bytes.now result }
 {
+    read_tree_and_release(alloc, bytes, Release::AtOnce)
+}
+
+/// Returns the command that the bytes of a tree file describe, as `read_tree` does. `when` tells
+/// when the memory of the JSON is released.
+///
+/// # Errors
+///
+/// Those of `read_tree`.
+pub fn read_tree_and_release(
+    alloc: Global,
+    bytes: &[u8],
+    when: Release,
+) -> Result<Command, TreeError>
+    ensures { ReadsTree bytes.now result }
+{
     match std::str::from_utf8(bytes) {
-        Ok(text) => read_command(alloc, text),
+        Ok(text) => read_command(alloc, text, when),
         Err(_) => Err(TreeError::NotJson),
     }
 }
 
 // Returns the command that a text describes.
-fn read_command(alloc: Global, text: &str) -> Result<Command, TreeError>
+fn read_command(alloc: Global, text: &str, when: Release) -> Result<Command, TreeError>
     ensures { ReadsTree text.now result }
 {
     let mut scratch = Scratch::new(alloc);
     let tree = value(alloc, text, &mut scratch)?;
-    commands::command(alloc, &tree)
+    let command = commands::command(alloc, &tree);
+    release(tree, when);
+    command
 }
 
 /// Returns the command that the value `tree` describes.

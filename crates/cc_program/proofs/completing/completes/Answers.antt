@@ -9,9 +9,9 @@ returns-in_err-variables g c =
     let p = err_from_is_err_and c.from_residual.result c.from_residual.ensures.1 in
     out_of_memory (p.1 ∙ ap Err p.2) refl
 
-pub returns-in_err-home : goal.returns-in_err-home
-returns-in_err-home g c =
-    let p = err_from_is_err_and c.from_residual-in_err-home.result c.from_residual-in_err-home.ensures.1 in
+pub returns-in_err-found : goal.returns-in_err-found
+returns-in_err-found g c =
+    let p = err_from_is_err_and c.from_residual-in_err-found.result c.from_residual-in_err-found.ensures.1 in
     out_of_memory (p.1 ∙ ap Err p.2) refl
 
 pub returns : goal.returns

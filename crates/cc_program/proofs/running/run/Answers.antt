@@ -13,9 +13,9 @@ returns-in_err-variables g c =
     let p = err_from_is_err_and c.from_residual-in_err-variables.result c.from_residual-in_err-variables.ensures.1 in
     rw (p.1, p.2) no_environment
 
-pub returns-in_err-home : goal.returns-in_err-home
-returns-in_err-home g c =
-    let p = err_from_is_err_and c.from_residual-in_err-home.result c.from_residual-in_err-home.ensures.1 in
+pub returns-in_err-found : goal.returns-in_err-found
+returns-in_err-found g c =
+    let p = err_from_is_err_and c.from_residual-in_err-found.result c.from_residual-in_err-found.ensures.1 in
     rw (p.1, p.2) no_environment
 
 pub returns : goal.returns

@@ -1,0 +1,60 @@
+//! What a completion depends on besides the words: environment variables and two directories. They
+//! are read only if a shell requests something.
+
+ghost use Rattle.std.specs.Prelude.{◌≡◌, IfOk, None, codes};
+ghost use Rattle.cc_replies.specs.Environment.{value_of};
+
+use cc_replies::{EnvValues, home, variables};
+use std::alloc::AllocError;
+use std::env::{self, Env};
+use std::path::PathBuf;
+
+// The variable by which a shell requests something.
+const REQUEST: &str = "COMPLETE";
+
+// The variables by which a shell requests something, by the safe registration or by one of the
+// original's form; the one by which a user turns commands off; and the one that lists the
+// directories of programs.
+const VARIABLES: [&str; 8] = [
+    REQUEST,
+    "_COMPLGEN_VALUES",
+    "_COMPLGEN_KEPT",
+    "_COMPLGEN_QUOTE",
+    "_CLAP_COMPLETE_INDEX",
+    "_CLAP_IFS",
+    "COMPLGEN_COMMANDS",
+    "PATH",
+];
+
+/// Returns the environment variables that a completion depends on, or none if no shell requests
+/// something.
+///
+/// # Errors
+///
+/// `AllocError` if an allocation fails.
+pub(crate) fn environment<R: Env + AllocGlobal>(rt: &R) -> Result<EnvValues, AllocError> {
+    let requested = variables(rt, &[REQUEST])?;
+    if requested.get(REQUEST).is_none() {
+        return Ok(requested);
+    }
+    variables(rt, &VARIABLES)
+}
+
+/// Returns the user's home directory and the current directory, as far as they are known. Without a
+/// request in `variables`, reads neither.
+///
+/// # Errors
+///
+/// `AllocError` if an allocation fails.
+pub(crate) fn directories<R: Env + AllocGlobal>(
+    rt: &R,
+    variables: &EnvValues,
+) -> Result<(Option<String>, Option<PathBuf>), AllocError>
+    ensures { IfOk result (λ found. value_of (codes "COMPLETE") variables.now ≡ None
+        → found ≡ (None, None)) }
+{
+    if variables.get(REQUEST).is_none() {
+        return Ok((None, None));
+    }
+    Ok((home(rt)?, env::current_dir(rt).ok()))
+}
