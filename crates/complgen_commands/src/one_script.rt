@@ -12,7 +12,7 @@ use crate::tree_files::tree_and_release;
 use cc_base::Sink;
 use cc_generator::generate;
 use cc_shell::Shell;
-use complgen_tree_file::{Release, release};
+use complgen_tree_file::{Release, discard};
 use std::alloc::Global;
 
 /// Writes the script for the shell named `shell` to `out`. `file` has the bytes of the tree file,
@@ -56,7 +56,7 @@ fn script_by<W: Sink>(
     let mut command = tree_and_release(alloc, file, when)?;
     let bin = String::from_str(alloc, bin)?;
     let written = generate(alloc, shell, &mut command, bin, out);
-    release(command, when);
+    discard(command, when);
     match written {
         Ok(()) => Ok(()),
         Err(error) => Err(error_refusal(alloc, &error)),

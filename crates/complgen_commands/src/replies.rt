@@ -14,7 +14,7 @@ use cc_command::Command;
 use cc_engine::complete;
 use cc_paths::Folder;
 use cc_replies::write_lines;
-use complgen_tree_file::{Release, release};
+use complgen_tree_file::{Release, discard};
 use std::alloc::{AllocError, Global};
 
 /// The directory in which relative paths begin.
@@ -87,6 +87,6 @@ fn candidates<D: Folder>(
         folder,
         &Completers::none(alloc),
     );
-    release(command, Release::AtExit);
+    discard(command, Release::AtExit);
     found
 }

@@ -26,7 +26,7 @@ pub use crate::error::TreeError;
 pub use crate::faults::{Fault, FaultKind, Faults, SourceFault, Step};
 pub use crate::kinds::{ObjectKind, ValueKind};
 pub use crate::possible_values::possible_value_faults;
-pub use crate::release::{Release, release};
+pub use crate::release::{Release, discard};
 use cc_command::Command;
 use complgen_json::{JsonError, Scratch, Value, read_value};
 use std::alloc::Global;
@@ -71,7 +71,7 @@ fn read_command(alloc: Global, text: &str, when: Release) -> Result<Command, Tre
     let mut scratch = Scratch::new(alloc);
     let tree = value(alloc, text, &mut scratch)?;
     let command = commands::command(alloc, &tree);
-    release(tree, when);
+    discard(tree, when);
     command
 }
 

@@ -12,7 +12,7 @@ pub enum Release {
 }
 
 /// Drops `value`, or leaves its memory in use until the process exits.
-pub fn release<T: Drop>(value: T, when: Release) {
+pub fn discard<T: Drop>(value: T, when: Release) {
     match when {
         Release::AtOnce => drop(value),
         Release::AtExit => forget(value),
