@@ -92,8 +92,8 @@ CALLS = {
         are_readable_entries
     """,
     "parser": """
-        parser ; fits_parser ; has_globals ; is_parsed_exactly ; candidates_and_parser
-        candidates_and_reached_parser
+        parser ; local_parser ; fits_parser ; has_globals ; is_parsed_exactly
+        candidates_and_parser ; candidates_and_reached_parser
     """,
     "describe": """
         ArgDescription: short values value_hint completer many required global ;

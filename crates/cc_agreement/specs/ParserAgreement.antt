@@ -11,6 +11,7 @@ use Rattle.cc_engine.specs.OpenLists.{open_lists_by}
 use Rattle.cc_gather.specs.Children.{external}
 use Rattle.cc_gather.specs.declared.options.OptionMatch.{OptionMatch}
 use Rattle.cc_gather.specs.declared.options.OptionMatch.TheVariants.{Listed, ValuesOf}
+use Rattle.cc_parser.specs.Local.{local_tree}
 use Rattle.cc_parser.specs.Parsers.{IsAppOf, has_globals}
 use Rattle.cc_parser.specs.Taken.{KnowsChild, KnowsLong, KnowsShort, TakesOffered, answers_long, answers_short, fits_parser, id_of_long, id_of_short, parsed_long, parsed_short}
 use Rattle.cc_gather.specs.Values.{MayReturn}
@@ -68,8 +69,8 @@ values_among tree state word returned =
     ++ opened_values state.pending word returned.opened))
 
 -- The words before the index lead to one node and one state, and to no others. The candidates are
--- some that may be offered there. If that node is the root, the parser of the root accepts each of
--- them.
+-- some that may be offered there. If that node is the root, each of them is a name that the parser
+-- of the root accepts, or a value.
 pub record AgreesWithParser (sources : MayReturn) (root : Tree) (app : App) (words : List (List ℕ))
     (index : ℕ) (found : List CompletionCandidate) : Type 0 where
   pub tree : Tree
@@ -81,17 +82,23 @@ pub record AgreesWithParser (sources : MayReturn) (root : Tree) (app : App) (wor
       (values_among tree state (get_or words index []) offers.0)) found
 
 -- The words before the index lead to this tree in one state, and to no other tree or state. The
--- candidates are some that may be offered there. If no argument of the tree is global and the tree
--- fits its own parser, this parser accepts each of them.
+-- candidates are some that may be offered there. If the tree fits its own parser, each of them is a
+-- name that this parser accepts, or a value.
 pub record AgreesWhereWordsLead (sources : MayReturn) (root tree : Tree) (app : App)
     (words : List (List ℕ)) (index : ℕ) (found : List CompletionCandidate) : Type 0 where
   pub state : State
   pub leads : WordsLeadTo root (words_before root.node words index) tree state
   pub only : WordsLeadOnlyTo root (words_before root.node words index) tree state
   pub offers : Offers sources tree state (get_or words index []) found
-  pub taken : has_globals tree ≡ false → fits_parser tree ≡ true
-      → AllByRecursion (IsTaken tree app (get_or words index [])
+  pub taken : fits_parser tree ≡ true → AllByRecursion (IsTaken tree app (get_or words index [])
       (values_among tree state (get_or words index []) offers.0)) found
+
+-- The parser with this reading is that of the tree in which no argument is global. `globals` tells
+-- whether it has some.
+pub record IsLocalParserOf (tree : Tree) (app : App) (globals : Bool) : Type 0 where
+  pub is : IsAppOf (local_tree true tree) app
+  pub no_globals : globals ≡ false
+  pub taken : fits_parser tree ≡ true → TakesOffered tree app
 
 -- The parser with this reading is the parser of the tree, if the tree has no global arguments.
 -- `globals` tells whether it has some.

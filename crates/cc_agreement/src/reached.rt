@@ -6,7 +6,7 @@ ghost use Rattle.clap.specs.declared.builder.command.Command.TheViews.{out-Comma
 ghost use Rattle.cc_command.specs.Built.{built_tree};
 ghost use Rattle.cc_engine.specs.Completion.{Completes, is_in_range, words_before};
 ghost use Rattle.cc_gather.specs.Finished.{Differ};
-ghost use Rattle.cc_agreement.specs.ParserAgreement.{AgreesWhereWordsLead, IsParserOf, RefusesBoth};
+ghost use Rattle.cc_agreement.specs.ParserAgreement.{AgreesWhereWordsLead, IsLocalParserOf, RefusesBoth};
 ghost use Rattle.cc_agreement.specs.Reached.{reached};
 
 use bumpalo::Bump;
@@ -14,17 +14,16 @@ use cc_base::Error;
 use cc_candidates::CompletionCandidate;
 use cc_command::Command;
 use cc_engine::{Lookup, complete_from, words_before};
-use cc_parser::parser;
+use cc_parser::local_parser;
 use std::alloc::{AllocError, Global};
 
 /// Builds `command` and returns the candidates for the word at `index`, as `complete_from` does,
-/// the parser of the command to which the words before it lead, as `parser` does, and that command.
-/// The parser is in `store`.
+/// the parser of the command to which the words before it lead, as `local_parser` does, and that
+/// command. The parser is in `store`.
 ///
-/// If no argument of this command, or of a command below it, is global, and it fits its parser, the
-/// two agree. Each candidate is then a name that this parser accepts, with the id of its argument,
-/// or the value of an argument. Call `has_globals` and `fits_parser` on the returned command to test
-/// that. Building gives a command the global arguments of the commands above it.
+/// If the command fits its parser, the two agree. Each candidate is then a name that this parser
+/// knows, with the id of its argument, or the value of an argument. Call `fits_parser` on the
+/// returned command to test that. Global arguments of the commands above it are its own there.
 ///
 /// # Errors
 ///
@@ -43,7 +42,7 @@ pub fn candidates_and_reached_parser<'a, L: Lookup>(
     ensures differ { IfOk result (λ all. Differ all.0.items) }
     ensures in_range { OnOk result
         (is_in_range (built_tree command.old).node (length words.items) index ≡ true) }
-    ensures parser { IfOk result (λ all. IsParserOf
+    ensures parser { IfOk result (λ all. IsLocalParserOf
         all.2.now (app_of all.1) (out-Command all.1).has_globals) }
     ensures agree { IfOk result (λ all. AgreesWhereWordsLead (L.may_return lookup.now)
         (built_tree command.old) all.2.now (app_of all.1) (map string_bytes words.items) index
@@ -54,7 +53,7 @@ pub fn candidates_and_reached_parser<'a, L: Lookup>(
     let line = copies(alloc, words.as_slice())?;
     let found = complete_from(alloc, command, words, index, lookup)?;
     let reached = reached_command(&*command, line.as_slice(), index);
-    let parser = parser(alloc, store, reached)?;
+    let parser = local_parser(alloc, store, reached)?;
     Ok((found, parser, reached))
 }
 

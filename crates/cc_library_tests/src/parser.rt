@@ -198,7 +198,7 @@ fn what_is_offered_is_taken(rt: HostRuntime) {
 }
 
 // Returns the name of the command that `exec` leads to, whether it fits its parser, and the values
-// that are offered there for `word`. Then whether its parser finds `--dry-run` in `line`.
+// that are offered there for `word`. Then whether its parser accepts `line` and finds `--dry-run`.
 fn reached(alloc: Global, word: &str, line: &[&str]) -> Result<String, Error> {
     let words = to_strings(alloc, &["app", "exec", word])?;
     let mut app = app(alloc)?;
@@ -244,6 +244,20 @@ fn what_a_subcommand_offers_is_taken(rt: HostRuntime) {
         &rt,
         reached(rt.alloc(), "--d", &line),
         "run true: --dry-run: true",
+    );
+}
+
+#[test]
+fn a_global_argument_above_a_subcommand_is_taken(rt: HostRuntime) {
+    let alloc = rt.alloc();
+    let quiet = arg(alloc, &flag("quiet", "Say less").global());
+    let mut app = with_arg(app(alloc), quiet).expect(&rt, "no tree");
+    let words = to_strings(alloc, &["app", "exec", "--q"]).expect(&rt, "no memory");
+    let line = ["run", "--quiet", "--dry-run", "make"];
+    is(
+        &rt,
+        reached_of(alloc, None, &mut app, words, &line),
+        "run true: --quiet: true",
     );
 }
 

@@ -56,7 +56,7 @@ all_tidy (a ∷ args) h =
     (is_tidy a.short a.long a.index a.aliases both.0, all_tidy args both.1)
 
 -- one step of two parallel searches
-find_both : {X Y Z : Type 0} (p : X → Bool) (q : Y → Bool) (f : X → Z) (g : Y → Z) (x : X) (y : Y) (xs : List X) (ys : List Y)
+pub find_both : {X Y Z : Type 0} (p : X → Bool) (q : Y → Bool) (f : X → Z) (g : Y → Z) (x : X) (y : Y) (xs : List X) (ys : List Y)
     → p x ≡ q y → f x ≡ g y → option_map f (find p xs) ≡ option_map g (find q ys)
     → option_map f (find p (x ∷ xs)) ≡ option_map g (find q (y ∷ ys))
 find_both {X} {Y} {Z} p q f g x y xs ys same here later = go (p x) (q y) same

@@ -12,7 +12,8 @@ use cc_arg::{Arg, ArgAction, PossibleValue, ValueRange, conflicting_ids, possibl
 use cc_base::Text;
 use std::alloc::{AllocError, Global};
 
-/// Converts the argument for `clap`. Its lists are kept in `store`.
+/// Converts the argument for `clap`. It is global there if `global` is true. Its lists are kept in
+/// `store`.
 ///
 /// # Errors
 ///
@@ -21,11 +22,13 @@ pub(crate) fn argument<'a>(
     alloc: Global,
     store: &'a Bump,
     argument: &'a Arg,
+    global: bool,
 ) -> Result<clap::Arg<'a>, AllocError>
-    ensures rule { IfOk result (λ arg. IsRuleOf argument.now (rule_of arg)) }
-    ensures global { IfOk result (λ arg. arg.global ≡ argument.now.global) }
+    ensures rule { IfOk result (λ arg. IsRuleOf
+        (record argument.now { global = global }) (rule_of arg)) }
+    ensures global { IfOk result (λ arg. arg.global ≡ global) }
 {
-    let arg = with_settings(clap::Arg::new(alloc, argument.get_id()), argument);
+    let arg = with_settings(clap::Arg::new(alloc, argument.get_id()), argument, global);
     let arg = with_use(arg, argument);
     let arg = with_default(arg, argument.get_default_value());
     let arg = with_texts(arg, argument);
@@ -37,15 +40,16 @@ pub(crate) fn argument<'a>(
 }
 
 // Adds the settings that change how words are read.
-fn with_settings<'a>(arg: clap::Arg<'a>, argument: &'a Arg) -> clap::Arg<'a>
+fn with_settings<'a>(arg: clap::Arg<'a>, argument: &'a Arg, global: bool) -> clap::Arg<'a>
     requires { (rule_of arg).is_simple ≡ true }
-    ensures rule { rule_of result
-        ≡ record (rule_of arg.entry) { is_simple = reads_simply argument.now } }
-    ensures global { result.global ≡ argument.now.global }
+    ensures rule { rule_of result ≡ record (rule_of arg.entry) {
+      is_simple = reads_simply (record argument.now { global = global });
+    } }
+    ensures global { result.global ≡ global }
 {
     let arg = arg
         .last(argument.is_last_set())
-        .global(argument.is_global_set())
+        .global(global)
         .allow_hyphen_values(argument.is_allow_hyphen_values_set());
     let arg = with_delimiter(arg, argument.get_value_delimiter());
     with_terminator(arg, argument.get_value_terminator())

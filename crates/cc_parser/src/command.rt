@@ -7,6 +7,7 @@ ghost use Rattle.clap.specs.Words.{app_of};
 ghost use Rattle.clap.specs.declared.builder.command.Command.TheViews.{out-Command};
 ghost use Rattle.clap.specs.Simple.{new_app, on_top};
 ghost use Rattle.cc_command.specs.Tree.{forest_of};
+ghost use Rattle.cc_parser.specs.Local.{local_argument, local_arguments, local_forest, local_node, local_tree};
 ghost use Rattle.cc_parser.specs.Taken.{TakesOffered, fits_parser};
 ghost use Rattle.cc_parser.specs.Parsers.{AddsArguments, AddsChildren, IsAppOf, IsLeaf, any_global};
 ghost use Rattle.cc_parser.specs.Parsers.{globals_below, has_generated, has_globals, is_disabled_below};
@@ -47,21 +48,54 @@ pub fn parser<'a>(
     ensures taken { IfOk result (λ parser. has_globals command.now ≡ false
         → fits_parser command.now ≡ true → TakesOffered command.now (app_of parser)) }
 {
-    parser_of(alloc, store, command)
+    parser_of(alloc, store, command, false)
 }
 
-fn parser_of<'a>(
+/// Converts the built `command` as `parser` does, but no argument of the result is global. Building
+/// gave each command the global arguments of the commands above it, and here these are its own.
+///
+/// So this is a parser for `command` alone, at any depth of a tree: a parse follows the command and
+/// its subcommands. If `fits_parser` is true, the parser accepts everything that completion offers
+/// for `command`. In the matches, a subcommand lacks the uses of a global argument before its name.
+///
+/// # Errors
+///
+/// `AllocError` if an allocation fails.
+pub fn local_parser<'a>(
     alloc: Global,
     store: &'a Bump,
     command: &'a Command,
 ) -> Result<clap::Command<'a>, AllocError>
-    ensures app { IfOk result (λ parser.
-        has_globals command.now ≡ false → IsAppOf command.now (app_of parser)) }
-    ensures globals { IfOk result (λ parser.
-        (out-Command parser).has_globals ≡ has_globals command.now) }
+    requires { IsTrue command.now.node.built }
+    ensures app { IfOk result (λ parser. IsAppOf (local_tree true command.now) (app_of parser)) }
+    ensures globals { IfOk result (λ parser. (out-Command parser).has_globals ≡ false) }
+    ensures taken { IfOk result (λ parser.
+        fits_parser command.now ≡ true → TakesOffered command.now (app_of parser)) }
 {
-    let parser = alone(alloc, store, command)?;
-    let parser = with_children(parser, alloc, store, command.get_subcommands(), false)?;
+    parser_of(alloc, store, command, true)
+}
+
+// Converts the command. If `local` is true, no argument is global.
+fn parser_of<'a>(
+    alloc: Global,
+    store: &'a Bump,
+    command: &'a Command,
+    local: bool,
+) -> Result<clap::Command<'a>, AllocError>
+    ensures app { IfOk result (λ parser. has_globals (local_tree local command.now) ≡ false
+        → IsAppOf (local_tree local command.now) (app_of parser)) }
+    ensures globals { IfOk result (λ parser.
+        (out-Command parser).has_globals ≡ has_globals (local_tree local command.now)) }
+{
+    let parser = alone(alloc, store, command, local)?;
+    let parser = with_children(
+        parser,
+        alloc,
+        store,
+        command.get_subcommands(),
+        false,
+        local,
+    )?;
     let Some(name) = command.get_bin_name() else {
         return Ok(parser);
     };
@@ -73,15 +107,18 @@ fn alone<'a>(
     alloc: Global,
     store: &'a Bump,
     command: &'a Command,
+    local: bool,
 ) -> Result<clap::Command<'a>, AllocError>
-    ensures app { IfOk result (λ parser. any_global command.now.node.arguments ≡ false
-        → AddsArguments command.now.node.arguments
-        (named_app command.now.node command.now.children) (app_of parser)) }
-    ensures globals { IfOk result (λ parser.
-        (out-Command parser).has_globals ≡ any_global command.now.node.arguments) }
+    ensures app { IfOk result (λ parser.
+        any_global (local_arguments local command.now.node.arguments) ≡ false
+        → AddsArguments (local_arguments local command.now.node.arguments)
+        (named_app (local_node local command.now.node) (local_forest local command.now.children))
+        (app_of parser)) }
+    ensures globals { IfOk result (λ parser. (out-Command parser).has_globals
+        ≡ any_global (local_arguments local command.now.node.arguments)) }
 {
     let parser = named(alloc, command)?;
-    with_arguments(parser, alloc, store, command.get_arguments())
+    with_arguments(parser, alloc, store, command.get_arguments(), local)
 }
 
 // Converts a command without its arguments and children.
@@ -235,18 +272,32 @@ fn with_arguments<'a>(
     alloc: Global,
     store: &'a Bump,
     arguments: &'a [Arg],
+    local: bool,
 ) -> Result<clap::Command<'a>, AllocError>
     requires { ((app_of parser).top.rules ≡ []) × ((out-Command parser).has_globals ≡ false) }
-    ensures app { IfOk result (λ made. any_global arguments.now ≡ false
-        → AddsArguments arguments.now (app_of parser.entry) (app_of made)) }
-    ensures globals { IfOk result (λ made.
-        (out-Command made).has_globals ≡ any_global arguments.now) }
+    ensures app { IfOk result (λ made. any_global (local_arguments local arguments.now) ≡ false
+        → AddsArguments (local_arguments local arguments.now)
+        (app_of parser.entry) (app_of made)) }
+    ensures globals { IfOk result (λ made. (out-Command made).has_globals
+        ≡ any_global (local_arguments local arguments.now)) }
 {
     let mut parser = parser;
     for given in arguments {
-        parser = parser.arg(argument(alloc, store, given)?)?;
+        let global = is_global(given, local);
+        parser = parser.arg(argument(alloc, store, given, global)?)?;
     }
     Ok(parser)
+}
+
+// Returns whether the argument is global for `clap`, if all arguments are local there or none is.
+fn is_global(argument: &Arg, local: bool) -> bool
+    ensures { result ≡ (local_argument local argument.now).global }
+{
+    if local {
+        false
+    } else {
+        argument.is_global_set()
+    }
 }
 
 // Adds the children, except for those that are left out. `above` tells whether a command above this
@@ -258,13 +309,16 @@ fn with_children<'a>(
     store: &'a Bump,
     children: &'a [Command],
     above: bool,
+    local: bool,
 ) -> Result<clap::Command<'a>, AllocError>
-    ensures app { IfOk result (λ made. globals_below above (forest_of children.now) ≡ false
+    ensures app { IfOk result (λ made.
+        globals_below above (local_forest local (forest_of children.now)) ≡ false
         → IsLeaf (app_of parser.entry)
-        → AddsChildren above (forest_of children.now) (app_of parser.entry) (app_of made)) }
+        → AddsChildren above (local_forest local (forest_of children.now))
+        (app_of parser.entry) (app_of made)) }
     ensures globals { IfOk result (λ made. (out-Command made).has_globals
         ≡ ((out-Command parser.entry).has_globals
-        || globals_below above (forest_of children.now))) }
+        || globals_below above (local_forest local (forest_of children.now)))) }
 {
     let here = is_disabled_below(above, children);
     let mut parser = parser;
@@ -272,8 +326,8 @@ fn with_children<'a>(
         if is_left_out(child, above) {
             continue;
         }
-        let made = alone(alloc, store, child)?;
-        let made = with_children(made, alloc, store, child.get_subcommands(), here)?;
+        let made = alone(alloc, store, child, local)?;
+        let made = with_children(made, alloc, store, child.get_subcommands(), here, local)?;
         parser = parser.subcommand(made)?;
     }
     Ok(parser)

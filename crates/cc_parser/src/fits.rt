@@ -14,9 +14,9 @@ use cc_command::Command;
 /// Returns whether each argument of the built `command` has an index or names, but not both: a
 /// positional has an index and no alias, an option or flag has no index.
 ///
-/// If so, and if no argument is global, the parser accepts everything that completion offers for
-/// the command. For a tree from the builders of `Command`, the result is false only if an index was
-/// set on an option or a flag, or an alias on a positional.
+/// If so, the local parser of the command accepts everything that completion offers for it, and if
+/// no argument is global, so does the parser. For a tree from the builders of `Command`, the result
+/// is false only if an index was set on an option or a flag, or an alias on a positional.
 ///
 /// Also checks the subcommand `help` that `build` added. Allocates nothing.
 pub fn fits_parser(command: &Command) -> bool

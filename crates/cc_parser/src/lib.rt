@@ -16,5 +16,5 @@ mod argument;
 mod command;
 mod fits;
 
-pub use crate::command::parser;
+pub use crate::command::{local_parser, parser};
 pub use crate::fits::fits_parser;

@@ -3,4 +3,4 @@
 
 pub use cc_agreement::{candidates_and_parser, candidates_and_reached_parser};
 pub use cc_covered::{has_globals, is_parsed_exactly};
-pub use cc_parser::{fits_parser, parser};
+pub use cc_parser::{fits_parser, local_parser, parser};

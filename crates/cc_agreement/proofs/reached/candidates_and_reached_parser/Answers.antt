@@ -18,8 +18,8 @@ reached_command-reached-requires g c =
     sym (length-map c.as_slice-2.result.now string_bytes) ∙ ap length texts ∙ length-map c.args.words.items string_bytes in
     ap (λ n. is_in_range root.node n c.args.index) count ∙ c.in_ok-found.ensures.in_range
 
-pub parser-requires : goal.parser-requires
-parser-requires g c =
+pub local_parser-requires : goal.local_parser-requires
+local_parser-requires g c =
     let words : List (List ℕ) = map string_bytes c.as_slice-2.result.now in
     subst (λ (tree : Tree). IsTrue tree.node.built)
     (sym (c.reached_command-reached.ensures
@@ -42,7 +42,7 @@ returns g c =
       in_range = subst (λ (tree : Tree). is_in_range tree.node (length c.args.words.items) c.args.index ≡ true) built c.in_ok-found.ensures.in_range;
       parser = record {
         is = c.in_ok-parser.ensures.app;
-        same_globals = c.in_ok-parser.ensures.globals;
+        no_globals = c.in_ok-parser.ensures.globals;
         taken = c.in_ok-parser.ensures.taken;
       };
       agree = agrees _ root _ (app_of c.in_ok-parser.parser) _ _ _ is c.in_ok-parser.ensures.taken completes;

@@ -54,7 +54,7 @@ both_ok (Err e) P Q R f p q = tt
 
 pub returns-clause-rule : goal.returns-clause-rule
 returns-clause-rule c =
-    let a : Argument = c.args.argument.now in
+    let a : Argument = record c.args.argument.now { global = c.args.global } in
     let one = c.with_settings-arg.ensures.rule ∙ ap (λ (r : Rule). record r { is_simple = reads_simply a })
     (c.new.ensures.rule ∙ ap new_rule c.get_id.ensures) in
     let used = c.with_use-arg.ensures.rule ∙ ap (with_used a) one in
