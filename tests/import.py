@@ -352,6 +352,7 @@ def try_walks(room, options):
     try_repeating(room)
     try_names(room)
     try_failing(room)
+    try_global(room)
     try_progress(room)
     try_interrupt(room)
 
@@ -425,6 +426,26 @@ def try_failing(room):
                 "some mute --help: printed nothing"]
     room.expect("some: messages", [f"complgen-import: {it}" for it in expected], sorted(messages.splitlines()))
     room.expect("some: processes", [], sleeping())
+    room.logged()
+
+
+def try_global(room):
+    """An option of a program and of all subcommands with a help text is global, whether other subcommands fail, print
+    nothing or print what the program prints."""
+    names = ["one", "two", "fails", "mute", "same"]
+    write(os.path.join(room.path, "shared.txt"), listing(names, "--all"))
+    room.script("shared", "case $1 in one|two) printf '  --%s  About it\\n' all \"$1\" ;;",
+                "fails) echo 'Traceback (most recent call last):'; exit 1 ;; mute) ;;",
+                f"*) cat '{room.path}/shared.txt' ;; esac")
+    status, _, messages = room.run("--walk", "shared")
+    expected = ["shared fails --help: printed no help text, and ended with the status 1",
+                "shared mute --help: printed nothing"]
+    room.expect("shared: status", 0, status)
+    room.expect("shared: messages", [f"complgen-import: {it}" for it in expected], sorted(messages.splitlines()))
+    tree = room.tree("shared")
+    room.expect("shared: the program", [("--all", True)], [(f"--{it['long']}", it.get("global")) for it in tree["args"]])
+    below = {child["name"]: [it["long"] for it in child.get("args", [])] for child in tree["subcommands"]}
+    room.expect("shared: below", {"one": ["one"], "two": ["two"], "fails": [], "mute": [], "same": []}, below)
     room.logged()
 
 
