@@ -1,3 +1,4 @@
+mod LongerRows
 pub mod PartsRead
 pub mod PartLaws
 pub mod RegularLaws

@@ -223,7 +223,7 @@ more_after text read h =
 
 -- ---- names
 
-name_said : (name : Name) (one : List ℕ) → IsAmong one (plain_names name) → IsSaidIn (name_text name) one
+pub name_said : (name : Name) (one : List ℕ) → IsAmong one (plain_names name) → IsSaidIn (name_text name) one
 unfolding IsAmong plain_names long_names negatable_names name_text
 name_said (Short letter) one (inl here) = inl ([], [], sym (append-nil one ∙ here))
 name_said (Short letter) one (inr later) = absurd later

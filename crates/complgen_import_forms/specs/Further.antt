@@ -204,6 +204,11 @@ unfoldable pub stage_past : Stage → Option Piece → Stage
 stage_past stage (Some piece) = stage_after piece
 stage_past stage None = stage
 
+-- the stage after these pieces
+unfoldable pub stage_of : Stage → List Piece → Stage
+stage_of stage [] = stage
+stage_of stage (piece ∷ pieces) = stage_of (stage_after piece) pieces
+
 -- these parts are read one after another, and no further part follows
 unfoldable pub ReadsParts : Stage → List ℕ → List (Option Piece) → List ℕ → Type 0
 ReadsParts stage text [] rest = (part_at stage text ≡ None) × (rest ≡ text)

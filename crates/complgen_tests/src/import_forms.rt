@@ -12,6 +12,12 @@ const HELP: &[u8] = b"Usage: sew [-?]
   -o, --output file or -   the file
   -v be verbose, unlike -d
   -n N  stays
+  -b  --backup  Keep a copy
+  -p NAME  --prefix=NAME   Put it before
+  -s  --quiet  --silent  Say less
+  -t  --trace KIND        report it
+  -m  --maths      use the tables
+  -x  --hem and --dart are ignored
   -Xmx SIZE
                      --there is help
 ";
@@ -25,6 +31,12 @@ const REGULAR: &[u8] = b"Usage: sew [-?]
   -o, --output <file>  or -   the file
   -v  be verbose, unlike -d
   -n N  stays
+  -b, --backup  Keep a copy
+  -p NAME, --prefix <NAME>  Put it before
+  -s, --quiet, --silent  Say less
+  -t, --trace <KIND>  report it
+  -m, --maths  use the tables
+  -x  --hem and --dart are ignored
   -Xmx SIZE
                      --there is help
 
