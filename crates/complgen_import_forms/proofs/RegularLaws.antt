@@ -162,10 +162,6 @@ longer_is line made form long is =
     let P : Bool → Type 0 = λ b. IsMadeOfForm b form line made in
     subst P (sym long) is
 
-pub unended_stays : (line help : List ℕ) (form : OptionLine) (parts : List (Option Piece)) (rest : List ℕ) → ReadsParts (stage_of Start form.pieces) help parts rest → is_tail rest ≡ false → IsLonger form help line line
-unended_stays line help form parts rest reads none =
-    (parts, rest, reads, ap (λ b. if b then line_text (longer_form form parts rest) else line) (sym none))
-
 pub longer_made : (line help : List ℕ) (form : OptionLine) (parts : List (Option Piece)) (rest : List ℕ) → ReadsParts (stage_of Start form.pieces) help parts rest → is_tail rest ≡ true →
     IsLonger form help line (line_text (longer_form form parts rest))
 longer_made line help form parts rest reads some =
