@@ -1,3 +1,4 @@
+mod FurtherRows
 mod LongerRows
 pub mod PartsRead
 pub mod PartLaws

@@ -18,6 +18,10 @@ const HELP: &[u8] = b"Usage: sew [-?]
   -t  --trace KIND        report it
   -m  --maths      use the tables
   -x  --hem and --dart are ignored
+  -e word=SET, --exchange=SET
+  -dp DAY, --deep DAY  Look at more
+  -a \"ARM\", --arm=\"ARM\"  Sew an arm
+  -l \"leg_file\", --leg \"leg_file\"
   -Xmx SIZE
                      --there is help
 ";
@@ -37,6 +41,10 @@ const REGULAR: &[u8] = b"Usage: sew [-?]
   -t, --trace <KIND>  report it
   -m, --maths  use the tables
   -x  --hem and --dart are ignored
+  -e <word=SET>, --exchange <SET>
+  --deep <DAY>  Look at more
+  -a <ARM>, --arm <ARM>  Sew an arm
+  -l <leg_file>, --leg <leg_file>
   -Xmx SIZE
                      --there is help
 
