@@ -1,6 +1,6 @@
 -- Examples of heads of a further form.
 use Rattle.std.specs.Prelude.{codes}
-use Rattle.std.proofs.Common.{List, [], ◌∷◌, None, Some, refl}
+use Rattle.std.proofs.Common.{[], ◌∷◌, None, Some, refl}
 use Rattle.cc_base.specs.Found.{after, before_ending}
 use Rattle.cc_base.specs.PlainName.{is_joined}
 use Rattle.complgen_import.specs.declared.form.Name.TheVariants.{Long, Short}

@@ -6,7 +6,6 @@ use Rattle.cc_base.specs.PlainName.{is_joined}
 use Rattle.complgen_import.specs.declared.form.Mark.TheVariants.{Word}
 use Rattle.complgen_import.specs.declared.form.Name.TheVariants.{Long, Short}
 use Rattle.complgen_import.specs.declared.form.OptionLine.{OptionLine}
-use Rattle.complgen_import.specs.declared.form.Piece.{Piece}
 use Rattle.complgen_import.specs.declared.form.Piece.TheVariants.{First, Next, Spaced}
 use Rattle.complgen_import.specs.declared.form.Separator.TheVariants.{CommaBlank}
 use Rattle.complgen_import.specs.Classes.{begins, in_class, past, run}

@@ -1,8 +1,8 @@
 -- The parts of a line of a further form, one after another.
-use Rattle.std.specs.Prelude.{codes, is_some, length}
-use Rattle.std.specs.List.{AllByRecursion, flat_map, list_any}
+use Rattle.std.specs.Prelude.{is_some, length}
+use Rattle.std.specs.List.{flat_map, list_any}
 use Rattle.std.specs.Option.{option_to_list}
-use Rattle.std.proofs.Common.{◌≡◌, ◌||◌, ◌<◌, ◌+◌, ◌∷◌, ◌++◌, ◌∙◌, ℕ, Bool, true, false, IsTrue, List, [], Option, Some, None, ap, append_assoc, append-nil, arith, inl, inr, length-append, refl, subst, sym}
+use Rattle.std.proofs.Common.{◌≡◌, ◌||◌, ◌<◌, ◌+◌, ◌∷◌, ◌++◌, ◌∙◌, ℕ, true, IsTrue, List, [], Option, Some, None, ap, append_assoc, append-nil, arith, inl, inr, length-append, refl, subst, sym}
 use Rattle.std.proofs.lemmas.Grind.{flat_map-append}
 use Rattle.std.proofs.Math.Bool.{or-false}
 use Rattle.cc_base.proofs.Members.{AllByRecursion-append}
@@ -23,7 +23,7 @@ use Rattle.complgen_import.proofs.Sound.{run_in, run_past}
 use Rattle.complgen_import.proofs.TextPieces.{end_piece, piece_front, piece_in}
 use Rattle.complgen_import_forms.specs.Further.{ReadsParts, part_at, part_text, stage_of, stage_past}
 use Rattle.complgen_import_forms.specs.Regular.{IsSaidIn, SaysNamesOf, help_tail, longer_form, made_form}
-use Rattle.complgen_import_forms.proofs.PartsRead.{IsAfter, IsPlaced, PartFits, name_said, part_line, part_placed, said_in}
+use Rattle.complgen_import_forms.proofs.PartsRead.{PartFits, name_said, part_line, part_placed, said_in}
 
 -- ---- reading on
 

@@ -1,15 +1,13 @@
 -- Where each part of a line of a further form is in the line, and which parts may follow.
-use Rattle.std.specs.Prelude.{codes, if◌then◌else◌, is_some}
-use Rattle.std.specs.List.{AllByRecursion}
-use Rattle.std.specs.Option.{option_and_then, option_map, option_or, unwrap_or}
+use Rattle.std.specs.Prelude.{codes, if◌then◌else◌}
+use Rattle.std.specs.Option.{option_map, unwrap_or}
 use Rattle.std.proofs.lemmas.Bool.Decides.{eqb_tells}
-use Rattle.std.proofs.Common.{◌≡◌, ◌==◌, ◌&&◌, ◌||◌, ◌⊎◌, ◌∷◌, ◌++◌, ◌∙◌, not, ℕ, Bool, true, false, IsTrue, List, [], Option, Some, None, ap, append_assoc, append-nil, inl, inr, refl, subst, sym}
+use Rattle.std.proofs.Common.{◌≡◌, ◌&&◌, ◌||◌, ◌∷◌, ◌++◌, ◌∙◌, not, ℕ, Bool, true, false, IsTrue, List, [], Option, Some, None, ap, append_assoc, append-nil, inl, inr, refl, subst, sym}
 use Rattle.cc_base.proofs.Members.{AllByRecursion-append}
 use Rattle.cc_base.specs.Found.{after, before_ending}
 use Rattle.cc_base.specs.PlainName.{is_plain_name}
 use Rattle.complgen_import.specs.declared.class.Class.{Class}
 use Rattle.complgen_import.specs.declared.class.Class.TheVariants.{Blank as BlankByte, Capital, ForeignByte, InAngles, InSquares, Small, WordByte}
-use Rattle.complgen_import.specs.declared.form.Mark.TheVariants.{Angle}
 use Rattle.complgen_import.specs.declared.form.Name.{Name}
 use Rattle.complgen_import.specs.declared.form.Name.TheVariants.{Short, Long, Negatable, RepeatedShort, RepeatedLong}
 use Rattle.complgen_import.specs.declared.form.Piece.{Piece}

@@ -1,8 +1,7 @@
 -- The lines of a text in which lines of a further form have the stated form.
-use Rattle.std.specs.Prelude.{codes, if◌then◌else◌, is_some}
+use Rattle.std.specs.Prelude.{if◌then◌else◌, is_some}
 use Rattle.std.specs.List.{AllByRecursion, flat_map, list_any}
 use Rattle.std.specs.Option.{option_to_list}
-use Rattle.std.proofs.lemmas.Bool.{cases_Bool}
 use Rattle.std.proofs.lemmas.Grind.{flat_map-append}
 use Rattle.std.proofs.Common.{◌≡◌, ◌⊎◌, ◌∷◌, ◌++◌, ◌∙◌, ℕ, Bool, true, false, List, [], Option, Some, None, ap, append_assoc, append-nil, inl, inr, refl, subst, sym}
 use Rattle.complgen_import.specs.declared.class.Class.TheVariants.{Blank as BlankByte}

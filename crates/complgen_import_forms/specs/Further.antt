@@ -11,7 +11,7 @@ use Rattle.complgen_import.specs.declared.form.Piece.TheVariants.{First, Next, O
 use Rattle.complgen_import.specs.declared.form.Separator.{Separator}
 use Rattle.complgen_import.specs.declared.form.Separator.TheVariants.{CommaBlank}
 use Rattle.complgen_import.specs.declared.form.Stage.{Stage}
-use Rattle.complgen_import.specs.declared.form.Stage.TheVariants.{Start, Named, Valued, Closed, Lowered}
+use Rattle.complgen_import.specs.declared.form.Stage.TheVariants.{Start, Named}
 use Rattle.complgen_import.specs.declared.form.Value.{Value}
 use Rattle.complgen_import.specs.Classes.{begins, in_class, past, run}
 use Rattle.complgen_import.specs.Form.{piece_text, stage_after}
