@@ -42,8 +42,9 @@ pub record IsWithUsage (text said : List ℕ) : Type 0 where
   pub kept : KeepsLines text said
   pub sound : AddsOptions text said
 
--- The arguments are those of the text in which lines of further forms have the stated form. A line
--- of the stated form stays, and no name is invented. Each help text is on the line of its option.
+-- The arguments are those of the text in which lines of further forms have the stated form. The names
+-- of each line of the stated form stay on one line of that form, and no name is invented. Each help
+-- text is on the line of its option.
 pub record IsOfForms (text regular : List ℕ) (arguments : List Argument) : Type 0 where
   pub exact : IsRegularText text regular
   pub kept : KeepsForms text regular

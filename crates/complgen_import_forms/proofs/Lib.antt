@@ -1,3 +1,5 @@
+mod FurtherRows
+mod LongerRows
 pub mod PartsRead
 pub mod PartLaws
 pub mod RegularLaws

@@ -1,48 +1,50 @@
 -- The parts of a line of a further form, one after another.
-use Rattle.std.specs.Prelude.{codes, is_some, length}
-use Rattle.std.specs.List.{AllByRecursion, flat_map, list_any}
+use Rattle.std.specs.Prelude.{is_some, length}
+use Rattle.std.specs.List.{flat_map, list_any}
 use Rattle.std.specs.Option.{option_to_list}
-use Rattle.std.proofs.Common.{◌≡◌, ◌||◌, ◌<◌, ◌+◌, ◌∷◌, ◌++◌, ◌∙◌, ℕ, Bool, true, false, IsTrue, List, [], Option, Some, None, ap, append_assoc, append-nil, arith, inl, inr, length-append, refl, subst, sym}
+use Rattle.std.proofs.Common.{◌≡◌, ◌||◌, ◌<◌, ◌+◌, ◌∷◌, ◌++◌, ◌∙◌, ℕ, true, IsTrue, List, [], Option, Some, None, ap, append_assoc, append-nil, arith, inl, inr, length-append, refl, subst, sym}
+use Rattle.std.proofs.lemmas.Grind.{flat_map-append}
 use Rattle.std.proofs.Math.Bool.{or-false}
 use Rattle.cc_base.proofs.Members.{AllByRecursion-append}
 use Rattle.complgen_import.specs.declared.class.Class.TheVariants.{Blank as BlankByte, HelpMark}
+use Rattle.complgen_import.specs.declared.form.OptionLine.{OptionLine}
 use Rattle.complgen_import.specs.declared.form.Piece.{Piece}
 use Rattle.complgen_import.specs.declared.form.Piece.TheVariants.{First, Next, Joined, Optional, Spaced, Group, Lower}
 use Rattle.complgen_import.specs.declared.form.Stage.{Stage}
 use Rattle.complgen_import.specs.declared.form.Stage.TheVariants.{Start}
 use Rattle.complgen_import.specs.Classes.{in_class, past, run}
 use Rattle.complgen_import.specs.Commands.{IsPiece as IsPartOf}
-use Rattle.complgen_import.specs.Form.{IsForm, IsHead, is_tail, line_text, may_end, piece_text, stage_after}
+use Rattle.complgen_import.specs.Form.{IsForm, IsHead, is_tail, line_text, may_end, name_text, piece_text, separator_text, stage_after}
 use Rattle.complgen_import.specs.Lines.{IsAmong}
 use Rattle.complgen_import.specs.Names.{line_names, piece_names}
 use Rattle.complgen_import.proofs.DroppedLaws.{IsInLine, IsLine, all_past, all_run}
 use Rattle.complgen_import.proofs.KeptNames.{among_split}
 use Rattle.complgen_import.proofs.Sound.{run_in, run_past}
-use Rattle.complgen_import.proofs.TextPieces.{end_piece}
-use Rattle.complgen_import_forms.specs.Further.{ReadsParts, part_at, part_text, stage_past}
-use Rattle.complgen_import_forms.specs.Regular.{IsSaidIn, SaysNamesOf, help_tail, made_form}
-use Rattle.complgen_import_forms.proofs.PartsRead.{IsAfter, IsPlaced, PartFits, part_line, part_placed, said_in}
+use Rattle.complgen_import.proofs.TextPieces.{end_piece, piece_front, piece_in}
+use Rattle.complgen_import_forms.specs.Further.{ReadsParts, part_at, part_text, stage_of, stage_past}
+use Rattle.complgen_import_forms.specs.Regular.{IsSaidIn, SaysNamesOf, help_tail, longer_form, made_form}
+use Rattle.complgen_import_forms.proofs.PartsRead.{PartFits, name_said, part_line, part_placed, said_in}
 
 -- ---- reading on
 
--- the parts read from here on complete those read from the start
-abbrev pub Continues : List ℕ → Stage → List ℕ → List (Option Piece) → Type 0
-Continues text stage rest done = (parts : List (Option Piece)) (end : List ℕ) → ReadsParts stage rest parts end → ReadsParts Start text (done ++ parts) end
+-- the parts read from here on complete those read from the beginning
+abbrev pub Continues : Stage → List ℕ → Stage → List ℕ → List (Option Piece) → Type 0
+Continues begun text stage rest done = (parts : List (Option Piece)) (end : List ℕ) → ReadsParts stage rest parts end → ReadsParts begun text (done ++ parts) end
 
-pub continues_start : (text : List ℕ) → Continues text Start text []
-continues_start text parts end h = h
+pub continues_start : (begun : Stage) (text : List ℕ) → Continues begun text begun text []
+continues_start begun text parts end h = h
 
-pub continues_more : (text : List ℕ) (stage : Stage) (rest : List ℕ) (done : List (Option Piece)) (part : Option Piece) (next : List ℕ) → part_at stage rest ≡ Some (part, next) →
-    Continues text stage rest done → Continues text (stage_past stage part) next (done ++ part ∷ [])
+pub continues_more : (begun : Stage) (text : List ℕ) (stage : Stage) (rest : List ℕ) (done : List (Option Piece)) (part : Option Piece) (next : List ℕ) → part_at stage rest ≡ Some (part, next) →
+    Continues begun text stage rest done → Continues begun text (stage_past stage part) next (done ++ part ∷ [])
 unfolding ReadsParts
-continues_more text stage rest done part next is before parts end h =
-    let P : List (Option Piece) → Type 0 = λ ps. ReadsParts Start text ps end in
+continues_more begun text stage rest done part next is before parts end h =
+    let P : List (Option Piece) → Type 0 = λ ps. ReadsParts begun text ps end in
     subst P (sym (append_assoc done (part ∷ []) parts)) (before (part ∷ parts) end (next, is, h))
 
-pub continues_end : (text : List ℕ) (stage : Stage) (rest : List ℕ) (done : List (Option Piece)) → part_at stage rest ≡ None → Continues text stage rest done → ReadsParts Start text done rest
+pub continues_end : (begun : Stage) (text : List ℕ) (stage : Stage) (rest : List ℕ) (done : List (Option Piece)) → part_at stage rest ≡ None → Continues begun text stage rest done → ReadsParts begun text done rest
 unfolding ReadsParts
-continues_end text stage rest done none before =
-    let P : List (Option Piece) → Type 0 = λ ps. ReadsParts Start text ps rest in
+continues_end begun text stage rest done none before =
+    let P : List (Option Piece) → Type 0 = λ ps. ReadsParts begun text ps rest in
     subst P (append-nil done) (before [] rest (none, refl))
 
 -- each part takes at least one byte
@@ -143,3 +145,104 @@ made_line_is line parts rest reads all =
     AllByRecursion-append IsInLine (run BlankByte line) (flat_map piece_text (flat_map option_to_list parts) ++ help_tail (past HelpMark rest))
     (all_run IsInLine BlankByte line all)
     (AllByRecursion-append IsInLine (flat_map piece_text (flat_map option_to_list parts)) (help_tail (past HelpMark rest)) p.0 (tail_line (past HelpMark rest) (all_past IsInLine HelpMark rest p.1)))
+
+-- ---- parts after those of a line of the stated form
+
+joined_head : (stage : Stage) (pieces more : List Piece) (tail end : List ℕ) → IsHead stage pieces tail → IsHead (stage_of stage pieces) more end → IsHead stage (pieces ++ more) end
+unfolding IsHead stage_of
+joined_head stage [] more tail end h later = later
+joined_head stage (piece ∷ pieces) more tail end h later = (h.0, h.1, joined_head (stage_after piece) pieces more tail end h.2 later)
+
+ends_at : (stage : Stage) (pieces : List Piece) (tail : List ℕ) → IsHead stage pieces tail → may_end (stage_of stage pieces) ≡ true
+unfolding IsHead stage_of
+ends_at stage [] tail h = h.0
+ends_at stage (piece ∷ pieces) tail h = ends_at (stage_after piece) pieces tail h.2
+
+pub longer_has : (form : OptionLine) (parts : List (Option Piece)) (rest : List ℕ) → IsForm form → ReadsParts (stage_of Start form.pieces) (past BlankByte form.tail) parts rest → IsForm (longer_form form parts rest)
+longer_has form parts rest has reads =
+    let end = help_tail (past HelpMark rest) in
+    let may = ap (λ b. b || list_any is_some parts) (ends_at Start form.pieces form.tail has.head) in
+    record {
+      indent = has.indent;
+      head = joined_head Start form.pieces (flat_map option_to_list parts) form.tail end has.head
+          (head_of (stage_of Start form.pieces) (past BlankByte form.tail) parts rest end reads (tail_is (past HelpMark rest)) may);
+    }
+
+piece_said : (piece : Piece) (name : List ℕ) → IsAmong name (piece_names piece) → IsSaidIn (piece_text piece) name
+unfolding piece_names piece_text IsAmong
+piece_said (First one) name among = name_said one name among
+piece_said (Next separator one) name among =
+    said_in name (name_text one) (separator_text separator ++ name_text one)
+    (end_piece (name_text one) (separator_text separator ++ name_text one) (separator_text separator, refl)) (name_said one name among)
+piece_said (Joined value) name among = absurd among
+piece_said (Optional value) name among = absurd among
+piece_said (Spaced value) name among = absurd among
+piece_said (Group held) name among = absurd among
+piece_said (Lower word) name among = absurd among
+
+pieces_said : (pieces : List Piece) (name : List ℕ) → IsAmong name (flat_map piece_names pieces) → IsSaidIn (flat_map piece_text pieces) name
+unfolding IsAmong
+pieces_said [] name among = absurd among
+pieces_said (piece ∷ pieces) name among =
+    let whole = piece_text piece ++ flat_map piece_text pieces in
+    elim (among_split name (piece_names piece) (flat_map piece_names pieces) among) [
+      | inl first ↦ said_in name (piece_text piece) whole (piece_front (piece_text piece) (flat_map piece_text pieces) whole refl) (piece_said piece name first)
+      | inr later ↦ said_in name (flat_map piece_text pieces) whole (end_piece (flat_map piece_text pieces) whole (piece_text piece, refl)) (pieces_said pieces name later)
+    ]
+
+-- the indent, the parts and the help text of a line are in it
+pieces_part : (form : OptionLine) (line : List ℕ) → line_text form ≡ line → IsPartOf (flat_map piece_text form.pieces) line
+unfolding line_text
+pieces_part form line spelled = (form.indent, form.tail, sym spelled)
+
+indent_part : (form : OptionLine) (line : List ℕ) → line_text form ≡ line → IsPartOf form.indent line
+unfolding line_text
+indent_part form line spelled = piece_front form.indent (flat_map piece_text form.pieces ++ form.tail) line (sym spelled)
+
+help_part : (form : OptionLine) (line : List ℕ) → line_text form ≡ line → IsPartOf (past BlankByte form.tail) line
+unfolding line_text
+help_part form line spelled =
+    piece_in (past BlankByte form.tail) form.tail line
+    (end_piece (past BlankByte form.tail) form.tail (run BlankByte form.tail, run_past BlankByte form.tail))
+    (end_piece form.tail line (form.indent ++ flat_map piece_text form.pieces, sym spelled ∙ sym (append_assoc form.indent (flat_map piece_text form.pieces) form.tail)))
+
+-- it has the form, and says only names that the line before said
+pub longer_says : (form : OptionLine) (line : List ℕ) (parts : List (Option Piece)) (rest : List ℕ) → IsForm form → line_text form ≡ line →
+    ReadsParts (stage_of Start form.pieces) (past BlankByte form.tail) parts rest → SaysNamesOf line (line_text (longer_form form parts rest))
+longer_says form line parts rest has spelled reads = (longer_form form parts rest, longer_has form parts rest has reads, refl, said)
+  where
+    said : (name : List ℕ) → IsAmong name (line_names (longer_form form parts rest)) → IsSaidIn line name
+    said name among =
+        let P : List (List ℕ) → Type 0 = λ names. IsAmong name names in
+        elim (among_split name (flat_map piece_names form.pieces) (flat_map piece_names (flat_map option_to_list parts))
+        (subst P (flat_map-append piece_names form.pieces (flat_map option_to_list parts)) among)) [
+          | inl own ↦ said_in name (flat_map piece_text form.pieces) line (pieces_part form line spelled) (pieces_said form.pieces name own)
+          | inr more ↦ said_in name (past BlankByte form.tail) line (help_part form line spelled) (names_said (stage_of Start form.pieces) (past BlankByte form.tail) parts rest name reads more)
+        ]
+
+pub longer_line_is : (form : OptionLine) (line : List ℕ) (parts : List (Option Piece)) (rest : List ℕ) → line_text form ≡ line →
+    ReadsParts (stage_of Start form.pieces) (past BlankByte form.tail) parts rest → IsLine line → IsLine (line_text (longer_form form parts rest))
+unfolding line_text
+longer_line_is form line parts rest spelled reads all =
+    let end = help_tail (past HelpMark rest) in
+    let more = flat_map option_to_list parts in
+    let p = parts_line (stage_of Start form.pieces) (past BlankByte form.tail) parts rest reads (part_line (past BlankByte form.tail) line (help_part form line spelled) all) in
+    let P : List ℕ → Type 0 = λ t. IsLine t in
+    AllByRecursion-append IsInLine form.indent (flat_map piece_text (form.pieces ++ more) ++ end)
+    (part_line form.indent line (indent_part form line spelled) all)
+    (AllByRecursion-append IsInLine (flat_map piece_text (form.pieces ++ more)) end
+    (subst P (sym (flat_map-append piece_text form.pieces more))
+    (AllByRecursion-append IsInLine (flat_map piece_text form.pieces) (flat_map piece_text more)
+    (part_line (flat_map piece_text form.pieces) line (pieces_part form line spelled) all) p.0))
+    (tail_line (past HelpMark rest) (all_past IsInLine HelpMark rest p.1)))
+
+pub longer_text : (form : OptionLine) (parts : List (Option Piece)) (rest : List ℕ) →
+    form.indent ++ (flat_map piece_text form.pieces ++ (flat_map part_text parts ++ help_tail (past HelpMark rest))) ≡ line_text (longer_form form parts rest)
+unfolding line_text
+longer_text form parts rest =
+    let end = help_tail (past HelpMark rest) in
+    let own = flat_map piece_text form.pieces in
+    let more = flat_map option_to_list parts in
+    ap (λ t. form.indent ++ t) (sym (append_assoc own (flat_map part_text parts) end)
+    ∙ ap (λ p. (own ++ p) ++ end) (parts_text parts)
+    ∙ ap (λ p. p ++ end) (sym (flat_map-append piece_text form.pieces more)))

@@ -1,15 +1,13 @@
 -- Where each part of a line of a further form is in the line, and which parts may follow.
-use Rattle.std.specs.Prelude.{codes, if◌then◌else◌, is_some}
-use Rattle.std.specs.List.{AllByRecursion}
-use Rattle.std.specs.Option.{option_and_then, option_map, option_or, unwrap_or}
+use Rattle.std.specs.Prelude.{codes, if◌then◌else◌}
+use Rattle.std.specs.Option.{option_map, unwrap_or}
 use Rattle.std.proofs.lemmas.Bool.Decides.{eqb_tells}
-use Rattle.std.proofs.Common.{◌≡◌, ◌==◌, ◌&&◌, ◌||◌, ◌⊎◌, ◌∷◌, ◌++◌, ◌∙◌, not, ℕ, Bool, true, false, IsTrue, List, [], Option, Some, None, ap, append_assoc, append-nil, inl, inr, refl, subst, sym}
+use Rattle.std.proofs.Common.{◌≡◌, ◌&&◌, ◌||◌, ◌∷◌, ◌++◌, ◌∙◌, not, ℕ, Bool, true, false, IsTrue, List, [], Option, Some, None, ap, append_assoc, append-nil, inl, inr, refl, subst, sym}
 use Rattle.cc_base.proofs.Members.{AllByRecursion-append}
 use Rattle.cc_base.specs.Found.{after, before_ending}
 use Rattle.cc_base.specs.PlainName.{is_plain_name}
 use Rattle.complgen_import.specs.declared.class.Class.{Class}
 use Rattle.complgen_import.specs.declared.class.Class.TheVariants.{Blank as BlankByte, Capital, ForeignByte, InAngles, InSquares, Small, WordByte}
-use Rattle.complgen_import.specs.declared.form.Mark.TheVariants.{Angle}
 use Rattle.complgen_import.specs.declared.form.Name.{Name}
 use Rattle.complgen_import.specs.declared.form.Name.TheVariants.{Short, Long, Negatable, RepeatedShort, RepeatedLong}
 use Rattle.complgen_import.specs.declared.form.Piece.{Piece}
@@ -32,7 +30,7 @@ use Rattle.complgen_import.proofs.FrontsRead.{after-text, run-cons}
 use Rattle.complgen_import.proofs.Options.{and_then-some, map-some, or-some, read_as-some, some_same, when-some}
 use Rattle.complgen_import.proofs.Sound.{run_in, run_past, sound_name}
 use Rattle.complgen_import.proofs.TextPieces.{IsEnd, end_after, end_of, end_or, end_piece, piece_front, piece_in}
-use Rattle.complgen_import_forms.specs.Further.{angled, apart, apart_piece, as_part, attached_at, before_comma, before_long, further_name_at, glued_at, glued_letter, if_value, is_glued, is_group, is_marked, is_value, label, marked, more_at, name_piece, named_at, next_at, next_text, no_part, part_at, passed, past_foreign, past_separator, spaced_at, value_at, value_piece, valued_at, without, word_of}
+use Rattle.complgen_import_forms.specs.Further.{angled, apart, apart_piece, as_part, attached_at, before_long, further_name_at, glued_at, glued_letter, if_value, is_before_name, is_glued, is_group, is_marked, is_value, label, marked, more_at, name_piece, named_at, next_at, next_text, no_part, part_at, passed, past_foreign, past_separator, spaced_at, unquoted, value_at, value_piece, valued_at, without, without_end, word_of}
 use Rattle.complgen_import_forms.specs.Regular.{IsSaidIn}
 
 -- ---- pieces of a word
@@ -57,21 +55,29 @@ without_part : (front text : List ℕ) → IsPartOf (without front text) text
 unfolding without
 without_part front text = end_piece (unwrap_or (after front text) text) text (end_or text (after front text) (λ rest is. end_after front text rest is))
 
-comma_part : (word : List ℕ) → IsPartOf (before_comma word) word
-unfolding before_comma
-comma_part word = by (before_ending (codes ",") word) (λ front is. ending-text (codes ",") word front is)
+end_part : (end word : List ℕ) → IsPartOf (without_end end word) word
+unfolding without_end
+end_part end word = by (before_ending end word) (λ front is. ending-text end word front is)
   where
-    by : (found : Option (List ℕ)) → ((front : List ℕ) → found ≡ Some front → word ≡ front ++ codes ",") → IsPartOf (unwrap_or found word) word
+    by : (found : Option (List ℕ)) → ((front : List ℕ) → found ≡ Some front → word ≡ front ++ end) → IsPartOf (unwrap_or found word) word
     by None each = ([], [], sym (append-nil word))
-    by (Some front) each = piece_front front (codes ",") word (each front refl)
+    by (Some front) each = piece_front front end word (each front refl)
+
+unquoted_part : (word : List ℕ) → IsPartOf (unquoted word) word
+unfolding unquoted
+unquoted_part word =
+    let inner = without (codes "\"") word in
+    piece_in (without_end (codes "\"") inner) inner word (end_part (codes "\"") inner) (without_part (codes "\"") word)
 
 label_part : (word : List ℕ) → IsPartOf (label word) word
 unfolding label
 label_part word =
-    let inner = without (codes "=") word in
+    let whole = without (codes "=") word in
+    let inner = unquoted whole in
     let held = without (codes "<") inner in
     piece_in (run InAngles held) held word (run_part InAngles held)
-    (piece_in held inner word (without_part (codes "<") inner) (without_part (codes "=") word))
+    (piece_in held inner word (without_part (codes "<") inner)
+    (piece_in inner whole word (unquoted_part whole) (without_part (codes "=") word)))
 
 -- ---- values
 
@@ -106,7 +112,7 @@ needed_fits : (word : List ℕ) → PieceFits Named word (Spaced (angled (label 
 unfolding angled label may_follow IsPiece IsSpacedValue IsMark IsAmong piece_names
 needed_fits word = record {
   follows = refl;
-  has = run_in InAngles (without (codes "<") (without (codes "=") word));
+  has = run_in InAngles (without (codes "<") (unquoted (without (codes "=") word)));
   line = λ all. spaced_line (label word) (part_line (label word) word (label_part word) all);
   said = λ name among. absurd among;
 }
@@ -161,7 +167,7 @@ word_fits : (text : List ℕ) (piece : Piece) → PieceFits Named (word_of text)
 unfolding word_of
 word_fits text piece fits =
     let word = run WordByte text in (
-      fits_in Named (before_comma word) text piece (piece_in (before_comma word) word text (comma_part word) (run_part WordByte text)) fits,
+      fits_in Named (without_end (codes ",") word) text piece (piece_in (without_end (codes ",") word) word text (end_part (codes ",") word) (run_part WordByte text)) fits,
       run_past WordByte text,
     )
 
@@ -219,11 +225,11 @@ more_after : (text : List ℕ) (read : Piece × List ℕ) → more_at text ≡ S
 unfolding more_at marked
 more_after text read h =
     let a = and_then-some marked (after (codes " ") text) read h in
-    (spaced_after text a.0 read a.1 (value_some (is_marked a.0) (value_piece (word_of a.0)) a.0 read (value_fits (word_of a.0)) a.2).1).1
+    (spaced_after text a.0 read a.1 (value_some (is_marked a.0 || is_before_name a.0) (value_piece (word_of a.0)) a.0 read (value_fits (word_of a.0)) a.2).1).1
 
 -- ---- names
 
-name_said : (name : Name) (one : List ℕ) → IsAmong one (plain_names name) → IsSaidIn (name_text name) one
+pub name_said : (name : Name) (one : List ℕ) → IsAmong one (plain_names name) → IsSaidIn (name_text name) one
 unfolding IsAmong plain_names long_names negatable_names name_text
 name_said (Short letter) one (inl here) = inl ([], [], sym (append-nil one ∙ here))
 name_said (Short letter) one (inr later) = absurd later

@@ -1,21 +1,23 @@
 -- The lines of a text in which lines of a further form have the stated form.
-use Rattle.std.specs.Prelude.{codes, if◌then◌else◌, is_some}
+use Rattle.std.specs.Prelude.{if◌then◌else◌, is_some}
 use Rattle.std.specs.List.{AllByRecursion, flat_map, list_any}
-use Rattle.std.proofs.lemmas.Bool.{cases_Bool}
+use Rattle.std.specs.Option.{option_to_list}
+use Rattle.std.proofs.lemmas.Grind.{flat_map-append}
 use Rattle.std.proofs.Common.{◌≡◌, ◌⊎◌, ◌∷◌, ◌++◌, ◌∙◌, ℕ, Bool, true, false, List, [], Option, Some, None, ap, append_assoc, append-nil, inl, inr, refl, subst, sym}
 use Rattle.complgen_import.specs.declared.class.Class.TheVariants.{Blank as BlankByte}
 use Rattle.complgen_import.specs.declared.form.OptionLine.{OptionLine}
 use Rattle.complgen_import.specs.declared.form.Piece.{Piece}
 use Rattle.complgen_import.specs.declared.form.Stage.TheVariants.{Start}
 use Rattle.complgen_import.specs.Classes.{past}
-use Rattle.complgen_import.specs.Form.{IsForm, line_text}
+use Rattle.complgen_import.specs.Form.{IsForm, is_tail, line_text}
 use Rattle.complgen_import.specs.Lines.{IsAmong, IsReading, lines_of}
+use Rattle.complgen_import.specs.Names.{piece_names}
 use Rattle.complgen_import.proofs.Among.{among_front}
 use Rattle.complgen_import.proofs.DroppedLaws.{IsLine, all_lines, first_line}
 use Rattle.complgen_import.proofs.KeptNames.{among_split}
-use Rattle.complgen_import_forms.specs.Further.{ReadsParts}
-use Rattle.complgen_import_forms.specs.Regular.{AreRegular, InventsNone, IsMade, IsMadeOf, IsRegular, IsRegularText, KeepsForms, SaysNamesOf, is_candidate, made_form, made_line}
-use Rattle.complgen_import_forms.proofs.PartLaws.{made_line_is, made_says}
+use Rattle.complgen_import_forms.specs.Further.{ReadsParts, stage_of}
+use Rattle.complgen_import_forms.specs.Regular.{AreRegular, HasNamesOf, InventsNone, IsLonger, IsMade, IsMadeOf, IsMadeOfForm, IsRegular, IsRegularText, KeepsForms, SaysNamesOf, begins_long, is_candidate, longer_form, longer_line, made_form, made_line}
+use Rattle.complgen_import_forms.proofs.PartLaws.{longer_has, longer_line_is, longer_says, made_line_is, made_says}
 
 -- ---- a line
 
@@ -30,14 +32,29 @@ further_replaces line parts rest reads = by (list_any is_some parts) (λ some. m
     by true says = inr (says refl)
     by false says = inl refl
 
+longer_replaces : (form : OptionLine) (line : List ℕ) (parts : List (Option Piece)) (rest : List ℕ) → IsForm form → line_text form ≡ line →
+    ReadsParts (stage_of Start form.pieces) (past BlankByte form.tail) parts rest → Replaces line (longer_line line form parts rest)
+longer_replaces form line parts rest has spelled reads = by (is_tail rest)
+  where
+    by : (b : Bool) → Replaces line (if b then line_text (longer_form form parts rest) else line)
+    by true = inr (longer_says form line parts rest has spelled reads)
+    by false = inl refl
+
+stated_replaces : (b : Bool) (form : OptionLine) (line made : List ℕ) → IsForm form → line_text form ≡ line → IsMadeOfForm b form line made → Replaces line made
+unfolding IsMadeOfForm
+stated_replaces false form line made has spelled is = inl is
+stated_replaces true form line made has spelled is =
+    let P : List ℕ → Type 0 = λ m. Replaces line m in
+    subst P (sym is.3) (longer_replaces form line is.0 is.1 has spelled is.2)
+
 replaces : (b : Bool) (line made : List ℕ) → IsMade b line made → Replaces line made
 unfolding IsMade IsMadeOf
 replaces false line made is = inl is
-replaces true line made is = by is.0 is.2
+replaces true line made is = by is.0 is.1 is.2
   where
-    by : (read : Option OptionLine) → IsMadeOf read line made → Replaces line made
-    by (Some form) is = inl is
-    by None is =
+    by : (read : Option OptionLine) → IsReading line read → IsMadeOf read line made → Replaces line made
+    by (Some form) reading is = stated_replaces (begins_long (past BlankByte form.tail)) form line made reading.sound.0 reading.sound.1 is
+    by None reading is =
         let P : List ℕ → Type 0 = λ m. Replaces line m in
         subst P (sym is.3) (further_replaces line is.0 is.1 is.2)
 
@@ -48,29 +65,75 @@ further_line line parts rest reads all = by (list_any is_some parts)
     by true = made_line_is line parts rest reads all
     by false = all
 
+longer_one : (form : OptionLine) (line : List ℕ) (parts : List (Option Piece)) (rest : List ℕ) → line_text form ≡ line →
+    ReadsParts (stage_of Start form.pieces) (past BlankByte form.tail) parts rest → IsLine line → IsLine (longer_line line form parts rest)
+longer_one form line parts rest spelled reads all = by (is_tail rest)
+  where
+    by : (b : Bool) → IsLine (if b then line_text (longer_form form parts rest) else line)
+    by true = longer_line_is form line parts rest spelled reads all
+    by false = all
+
+stated_line : (b : Bool) (form : OptionLine) (line made : List ℕ) → line_text form ≡ line → IsMadeOfForm b form line made → IsLine line → IsLine made
+unfolding IsMadeOfForm
+stated_line false form line made spelled is all =
+    let P : List ℕ → Type 0 = λ m. IsLine m in
+    subst P (sym is) all
+stated_line true form line made spelled is all =
+    let P : List ℕ → Type 0 = λ m. IsLine m in
+    subst P (sym is.3) (longer_one form line is.0 is.1 spelled is.2 all)
+
 one_line : (b : Bool) (line made : List ℕ) → IsMade b line made → IsLine line → IsLine made
 unfolding IsMade IsMadeOf
 one_line false line made is all =
     let P : List ℕ → Type 0 = λ m. IsLine m in
     subst P (sym is) all
-one_line true line made is all = by is.0 is.2
+one_line true line made is all = by is.0 is.1 is.2
   where
     P : List ℕ → Type 0
     P m = IsLine m
 
-    by : (read : Option OptionLine) → IsMadeOf read line made → IsLine made
-    by (Some form) is = subst P (sym is) all
-    by None is = subst P (sym is.3) (further_line line is.0 is.1 is.2 all)
+    by : (read : Option OptionLine) → IsReading line read → IsMadeOf read line made → IsLine made
+    by (Some form) reading is = stated_line (begins_long (past BlankByte form.tail)) form line made reading.sound.1 is all
+    by None reading is = subst P (sym is.3) (further_line line is.0 is.1 is.2 all)
 
--- a line of the form stays
-stays : (b : Bool) (line made : List ℕ) (form : OptionLine) → IsMade b line made → IsForm form → line_text form ≡ line → made ≡ line
-unfolding IsMade IsMadeOf
-stays false line made form is has spelled = is
-stays true line made form is has spelled = by is.0 is.2 (is.1.complete form has spelled)
+-- ---- the names of a line of the stated form
+
+-- the line has the stated form and the names of another
+abbrev Keeps : OptionLine → List ℕ → Type 0
+Keeps form made = (kept : OptionLine) × IsForm kept × (line_text kept ≡ made) × HasNamesOf form kept
+
+keeps_itself : (form : OptionLine) (line made : List ℕ) → IsForm form → line_text form ≡ line → made ≡ line → Keeps form made
+keeps_itself form line made has spelled same = (form, has, spelled ∙ sym same, λ name among. among)
+
+longer_keeps : (form : OptionLine) (line : List ℕ) (parts : List (Option Piece)) (rest : List ℕ) → IsForm form → line_text form ≡ line →
+    ReadsParts (stage_of Start form.pieces) (past BlankByte form.tail) parts rest → Keeps form (longer_line line form parts rest)
+longer_keeps form line parts rest has spelled reads = by (is_tail rest)
   where
-    by : (read : Option OptionLine) → IsMadeOf read line made → read ≡ Some form → made ≡ line
-    by (Some other) is same = is
-    by None is same = cc
+    more : List Piece
+    more = flat_map option_to_list parts
+
+    names : HasNamesOf form (longer_form form parts rest)
+    names name among =
+        let P : List (List ℕ) → Type 0 = λ all. IsAmong name all in
+        subst P (sym (flat_map-append piece_names form.pieces more)) (among_front name (flat_map piece_names form.pieces) (flat_map piece_names more) among)
+
+    by : (b : Bool) → Keeps form (if b then line_text (longer_form form parts rest) else line)
+    by true = (longer_form form parts rest, longer_has form parts rest has reads, refl, names)
+    by false = keeps_itself form line line has spelled refl
+
+stated_keeps : (b : Bool) (form : OptionLine) (line made : List ℕ) → IsForm form → line_text form ≡ line → IsMadeOfForm b form line made → Keeps form made
+unfolding IsMadeOfForm
+stated_keeps false form line made has spelled is = keeps_itself form line made has spelled is
+stated_keeps true form line made has spelled is =
+    let P : List ℕ → Type 0 = λ m. Keeps form m in
+    subst P (sym is.3) (longer_keeps form line is.0 is.1 has spelled is.2)
+
+keeps : (b : Bool) (line made : List ℕ) (form : OptionLine) → IsMade b line made → IsForm form → line_text form ≡ line → Keeps form made
+unfolding IsMade IsMadeOf
+keeps false line made form is has spelled = keeps_itself form line made has spelled is
+keeps true line made form is has spelled =
+    let P : Option OptionLine → Type 0 = λ read. IsMadeOf read line made in
+    stated_keeps (begins_long (past BlankByte form.tail)) form line made has spelled (subst P (is.1.complete form has spelled) is.2)
 
 -- ---- the line that is written
 
@@ -80,19 +143,28 @@ stays_other line other =
     let P : Bool → Type 0 = λ b. IsMade b line line in
     subst P (sym other) refl
 
-pub stays_stated : (line : List ℕ) (read : Option OptionLine) → is_candidate line ≡ true → IsReading line read → is_some read ≡ true → IsRegular line line
-unfolding IsMade IsMadeOf
-stays_stated line None candidate reading stated = cc
-stays_stated line (Some form) candidate reading stated =
-    let P : Bool → Type 0 = λ b. IsMade b line line in
-    subst P (sym candidate) (Some form, reading, refl)
-
-pub further_is : (line made : List ℕ) (read : Option OptionLine) → is_candidate line ≡ true → IsReading line read → is_some read ≡ false → IsMadeOf None line made → IsRegular line made
-unfolding IsMade IsMadeOf
-further_is line made None candidate reading other is =
+pub made_is : (line made : List ℕ) (read : Option OptionLine) → is_candidate line ≡ true → IsReading line read → IsMadeOf read line made → IsRegular line made
+unfolding IsMade
+made_is line made read candidate reading is =
     let P : Bool → Type 0 = λ b. IsMade b line made in
-    subst P (sym candidate) (None, reading, is)
-further_is line made (Some form) candidate reading other is = cc
+    subst P (sym candidate) (read, reading, is)
+
+pub plain_stays : (line : List ℕ) (form : OptionLine) → begins_long (past BlankByte form.tail) ≡ false → IsMadeOf (Some form) line line
+unfolding IsMadeOf IsMadeOfForm
+plain_stays line form plain =
+    let P : Bool → Type 0 = λ b. IsMadeOfForm b form line line in
+    subst P (sym plain) refl
+
+pub longer_is : (line made : List ℕ) (form : OptionLine) → begins_long (past BlankByte form.tail) ≡ true → IsLonger form (past BlankByte form.tail) line made → IsMadeOf (Some form) line made
+unfolding IsMadeOf IsMadeOfForm
+longer_is line made form long is =
+    let P : Bool → Type 0 = λ b. IsMadeOfForm b form line made in
+    subst P (sym long) is
+
+pub longer_made : (line help : List ℕ) (form : OptionLine) (parts : List (Option Piece)) (rest : List ℕ) → ReadsParts (stage_of Start form.pieces) help parts rest → is_tail rest ≡ true →
+    IsLonger form help line (line_text (longer_form form parts rest))
+longer_made line help form parts rest reads some =
+    (parts, rest, reads, ap (λ b. if b then line_text (longer_form form parts rest) else line) (sym some))
 
 pub nameless_stays : (line : List ℕ) (parts : List (Option Piece)) (rest : List ℕ) → ReadsParts Start (past BlankByte line) parts rest → list_any is_some parts ≡ false → IsMadeOf None line line
 unfolding IsMadeOf
@@ -107,14 +179,22 @@ named_made line parts rest reads some =
 
 -- ---- all lines
 
-kept_lines : (lines made : List (List ℕ)) (form : OptionLine) → AreRegular lines made → IsForm form → IsAmong (line_text form) lines → IsAmong (line_text form) made
+-- one of the lines has the stated form and the names of another
+abbrev KeptAmong : OptionLine → List (List ℕ) → Type 0
+KeptAmong form lines = (kept : OptionLine) × IsForm kept × IsAmong (line_text kept) lines × HasNamesOf form kept
+
+kept_lines : (lines made : List (List ℕ)) (form : OptionLine) → AreRegular lines made → IsForm form → IsAmong (line_text form) lines → KeptAmong form made
 unfolding AreRegular IsAmong
 kept_lines [] made form h has among = absurd among
 kept_lines (line ∷ lines) made form h has among =
-    let P : List (List ℕ) → Type 0 = λ ls. IsAmong (line_text form) ls in
+    let P : List (List ℕ) → Type 0 = λ ls. KeptAmong form ls in
     subst P (sym h.3) (elim among [
-      | inl here ↦ inl (here ∙ sym (stays (is_candidate line) line h.0 form h.2 has here))
-      | inr later ↦ inr (kept_lines lines h.1 form h.4 has later)
+      | inl here ↦
+          let k = keeps (is_candidate line) line h.0 form h.2 has here in
+          (k.0, k.1, inl k.2, k.3)
+      | inr later ↦
+          let k = kept_lines lines h.1 form h.4 has later in
+          (k.0, k.1, inr k.2, k.3)
     ])
 
 -- a line that replaces one of the lines
@@ -202,8 +282,9 @@ regular_end text left out none before =
 
 pub keeps_forms : (text out : List ℕ) → IsRegularText text out → KeepsForms text out
 keeps_forms text out is form has among =
-    let P : List (List ℕ) → Type 0 = λ ls. IsAmong (line_text form) ls in
-    subst P (sym is.2) (among_front (line_text form) is.0 ([] ∷ []) (kept_lines (lines_of text) is.0 form is.1 has among))
+    let P : List (List ℕ) → Type 0 = λ ls. KeptAmong form ls in
+    let k = kept_lines (lines_of text) is.0 form is.1 has among in
+    subst P (sym is.2) (k.0, k.1, among_front (line_text k.0) is.0 ([] ∷ []) k.2, k.3)
 
 pub invents_none : (text out : List ℕ) → IsRegularText text out → InventsNone text out
 unfolding IsAmong

@@ -2,7 +2,7 @@
 use Rattle.std.specs.Prelude.{◌≡◌, ◌==◌, ◌&&◌, ◌||◌, ℕ, Bool, true, false, not, List, [], ◌∷◌, codes, Option, Some, None, is_some, length}
 use Rattle.std.specs.Option.{option_or, option_and_then, option_map, unwrap_or}
 use Rattle.cc_base.specs.Found.{after, before_ending}
-use Rattle.complgen_import.specs.declared.class.Class.TheVariants.{Blank as BlankByte, Capital, CapitalByte, ForeignByte, InAngles, InSquares, Letter, Opening, Small, WordByte}
+use Rattle.complgen_import.specs.declared.class.Class.TheVariants.{Blank as BlankByte, Capital, CapitalByte, ForeignByte, InAngles, InChoice, InSquares, Letter, Opening, Small, WordByte}
 use Rattle.complgen_import.specs.declared.form.Mark.TheVariants.{Angle}
 use Rattle.complgen_import.specs.declared.form.Name.{Name}
 use Rattle.complgen_import.specs.declared.form.Name.TheVariants.{Short}
@@ -11,7 +11,7 @@ use Rattle.complgen_import.specs.declared.form.Piece.TheVariants.{First, Next, O
 use Rattle.complgen_import.specs.declared.form.Separator.{Separator}
 use Rattle.complgen_import.specs.declared.form.Separator.TheVariants.{CommaBlank}
 use Rattle.complgen_import.specs.declared.form.Stage.{Stage}
-use Rattle.complgen_import.specs.declared.form.Stage.TheVariants.{Start, Named, Valued, Closed, Lowered}
+use Rattle.complgen_import.specs.declared.form.Stage.TheVariants.{Start, Named}
 use Rattle.complgen_import.specs.declared.form.Value.{Value}
 use Rattle.complgen_import.specs.Classes.{begins, in_class, past, run}
 use Rattle.complgen_import.specs.Form.{piece_text, stage_after}
@@ -47,19 +47,45 @@ past_foreign text = elim (after (codes "-") text) [
   | None ↦ None
 ]
 
+-- ---- the text before a name
+
+-- the text without the spaces before a long name
+unfoldable pub before_long : List ℕ → List ℕ
+before_long text = elim (after (codes "--") (past BlankByte text)) [
+  | Some rest ↦ past BlankByte text
+  | None ↦ text
+]
+
+-- the text after a separator
+unfoldable pub past_separator : List ℕ → Option (List ℕ)
+past_separator text =
+    option_map (λ (read : Separator × List ℕ). before_long read.1) (separator_among separators text)
+
+-- the text from which the next name is read
+unfoldable pub next_text : List ℕ → Option (List ℕ)
+next_text text = elim (is_dashed text) [ true ↦ Some text | false ↦ past_separator text ]
+
+-- a name comes next
+unfoldable pub is_name_next : List ℕ → Bool
+is_name_next text = is_some (option_and_then further_name_at (next_text text))
+
 -- ---- values
 
 -- the text without a given beginning
 unfoldable pub without : List ℕ → List ℕ → List ℕ
 without front text = unwrap_or (after front text) text
 
--- a word without a comma at its end
-unfoldable pub before_comma : List ℕ → List ℕ
-before_comma word = unwrap_or (before_ending (codes ",") word) word
+-- the text without a given end
+unfoldable pub without_end : List ℕ → List ℕ → List ℕ
+without_end end text = unwrap_or (before_ending end text) text
+
+-- the text without a double quote at its beginning and one at its end
+unfoldable pub unquoted : List ℕ → List ℕ
+unquoted text = without_end (codes "\"") (without (codes "\"") text)
 
 -- the name of a value, up to an angle bracket
 unfoldable pub label : List ℕ → List ℕ
-label word = run InAngles (without (codes "<") (without (codes "=") word))
+label word = run InAngles (without (codes "<") (unquoted (without (codes "=") word)))
 
 unfoldable pub angled : List ℕ → Value
 angled held = record { mark = Angle held; repeats = false }
@@ -73,7 +99,7 @@ value_piece word = elim (after (codes "[") word) [
 
 -- the word at the beginning of a text
 unfoldable pub word_of : List ℕ → List ℕ
-word_of text = before_comma (run WordByte text)
+word_of text = without_end (codes ",") (run WordByte text)
 
 -- this value, and the text after the word at the beginning of a text, if that is one
 unfoldable pub if_value : Bool → Piece → List ℕ → Read Piece
@@ -82,7 +108,8 @@ if_value false piece text = None
 
 -- a word that begins so is a value
 unfoldable pub is_marked : List ℕ → Bool
-is_marked text = begins Opening text || is_some (after (codes "=") text)
+is_marked text =
+    begins Opening text || is_some (after (codes "=") text) || is_some (after (codes "\"") text)
 
 -- a value right after a name
 unfoldable pub attached_at : List ℕ → Read Piece
@@ -123,9 +150,15 @@ is_before_gap text =
     && (is_gap (past_word text) || is_gap (past_word (past_word text))
     || is_gap (past_word (past_word (past_word text))))
 
+-- a word that ends in a comma, if a name comes next
+unfoldable pub is_before_name : List ℕ → Bool
+is_before_name text =
+    begins InChoice text
+    && (is_some (before_ending (codes ",") (run WordByte text)) && is_name_next (past WordByte text))
+
 -- a word after a space that is a value
 unfoldable pub is_value : List ℕ → Bool
-is_value text = is_marked text || is_loud text || is_before_gap text
+is_value text = is_marked text || is_loud text || is_before_gap text || is_before_name text
 
 -- this word is a value
 unfoldable pub apart : List ℕ → Read Piece
@@ -140,28 +173,12 @@ value_at text = option_or (attached_at text) (spaced_at text)
 
 -- a further value
 unfoldable pub marked : List ℕ → Read Piece
-marked text = if_value (is_marked text) (value_piece (word_of text)) text
+marked text = if_value (is_marked text || is_before_name text) (value_piece (word_of text)) text
 
 unfoldable pub more_at : List ℕ → Read Piece
 more_at text = option_and_then marked (after (codes " ") text)
 
 -- ---- the parts one after another
-
--- the text without the spaces before a long name
-unfoldable pub before_long : List ℕ → List ℕ
-before_long text = elim (after (codes "--") (past BlankByte text)) [
-  | Some rest ↦ past BlankByte text
-  | None ↦ text
-]
-
--- the text after a separator
-unfoldable pub past_separator : List ℕ → Option (List ℕ)
-past_separator text =
-    option_map (λ (read : Separator × List ℕ). before_long read.1) (separator_among separators text)
-
--- the text from which the next name is read
-unfoldable pub next_text : List ℕ → Option (List ℕ)
-next_text text = elim (is_dashed text) [ true ↦ Some text | false ↦ past_separator text ]
 
 -- a name as a part of a line: the first, or a further one
 unfoldable pub name_piece : Stage → Name → Piece
@@ -203,6 +220,11 @@ part_text (Some piece) = piece_text piece
 unfoldable pub stage_past : Stage → Option Piece → Stage
 stage_past stage (Some piece) = stage_after piece
 stage_past stage None = stage
+
+-- the stage after these pieces
+unfoldable pub stage_of : Stage → List Piece → Stage
+stage_of stage [] = stage
+stage_of stage (piece ∷ pieces) = stage_of (stage_after piece) pieces
 
 -- these parts are read one after another, and no further part follows
 unfoldable pub ReadsParts : Stage → List ℕ → List (Option Piece) → List ℕ → Type 0

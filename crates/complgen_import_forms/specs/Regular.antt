@@ -2,19 +2,21 @@
 use Rattle.std.specs.Prelude.{◌≡◌, ◌⊎◌, ◌&&◌, ℕ, Bool, true, false, List, [], ◌∷◌, ◌++◌, codes, Option, Some, None, if◌then◌else◌, is_some, length, nat_lt}
 use Rattle.std.specs.List.{flat_map, list_any}
 use Rattle.std.specs.Option.{option_to_list}
+use Rattle.cc_base.specs.Found.{after}
 use Rattle.complgen_import.specs.declared.class.Class.TheVariants.{Blank as BlankByte, HelpMark}
 use Rattle.complgen_import.specs.declared.form.OptionLine.{OptionLine}
 use Rattle.complgen_import.specs.declared.form.Piece.{Piece}
 use Rattle.complgen_import.specs.declared.form.Stage.TheVariants.{Start}
 use Rattle.complgen_import.specs.Classes.{past, run}
 use Rattle.complgen_import.specs.Commands.{IsPiece}
-use Rattle.complgen_import.specs.Form.{IsForm, line_text}
+use Rattle.complgen_import.specs.Form.{IsForm, is_tail, line_text}
 use Rattle.complgen_import.specs.Lines.{IsAmong, IsReading, lines_of}
 use Rattle.complgen_import.specs.Names.{line_names}
+use Rattle.complgen_import.specs.Reading.{name_at}
 use Rattle.complgen_import.specs.Unfolded.{is_dashed}
-use Rattle.complgen_import_forms.specs.Further.{ReadsParts}
+use Rattle.complgen_import_forms.specs.Further.{ReadsParts, stage_of}
 
--- ---- a line
+-- ---- a line of a further form
 
 -- The line may have a further form: it begins with a hyphen, left of the usual column of help texts.
 abbrev pub is_candidate : List ℕ → Bool
@@ -38,9 +40,42 @@ abbrev pub made_line : List ℕ → List (Option Piece) → List ℕ → List �
 made_line line parts rest =
     if list_any is_some parts then line_text (made_form line parts rest) else line
 
--- a line of the stated form stays; another is read as one of a further form
+-- ---- a line of the stated form
+
+-- the text begins with a long name
+abbrev pub begins_long : List ℕ → Bool
+begins_long text = is_some (after (codes "--") text) && is_some (name_at text)
+
+-- the line with these parts after its own
+abbrev pub longer_form : OptionLine → List (Option Piece) → List ℕ → OptionLine
+longer_form form parts rest = record {
+  indent = form.indent;
+  pieces = form.pieces ++ flat_map option_to_list parts;
+  tail = help_tail (past HelpMark rest);
+}
+
+-- the text of that line, if the line ends after the parts, or two spaces follow them
+abbrev pub longer_line : List ℕ → OptionLine → List (Option Piece) → List ℕ → List ℕ
+longer_line line form parts rest =
+    if is_tail rest then line_text (longer_form form parts rest) else line
+
+-- further names and values are read from the help text
+abbrev pub IsLonger : OptionLine → List ℕ → List ℕ → List ℕ → Type 0
+IsLonger form help line made = (parts : List (Option Piece)) × (rest : List ℕ)
+    × ReadsParts (stage_of Start form.pieces) help parts rest
+    × (made ≡ longer_line line form parts rest)
+
+unfoldable pub IsMadeOfForm : Bool → OptionLine → List ℕ → List ℕ → Type 0
+IsMadeOfForm false form line made = made ≡ line
+IsMadeOfForm true form line made = IsLonger form (past BlankByte form.tail) line made
+
+-- ---- any line
+
+-- A line of the stated form stays, unless its help text begins with a long name. Another is read as
+-- one of a further form.
 unfoldable pub IsMadeOf : Option OptionLine → List ℕ → List ℕ → Type 0
-IsMadeOf (Some form) line made = made ≡ line
+IsMadeOf (Some form) line made =
+    IsMadeOfForm (begins_long (past BlankByte form.tail)) form line made
 IsMadeOf None line made = (parts : List (Option Piece)) × (rest : List ℕ)
     × ReadsParts Start (past BlankByte line) parts rest × (made ≡ made_line line parts rest)
 
@@ -65,11 +100,17 @@ IsRegularText text made = (lines : List (List ℕ)) × AreRegular (lines_of text
 
 -- ---- what holds for them
 
--- each line of the stated form stays
+-- each name of the first line is a name of the second
+abbrev pub HasNamesOf : OptionLine → OptionLine → Type 0
+HasNamesOf form kept =
+    (name : List ℕ) → IsAmong name (line_names form) → IsAmong name (line_names kept)
+
+-- for each line of the stated form, there is a line of the stated form that has its names
 abbrev pub KeepsForms : List ℕ → List ℕ → Type 0
 KeepsForms text made =
     (form : OptionLine) → IsForm form → IsAmong (line_text form) (lines_of text) →
-    IsAmong (line_text form) (lines_of made)
+    (kept : OptionLine) × IsForm kept × IsAmong (line_text kept) (lines_of made)
+    × HasNamesOf form kept
 
 -- a name that users type is in the line, as it is or as `--[no-]name`
 abbrev pub IsSaidIn : List ℕ → List ℕ → Type 0

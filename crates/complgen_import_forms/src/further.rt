@@ -4,7 +4,7 @@ ghost use Rattle.std.specs.Prelude.{◌≡◌};
 ghost use Rattle.std.specs.Option.{option_copied};
 ghost use Rattle.complgen_import.specs.declared.class.Class.TheVariants.{WordByte as WordEnd};
 ghost use Rattle.complgen_import.specs.Classes.{past};
-ghost use Rattle.complgen_import_forms.specs.Further.{angled, apart_piece, attached_at, before_comma, before_long, further_name_at, glued_at, is_before_gap, is_gap, is_glued, is_group, is_loud, is_marked, is_value, label, more_at, next_text, past_foreign, past_word, spaced_at, value_at, value_piece, without, word_of};
+ghost use Rattle.complgen_import_forms.specs.Further.{angled, apart_piece, attached_at, before_long, further_name_at, glued_at, is_before_gap, is_before_name, is_gap, is_glued, is_group, is_loud, is_marked, is_name_next, is_value, label, more_at, next_text, past_foreign, past_word, spaced_at, unquoted, value_at, value_piece, without, without_end, word_of};
 
 use complgen_import::{
     Bytes, Class, Mark, Name, Piece, Value, after, before_ending, begins, is_dashed, name_at,
@@ -98,7 +98,7 @@ pub(crate) fn more_at<'a>(text: &'a [u8]) -> Option<(Piece<'a>, Bytes<'a>)>
     ensures { result ≡ more_at text.now }
 {
     let text = after(b" ", text)?;
-    if !is_marked(text) {
+    if !(is_marked(text) || is_before_name(text)) {
         return None;
     }
     let (word, rest) = split_word(text);
@@ -112,7 +112,7 @@ fn split_word<'a>(text: &'a [u8]) -> (Bytes<'a>, Bytes<'a>)
     ensures rest { result.1 ≡ past WordEnd text.now }
 {
     let (word, rest) = split_run(Class::WordByte, text);
-    (Bytes::new(before_comma(word.as_slice())), rest)
+    (Bytes::new(without_end(b",", word.as_slice())), rest)
 }
 
 // Returns whether a word after a space is a value.
@@ -120,7 +120,28 @@ fn split_word<'a>(text: &'a [u8]) -> (Bytes<'a>, Bytes<'a>)
 fn is_value(text: &[u8]) -> bool
     ensures { result ≡ is_value text.now }
 {
-    is_marked(text) || is_loud(text) || is_before_gap(text)
+    is_marked(text) || is_loud(text) || is_before_gap(text) || is_before_name(text)
+}
+
+// Returns whether a word ends in a comma and a name follows it.
+#[tactic(auto, unfolding(crate::specs::Further::is_before_name))]
+fn is_before_name(text: &[u8]) -> bool
+    ensures { result ≡ is_before_name text.now }
+{
+    let (word, rest) = split_run(Class::WordByte, text);
+    begins(Class::InChoice, text)
+        && (before_ending(b",", word.as_slice()).is_some() && is_name_next(rest.as_slice()))
+}
+
+// Returns whether a name comes next.
+#[tactic(auto, unfolding(crate::specs::Further::is_name_next))]
+fn is_name_next(text: &[u8]) -> bool
+    ensures { result ≡ is_name_next text.now }
+{
+    match next_text(text) {
+        Some(rest) => further_name_at(rest.as_slice()).is_some(),
+        None => false,
+    }
 }
 
 // Returns whether a word is before a gap, with two more words between them at most.
@@ -156,7 +177,7 @@ fn is_gap(text: &[u8]) -> bool
 fn is_marked(text: &[u8]) -> bool
     ensures { result ≡ is_marked text.now }
 {
-    begins(Class::Opening, text) || after(b"=", text).is_some()
+    begins(Class::Opening, text) || after(b"=", text).is_some() || after(b"\"", text).is_some()
 }
 
 // Returns whether the text begins with a word in upper case.
@@ -226,8 +247,19 @@ fn angled<'a>(held: Bytes<'a>) -> Value<'a>
 fn label<'a>(word: &'a [u8]) -> Bytes<'a>
     ensures { result ≡ label word.now }
 {
-    let (held, _) = split_run(Class::InAngles, without(b"<", without(b"=", word)));
+    let (held, _) = split_run(
+        Class::InAngles,
+        without(b"<", unquoted(without(b"=", word))),
+    );
     held
+}
+
+// Returns the text without a double quote at its beginning and one at its end.
+#[tactic(auto, unfolding(crate::specs::Further::unquoted))]
+fn unquoted<'a>(text: &'a [u8]) -> &'a [u8]
+    ensures { result.now ≡ unquoted text.now }
+{
+    without_end(b"\"", without(b"\"", text))
 }
 
 #[tactic(auto, unfolding(crate::specs::Further::without))]
@@ -240,13 +272,13 @@ fn without<'a>(front: &[u8], text: &'a [u8]) -> &'a [u8]
     }
 }
 
-#[tactic(auto, unfolding(crate::specs::Further::before_comma))]
-fn before_comma<'a>(word: &'a [u8]) -> &'a [u8]
-    ensures { result.now ≡ before_comma word.now }
+#[tactic(auto, unfolding(crate::specs::Further::without_end))]
+fn without_end<'a>(end: &[u8], text: &'a [u8]) -> &'a [u8]
+    ensures { result.now ≡ without_end end.now text.now }
 {
-    match before_ending(b",", word) {
+    match before_ending(end, text) {
         Some(rest) => rest,
-        None => word,
+        None => text,
     }
 }
 

@@ -4,27 +4,28 @@ ghost use Rattle.std.specs.Prelude.{◌≡◌, ◌++◌, IfOk, OnOk};
 ghost use Rattle.std.specs.List.{flat_map};
 ghost use Rattle.complgen_import.specs.declared.form.Stage.TheVariants.{Start as AtStart};
 ghost use Rattle.complgen_import.specs.Form.{dots, mark_text, name_text, piece_text, value_text};
-ghost use Rattle.complgen_import_forms.specs.Further.{ReadsParts, name_piece, named_at, next_at, part_at, part_text, stage_past, valued_at};
+ghost use Rattle.complgen_import_forms.specs.Further.{ReadsParts, name_piece, named_at, next_at, part_at, part_text, stage_of, stage_past, valued_at};
 
 use crate::further::{further_name_at, more_at, next_text, past_foreign, value_at};
 use cc_base::Items;
 use complgen_import::{Bytes, Mark, Name, Piece, Separator, Stage, Value};
 use std::alloc::{AllocError, Global};
 
-/// Reads names and values as long as there are any. Returns them and the text after the last. A word
-/// that is passed over is `None`.
+/// Reads names and values from this stage on, as long as there are any. Returns them and the text
+/// after the last. A word that is passed over is `None`.
 ///
 /// # Errors
 ///
 /// `AllocError` if an allocation fails.
 pub(crate) fn read_parts<'a>(
     alloc: Global,
+    begun: Stage,
     text: &'a [u8],
 ) -> Result<(Items<Option<Piece<'a>>>, Bytes<'a>), AllocError>
-    ensures { IfOk result (λ read. ReadsParts AtStart text.now read.0 read.1) }
+    ensures { IfOk result (λ read. ReadsParts begun text.now read.0 read.1) }
 {
     let mut parts = Items::new(alloc);
-    let mut stage = Stage::Start;
+    let mut stage = begun;
     let mut rest = text;
     while let Some((part, after)) = part_at(stage, rest) {
         stage = stage_past(stage, &part);
@@ -42,6 +43,18 @@ fn stage_past(stage: Stage, part: &Option<Piece>) -> Stage
         Some(piece) => piece.stage_after(),
         None => stage,
     }
+}
+
+/// Returns the stage after these pieces.
+#[tactic(auto, unfolding(crate::specs::Further::stage_of))]
+pub(crate) fn stage_of(pieces: &[Piece]) -> Stage
+    ensures { result ≡ stage_of AtStart pieces.now }
+{
+    let mut stage = Stage::Start;
+    for piece in pieces {
+        stage = piece.stage_after();
+    }
+    stage
 }
 
 #[tactic(auto, unfolding(crate::specs::Further::part_at))]
@@ -123,7 +136,22 @@ fn push_part(out: &mut Vec<u8>, part: &Option<Piece>) -> Result<(), AllocError>
     }
 }
 
-// Adds the text of a part.
+/// Adds the texts of the pieces.
+///
+/// # Errors
+///
+/// `AllocError` if an allocation fails.
+pub(crate) fn push_pieces(out: &mut Vec<u8>, pieces: &[Piece]) -> Result<(), AllocError>
+    ensures { OnOk result
+        (out.new.items ≡ out.old.items ++ flat_map piece_text pieces.now) }
+{
+    for piece in pieces {
+        push_piece(out, piece)?;
+    }
+    Ok(())
+}
+
+// Adds the text of a piece.
 #[tactic(auto, unfolding(complgen_import::specs::Form::piece_text))]
 fn push_piece(out: &mut Vec<u8>, piece: &Piece) -> Result<(), AllocError>
     ensures { OnOk result (out.new.items ≡ out.old.items ++ piece_text piece.now) }

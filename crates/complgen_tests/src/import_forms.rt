@@ -12,6 +12,16 @@ const HELP: &[u8] = b"Usage: sew [-?]
   -o, --output file or -   the file
   -v be verbose, unlike -d
   -n N  stays
+  -b  --backup  Keep a copy
+  -p NAME  --prefix=NAME   Put it before
+  -s  --quiet  --silent  Say less
+  -t  --trace KIND        report it
+  -m  --maths      use the tables
+  -x  --hem and --dart are ignored
+  -e word=SET, --exchange=SET
+  -dp DAY, --deep DAY  Look at more
+  -a \"ARM\", --arm=\"ARM\"  Sew an arm
+  -l \"leg_file\", --leg \"leg_file\"
   -Xmx SIZE
                      --there is help
 ";
@@ -25,6 +35,16 @@ const REGULAR: &[u8] = b"Usage: sew [-?]
   -o, --output <file>  or -   the file
   -v  be verbose, unlike -d
   -n N  stays
+  -b, --backup  Keep a copy
+  -p NAME, --prefix <NAME>  Put it before
+  -s, --quiet, --silent  Say less
+  -t, --trace <KIND>  report it
+  -m, --maths  use the tables
+  -x  --hem and --dart are ignored
+  -e <word=SET>, --exchange <SET>
+  --deep <DAY>  Look at more
+  -a <ARM>, --arm <ARM>  Sew an arm
+  -l <leg_file>, --leg <leg_file>
   -Xmx SIZE
                      --there is help
 

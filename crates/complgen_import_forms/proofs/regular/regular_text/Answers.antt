@@ -1,6 +1,6 @@
-use Rattle.std.proofs.Common.{rules, ◌≡◌, ◌∷◌, ◌++◌, ◌∙◌, List, [], ℕ, ap, refl, subst, sym}
+use Rattle.std.proofs.Common.{rules, ◌∷◌, ◌++◌, ◌∙◌, List, [], ℕ, ap, subst}
 use Rattle.complgen_import.specs.Lines.{lines_left, lines_of}
-use Rattle.complgen_import_forms.proofs.RegularLaws.{Continues, continues_more, continues_start, invents_none, keeps_forms, regular_end}
+use Rattle.complgen_import_forms.proofs.RegularLaws.{continues_more, continues_start, invents_none, keeps_forms, regular_end}
 use Rattle.complgen_import_forms.specs.Regular.{IsRegular}
 use Rattle.complgen_import_forms.proofs.regular.regular_text.Goals as goal
 
