@@ -1,0 +1,267 @@
+//! A live request as the library gets it, and the calls that it takes.
+
+use super::{key, unexpected, Offered, Request, ASK, STDIN, VALUES};
+use crate::calls::{self, Answer, LiveRequest};
+use crate::engine::{lines, ordered, CompletionCandidate};
+use crate::folder::{likely_folder, Listing};
+use crate::sources::{as_external, Called, Sources};
+use crate::tree_file::{live_file, Line, Sourced};
+use crate::walk::Walked;
+use clap::Command;
+use std::env;
+use std::ffi::{OsStr, OsString};
+use std::io;
+use std::os::unix::ffi::{OsStrExt, OsStringExt};
+use std::path::Path;
+
+/// The user's home directory, and the variable in which the library expects the current directory.
+const HOME: &str = "HOME";
+pub(super) const CURRENT_DIR: &str = "PWD";
+
+/// A text over the values of a completer, and these values.
+pub(super) type OverCompleter = Option<(Vec<u8>, Vec<CompletionCandidate>)>;
+
+/// A request as the library gets it, and what it is about.
+pub(super) struct Asked {
+    pub(super) request: LiveRequest,
+    /// The command, of which the nodes on the way of the words are built.
+    pub(super) command: Command,
+    /// The words before the one to complete, without the program's name.
+    pub(super) before: Vec<String>,
+    /// The word to complete.
+    pub(super) word: String,
+    /// The names of the subcommands to which the words lead.
+    pub(super) path: Vec<String>,
+    /// The places in the tree of the sources of values.
+    pub(super) sourced: Vec<Sourced>,
+    /// The values of a completer that was called already, and its number among all sources.
+    pub(super) known: Option<(usize, Vec<CompletionCandidate>)>,
+    external: Vec<CompletionCandidate>,
+}
+
+impl Asked {
+    /// Makes the request for the word at `index`, or else for the last one.
+    pub(super) fn of(request: Request<'_>, index: Option<usize>, has_keys: bool) -> Asked {
+        let Request { mut command, sources, line, current_dir, .. } = request;
+        let texts: Vec<String> = line.iter().map(|word| word.to_string_lossy().into()).collect();
+        let index = index.unwrap_or(texts.len().saturating_sub(1));
+        let word = texts.get(index).cloned().unwrap_or_default();
+        let named = usize::from(!command.is_no_binary_name_set());
+        let before = texts.get(named..index).unwrap_or_default().to_vec();
+        let LiveTree { tree, path, sourced, external } =
+            live_tree(&mut command, sources, (&before, &word), has_keys);
+        let home = env::var(HOME).ok().filter(|path| !path.is_empty());
+        let current_dir = current_dir.and_then(Path::to_str);
+        let likely = likely_folder(&word, home.as_deref(), current_dir);
+        let start = [OsString::new(), OsString::from("--")];
+        let mut asked = Asked {
+            request: LiveRequest {
+                tree,
+                words: start.into_iter().chain(line).map(OsString::into_vec).collect(),
+                variables: Vec::new(),
+                output: Vec::new(),
+                listing: likely.map(Listing::of).unwrap_or_default(),
+            },
+            command,
+            before,
+            word,
+            path,
+            sourced,
+            known: None,
+            external,
+        };
+        let folders = [(HOME, home.as_deref()), (CURRENT_DIR, current_dir)];
+        for (name, path) in folders.into_iter().filter_map(|(name, path)| Some((name, path?))) {
+            asked.set(name, path.as_bytes());
+        }
+        asked
+    }
+
+    pub(super) fn set(&mut self, name: &str, value: &[u8]) {
+        self.request.variables.extend([name.as_bytes().to_vec(), value.to_vec()]);
+    }
+
+    pub(super) fn set_from_environment(&mut self, name: &str) {
+        if let Some(value) = env::var_os(name) {
+            self.set(name, OsStr::as_bytes(&value));
+        }
+    }
+
+    /// Returns the text with keys over the values of the completer that the words ask for, and these
+    /// values. Returns `None` if they ask for none.
+    pub(super) fn completed(&mut self, sources: &Sources) -> io::Result<OverCompleter> {
+        if !sources.has_completers() {
+            return Ok(None);
+        }
+        let likely = self.over_likely_completer(sources, key)?;
+        if likely.is_some() {
+            return Ok(likely);
+        }
+        match self.call(Some(ASK))? {
+            Answer::Run(words) => self.over_completer(sources, &words, key),
+            _ => Ok(None),
+        }
+    }
+
+    /// Returns the text over the values of the completer that `words` mean, and these values. Returns
+    /// `None` for the words of a command.
+    pub(super) fn over_completer(
+        &mut self,
+        sources: &Sources,
+        words: &[u8],
+        shown: impl Fn(usize, &CompletionCandidate) -> String,
+    ) -> io::Result<OverCompleter> {
+        let Some(called) = sources.called(words) else {
+            return Ok(None);
+        };
+        let candidates = match self.known.take() {
+            Some((number, candidates)) if number == called.number => candidates,
+            _ => self.candidates(&called),
+        };
+        let text = self.text_over(&candidates, lines(&candidates, shown))?;
+        Ok(Some((text, candidates)))
+    }
+
+    /// Calls a completer.
+    pub(super) fn candidates(&self, called: &Called<'_>) -> Vec<CompletionCandidate> {
+        let walked = Walked::of(&self.command, self.before.iter().map(String::as_str));
+        let arg = walked.argument(called.id);
+        let (value, index) = arg.map_or((&*self.word, 0), |arg| walked.value(arg, &self.word));
+        let delimiter = arg.and_then(clap::Arg::get_value_delimiter);
+        let part = delimiter.and_then(|delimiter| value.rsplit_once(delimiter));
+        let typed = part.map_or(value, |(_, last)| last);
+        ordered(called.completer.complete_at(index, typed), typed)
+    }
+
+    /// Returns the text over the lines of candidates. If all of these are hidden, they are offered
+    /// only if nothing else is.
+    fn text_over(
+        &mut self,
+        candidates: &[CompletionCandidate],
+        lines: Vec<u8>,
+    ) -> io::Result<Vec<u8>> {
+        if are_all_hidden(candidates) {
+            let others = self.text(STDIN)?;
+            if !others.is_empty() {
+                return Ok(others);
+            }
+        }
+        self.request.output = lines;
+        self.text(STDIN)
+    }
+
+    pub(super) fn text(&mut self, mode: &str) -> io::Result<Vec<u8>> {
+        match self.call(Some(mode))? {
+            Answer::Text(text) => Ok(text),
+            _ => Err(unexpected()),
+        }
+    }
+
+    /// Calls the library, in this mode of a safe registration. If it needs the names in a directory,
+    /// reads them.
+    pub(super) fn call(&mut self, mode: Option<&str>) -> io::Result<Answer> {
+        match mode {
+            Some(mode) => self.call_in(mode, Asked::call_twice),
+            None => self.call_twice(),
+        }
+    }
+
+    /// Makes a call in this mode of a safe registration.
+    pub(super) fn call_in(
+        &mut self,
+        mode: &str,
+        call: impl FnOnce(&mut Asked) -> io::Result<Answer>,
+    ) -> io::Result<Answer> {
+        let length = self.request.variables.len();
+        self.set(VALUES, mode.as_bytes());
+        let answer = call(self);
+        self.request.variables.truncate(length);
+        answer
+    }
+
+    fn call_twice(&mut self) -> io::Result<Answer> {
+        let answer = calls::live(&self.request)?;
+        let Answer::WantsFolder(path) = answer else {
+            return Ok(answer);
+        };
+        self.request.listing = Listing::of(path);
+        match calls::live(&self.request)? {
+            // No request needs the names of two directories.
+            Answer::WantsFolder(path) => Err(io::Error::other(format!("wanted besides: {path}"))),
+            answer => Ok(answer),
+        }
+    }
+
+    /// Reads the values and keys in a reply to zsh.
+    pub(super) fn offered(
+        self,
+        text: &[u8],
+        separator: char,
+        completed: Vec<CompletionCandidate>,
+    ) -> Offered {
+        let text = String::from_utf8_lossy(text);
+        let items = text.split(separator).filter(|item| !item.is_empty());
+        Offered { values: items.map(value_and_key).collect(), completed, external: self.external }
+    }
+}
+
+/// Returns whether there are candidates, and all of them are hidden.
+pub(super) fn are_all_hidden(candidates: &[CompletionCandidate]) -> bool {
+    !candidates.is_empty() && candidates.iter().all(CompletionCandidate::is_hide_set)
+}
+
+/// The part of a tree that a line needs, and what it was made for.
+struct LiveTree {
+    tree: String,
+    /// The names of the subcommands to which the words lead.
+    path: Vec<String>,
+    /// The places in the tree of the sources of values.
+    sourced: Vec<Sourced>,
+    /// What is offered as external subcommands.
+    external: Vec<CompletionCandidate>,
+}
+
+fn live_tree(
+    command: &mut Command,
+    sources: &Sources,
+    (before, word): (&[String], &str),
+    has_keys: bool,
+) -> LiveTree {
+    let words: Vec<&str> = before.iter().map(String::as_str).collect();
+    let reached = words.iter().fold((&*command, Vec::new()), |(node, path), word| {
+        let Some(child) = node.find_subcommand(word) else {
+            return (node, path);
+        };
+        (child, path.into_iter().chain([child.get_name()]).collect())
+    });
+    let (node, path) = reached;
+    let owned: Vec<String> = path.into_iter().map(str::to_owned).collect();
+    let path: Vec<&str> = owned.iter().map(String::as_str).collect();
+    let external = match node.is_allow_external_subcommands_set() {
+        true => sources.external_at(node, &path, (&words, word)),
+        false => Vec::new(),
+    };
+    let own_help = |it: &CompletionCandidate| it.get_help().map(ToString::to_string);
+    let shown = external.iter().enumerate().map(|(number, it)| {
+        as_external(it, if has_keys { Some(format!("e{number}")) } else { own_help(it) })
+    });
+    let shown: Vec<_> = shown.collect();
+    let line = Line { words: &words, path: &path, external: &shown, has_keys };
+    let (tree, sourced) = live_file(command, &sources.values_from(), &line);
+    LiveTree { tree, path: owned, sourced, external }
+}
+
+/// Returns the value and the key of an item as zsh reads it: without the backslashes before `\` and
+/// `:`, around the first other `:`.
+fn value_and_key(item: &str) -> (String, Option<String>) {
+    let mut value = String::new();
+    let mut rest = item.chars();
+    while let Some(character) = rest.next() {
+        match character {
+            '\\' => value.extend(rest.next()),
+            ':' => return (value, Some(rest.as_str().replace("\\\\", "\\"))),
+            _ => value.push(character),
+        }
+    }
+    (value, None)
+}
