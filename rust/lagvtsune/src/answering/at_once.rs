@@ -1,5 +1,5 @@
-//! Answers over the values of a completer by one call of the library. The library says which argument
-//! the words ask for, but mostly the words show it.
+//! Answers with the values of a completer by one call of the library. The library tells which
+//! argument the words ask for, but mostly the words show it.
 
 use super::asked::{are_all_hidden, Asked, OverCompleter, CURRENT_DIR};
 use super::STDIN;
@@ -10,16 +10,16 @@ use crate::walk::Walked;
 use std::io;
 use std::mem;
 
-/// What a tree has in place of a source of values that is not asked: values for which the library
-/// wants the names in a directory.
+/// What a tree has instead of each other source of values. For the values of such an argument, the
+/// library needs the names in a directory.
 const OTHER_SOURCE: &str = ", \"value_hint\": \"AnyPath\"";
 
 impl Asked {
-    /// Answers over the values of the completer that the words seem to ask for, without asking the
-    /// library first. Returns `None` if no words do, or if the library may have to be called again.
+    /// Answers with the values of the completer that the words seem to ask for, before the library
+    /// tells so. Returns `None` if they seem to ask for none, or if another call is necessary.
     ///
-    /// The tree in this call has paths in place of all other sources. So if the words ask for one of
-    /// those, the library wants a directory, and this returns `None` too.
+    /// In the tree of this call, the arguments with other sources have paths as their values. So if
+    /// the words ask for one of those, the library requests a directory, and this returns `None`.
     pub(super) fn over_likely_completer(
         &mut self,
         sources: &Sources,
@@ -44,7 +44,7 @@ impl Asked {
     /// Returns the completer of the argument that the words ask for, if it is clear that they ask for
     /// this one or for none.
     fn likely_completer<'s>(&self, sources: &'s Sources) -> Option<Called<'s>> {
-        if !sources.has_completers() || !self.wants_current_dir_for_paths() {
+        if !sources.has_completers() || !self.needs_current_dir_for_paths() {
             return None;
         }
         let walked = Walked::of(&self.command, self.before.iter().map(String::as_str));
@@ -52,9 +52,9 @@ impl Asked {
         sources.completer_at(&self.path, arg.get_id().as_str())
     }
 
-    /// Returns whether the library would want the names in the current directory, if the word to
+    /// Returns whether the library would request the names in the current directory, if the word to
     /// complete were a path.
-    fn wants_current_dir_for_paths(&self) -> bool {
+    fn needs_current_dir_for_paths(&self) -> bool {
         let mut names = self.request.variables.iter().step_by(2);
         !self.word.contains(['/', '~']) && names.any(|name| name == CURRENT_DIR.as_bytes())
     }
@@ -82,7 +82,7 @@ impl Asked {
     }
 }
 
-/// A text that was made after the library asked for a completer, or for none.
+/// The text after the library has told which completer the words ask for, if any.
 #[cfg(test)]
 pub(crate) struct AfterAsking {
     pub(crate) text: Vec<u8>,
