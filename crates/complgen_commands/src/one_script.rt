@@ -55,10 +55,11 @@ fn script_by<W: Sink>(
 {
     let mut command = tree_and_release(alloc, file, when)?;
     let bin = String::from_str(alloc, bin)?;
-    let written = generate(alloc, shell, &mut command, bin, out);
-    discard(command, when);
-    match written {
-        Ok(()) => Ok(()),
+    match generate(alloc, shell, &mut command, bin, out) {
+        Ok(()) => {
+            discard(command, when);
+            Ok(())
+        }
         Err(error) => Err(error_refusal(alloc, &error)),
     }
 }
