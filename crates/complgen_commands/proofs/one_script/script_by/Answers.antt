@@ -18,8 +18,8 @@ pub returns-in-Ok-clause-ends : goal.returns-in-Ok-clause-ends
 returns-in-Ok-clause-ends g c =
     rw (sym c.in_ok-bin.ensures.ok) (script_written _ _ _ _ _ _ _ _ c.in_ok-command.ensures c.in-Ok.ensures.written)
 
-pub returns-clause-ends : goal.returns-clause-ends
-returns-clause-ends g c =
+pub returns-in-Err-clause-ends : goal.returns-in-Err-clause-ends
+returns-in-Err-clause-ends g c =
     rw (sym c.in_ok-bin.ensures.ok) (script_failed _ _ _ _ _ _ _ _ _ _ c.in_ok-command.ensures c.in-Err.ensures.written c.error_refusal.ensures)
 
 pub returns-in-Ok-clause-read_back : goal.returns-in-Ok-clause-read_back
