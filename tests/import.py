@@ -373,7 +373,7 @@ def try_many(room):
 
 
 def try_repeating(room):
-    """Commands that ignore their words end the walk after one round."""
+    """Commands that ignore their words end the walk after one round. The options of the program are theirs."""
     write(os.path.join(room.path, "same.txt"), listing(["one", "two", "three"], "--same"))
     room.script("same", f"cat '{room.path}/same.txt'")
     room.script("other", 'echo "usage: other $*"', f"cat '{room.path}/same.txt'")
@@ -381,12 +381,16 @@ def try_repeating(room):
         room.expect(f"{name}: status", 0, room.run("--walk", name)[0])
         calls = [f"{name} {rest}--help" for rest in ("", "one ", "two ", "three ")]
         room.expect(f"{name}: runs", sorted(calls), sorted(room.logged()))
-        room.expect(f"{name}: options below", [[], [], []],
-                    [option_names(it) for it in room.tree(name)["subcommands"]])
+        tree = room.tree(name)
+        room.expect(f"{name}: options", [("same", True)], [(it["long"], it.get("global")) for it in tree["args"]])
+        room.expect(f"{name}: below", [("one", False), ("two", False), ("three", False)],
+                    [(it["name"], bool(it.get("args") or it.get("subcommands"))) for it in tree["subcommands"]])
     write(os.path.join(room.path, "single.txt"), listing(["one"], "--single"))
     room.script("single", f"cat '{room.path}/single.txt'")
     room.expect("single: status", 0, room.run("--walk", "single")[0])
-    room.expect("single: options below", [[]], [option_names(it) for it in room.tree("single")["subcommands"]])
+    below = room.tree("single")["subcommands"]
+    room.expect("single: below", [("one", False)],
+                [(it["name"], bool(it.get("args") or it.get("subcommands"))) for it in below])
     room.logged()
     text = os.path.join(room.path, "deep.txt")
     write(text, listing(["help", "on"], "--deep"))
