@@ -219,11 +219,12 @@ def try_formats(room, options):
 
 
 def try_program(room, options):
-    """Imports each text of a program itself. Only this text is read."""
+    """Imports each text of a program itself. Only this text is read, so no option is global."""
     for folder in sorted(os.listdir(TEXTS)):
         expected, _ = expected_rows(folder)
         name = program_of(expected)
-        own = [row for row in expected if re.match(rf"{name}:|{name} [\w-]+(,|$)", row)]
+        rows_here = [row for row in expected if re.match(rf"{name}:|{name} [\w-]+(,|$)", row)]
+        own = [row.removesuffix(" global") for row in rows_here]
         room.printing(name, os.path.join(TEXTS, folder))
         room.run(name)
         room.expect(f"{name}: runs", [f"{name} --help"], room.logged())
