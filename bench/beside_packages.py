@@ -55,7 +55,7 @@ PROGRAMS = {
     "pip3": (["--walk"], [
         "pip3 ", "pip3 --", "pip3 install --", "pip3 install -", "pip3 install --no-", "pip3 list --",
         "pip3 list --format ", "pip3 download --", "pip3 config ", "pip3 un"]),
-    "systemctl": ([], [
+    "systemctl": (["--walk"], [
         "systemctl ", "systemctl --", "systemctl -", "systemctl list-", "systemctl list-units --",
         "systemctl set-", "systemctl --no-", "systemctl status --", "systemctl --type ", "systemctl --output="]),
     "wget": ([], [
