@@ -68,7 +68,7 @@ PROGRAMS = {
         "rg --", "rg -", "rg --co", "rg --no-", "rg --ignore-", "rg --color ", "rg --color=", "rg --sort ",
         "rg --engine ", "rg --max-"]),
 }
-# What makes a shell offer only what complgen offers, and what makes it load the packages' completion.
+# Commands that turn off a shell's own completion, and commands that load the completion of packages.
 ALONE = {"fish": "set -g fish_complete_path"}
 PACKAGES = {"bash": "source /usr/share/bash-completion/bash_completion; eval \"$(pip3 completion --bash 2>&-)\""}
 # The registration for zsh calls `compadd` as completion functions do. Here it also writes down what is accepted.
