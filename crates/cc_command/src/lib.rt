@@ -16,6 +16,6 @@ mod node;
 pub use crate::command::{
     Arguments, Command, NameAndVisibleAliases, add_argument, add_child, build_as, contains_name,
     first_with_id, from_node, full_name, has_id, has_name, has_no_quote, is_quiet_value,
-    lacks_index, list_values, node_of, unescaped_quote,
+    lacks_index, list_values, node_of, reserve_arguments, reserve_children, unescaped_quote,
 };
 pub use crate::node::Node;

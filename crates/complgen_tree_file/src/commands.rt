@@ -15,7 +15,9 @@ use crate::error::TreeError;
 use crate::keys::{all_keys, only_in, set_group};
 use crate::values::{FromValue, MOST_KEYS, set};
 use cc_base::Text;
-use cc_command::{Command, Node, add_argument, add_child, from_node};
+use cc_command::{
+    Command, Node, add_argument, add_child, from_node, reserve_arguments, reserve_children,
+};
 use complgen_json::{Value, find_keys};
 use std::alloc::Global;
 
@@ -90,6 +92,7 @@ fn add_children(parent: &mut Command, alloc: Global, value: &Value<'_>) -> Resul
         (form.commands_of (view value.now))) parent.old parent.new }
 {
     let items = complgen_json::items(value).ok_or(TreeError::BadForm)?;
+    reserve_children(parent, items.len())?;
     for item in items {
         add_child(parent, command(alloc, item)?)?;
     }
@@ -245,6 +248,7 @@ fn add_each(node: &mut Node, alloc: Global, value: &Value<'_>) -> Result<(), Tre
         (form.arguments_of (view value.now))) node.old node.new }
 {
     let items = complgen_json::items(value).ok_or(TreeError::BadForm)?;
+    reserve_arguments(node, alloc, items.len())?;
     for item in items {
         add_argument(node, arg(alloc, item)?)?;
     }

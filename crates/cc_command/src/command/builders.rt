@@ -6,8 +6,9 @@ ghost use Rattle.cc_command.specs.Made.{ordered_node, with_argument, with_child}
 use crate::command::Command;
 use crate::node::Node;
 use cc_arg::{Arg, fill_display_order};
-use cc_base::Error;
-use std::alloc::AllocError;
+use cc_base::{Error, Items};
+use std::alloc::{AllocError, Global};
+use std::mem::replace;
 
 impl Command {
     /// Adds an argument. If it is an option or a flag, it uses up the next display order of the
@@ -83,6 +84,31 @@ pub fn add_child(command: &mut Command, mut child: Command) -> Result<(), AllocE
     command.node.next_order = command.node.next_order.saturating_add(1);
     push_child(&mut command.children, child)?;
     Ok(())
+}
+
+/// Makes room for `count` more arguments, so that adding these moves the others only once.
+///
+/// # Errors
+///
+/// `AllocError` if the allocation fails. The arguments are then dropped.
+pub fn reserve_arguments(node: &mut Node, alloc: Global, count: usize) -> Result<(), AllocError>
+    ensures ok { OnOk result (node.new ≡ node.old) }
+{
+    let mut arguments = replace(&mut node.arguments, Items::new(alloc)).into_vec();
+    arguments.reserve_exact(count)?;
+    node.arguments = Items::from(arguments);
+    Ok(())
+}
+
+/// Makes room for `count` more children, so that adding these moves the others only once.
+///
+/// # Errors
+///
+/// `AllocError` if the allocation fails.
+pub fn reserve_children(command: &mut Command, count: usize) -> Result<(), AllocError>
+    ensures same { command.new ≡ command.old }
+{
+    command.children.reserve_exact(count)
 }
 
 // Adds a child at the end. The first child gets room for one only: a `Vec` would begin with room
