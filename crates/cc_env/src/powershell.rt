@@ -13,8 +13,8 @@ use std::alloc::Global;
 
 /// The adapter for PowerShell.
 ///
-/// Completes the last word, and replies with a line for each value, its help after a tab. PowerShell
-/// shows the value instead of a help text with a tab.
+/// Completes the last word, and replies with a line for each value, its help after a tab.
+/// PowerShell shows the value instead of a help text with a tab.
 #[derive(Clone, Copy, PartialEq, Eq, Debug)]
 pub struct Powershell;
 

@@ -1,5 +1,5 @@
-//! What a completion depends on besides the words: environment variables and two directories. They
-//! are read only if a shell requests something.
+//! Reads what a completion depends on besides the words, if a shell requests one: environment
+//! variables, the home directory and the current directory.
 
 ghost use Rattle.std.specs.Prelude.{◌≡◌, IfOk, None, codes};
 ghost use Rattle.cc_replies.specs.Environment.{value_of};

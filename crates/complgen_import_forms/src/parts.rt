@@ -11,8 +11,8 @@ use cc_base::Items;
 use complgen_import::{Bytes, Mark, Name, Piece, Separator, Stage, Value};
 use std::alloc::{AllocError, Global};
 
-/// Reads names and values from this stage on, as long as there are any. Returns them and the text
-/// after the last. A word that is passed over is `None`.
+/// Reads names and values from this stage on, as long as there are any. Returns them, and the text
+/// after the last one. A word that is passed over is `None`.
 ///
 /// # Errors
 ///
