@@ -1,5 +1,6 @@
 pub mod ClapParses
 pub mod Described
+pub mod FailureText
 pub mod Messages
 pub mod Requests
 pub mod Running

@@ -22,6 +22,10 @@ pub enum Failure<E> {
 }
 
 impl<E: fmt::Display> fmt::Display for Failure<E> {
+    ghost use Rattle.cc_program.specs.FailureText.{failure_text};
+
+    ghost output = { failure_text E.output };
+
     fn fmt<W: fmt::Write>(&self, f: &mut fmt::Formatter<W>) -> fmt::Result {
         match self {
             Failure::Words(error) => fmt::Display::fmt(error, f),
