@@ -44,7 +44,8 @@ const MOST_OUTPUT: usize = 16 << 20;
 
 /// A request of a shell for the candidates of a word.
 pub struct Request<'r> {
-    pub(crate) command: Command,
+    /// The command. A request builds the nodes on the way of the words.
+    pub(crate) command: &'r mut Command,
     pub(crate) sources: &'r Sources,
     /// The words of the command line.
     pub(crate) line: Vec<OsString>,

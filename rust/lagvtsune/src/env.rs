@@ -169,9 +169,10 @@ impl<'s, F: Fn() -> Command> CompleteEnv<'s, F> {
     /// stdout, and ends the process. The exit status is 0, 3 after the words of a command, or 2
     /// after an error message. Otherwise does nothing.
     pub fn complete(self) {
-        let current_dir = env::current_dir().ok();
-        match self.try_complete_asking(env::args_os(), current_dir.as_deref()) {
-            Ok(Some(status)) => process::exit(status.into()),
+        let (args, current_dir) = (env::args_os().collect::<Vec<_>>(), env::current_dir().ok());
+        match self.answer(&args, current_dir.as_deref(), true) {
+            // The process ends, so nothing frees the command.
+            Ok(Some((status, _command))) => process::exit(status.into()),
             Ok(None) => {}
             Err(error) => error.exit(),
         }
@@ -214,17 +215,17 @@ impl<'s, F: Fn() -> Command> CompleteEnv<'s, F> {
         current_dir: Option<&Path>,
     ) -> Result<Option<u8>> {
         let args: Vec<_> = args.into_iter().map(Into::into).collect();
-        self.answer(&args, current_dir, true)
+        Ok(self.answer(&args, current_dir, true)?.map(|(status, _)| status))
     }
 
-    /// Writes what is requested, and returns the exit status. Without `may_run`, commands are
-    /// turned off.
+    /// Writes what is requested, and returns the exit status and the command. Without `may_run`,
+    /// commands are turned off.
     fn answer(
         mut self,
         args: &[OsString],
         current_dir: Option<&Path>,
         may_run: bool,
-    ) -> Result<Option<u8>> {
+    ) -> Result<Option<(u8, Command)>> {
         let requested = env::var_os(self.var).filter(|name| !name.is_empty() && name != "0");
         let Some(name) = requested else {
             return Ok(None);
@@ -232,7 +233,7 @@ impl<'s, F: Fn() -> Command> CompleteEnv<'s, F> {
         // A program that a completer starts must not answer the request.
         env::remove_var(self.var);
         let shell = self.shells.completer_for_path(Path::new(&name))?;
-        let command = (self.factory)();
+        let mut command = (self.factory)();
         self.sources.check(&command)?;
         let Some((program, line)) = args.split_first() else {
             return Err(io::Error::other("no arguments").into());
@@ -248,13 +249,14 @@ impl<'s, F: Fn() -> Command> CompleteEnv<'s, F> {
         } else {
             self.sources.add_attached(&command, &mut Vec::new());
             let (sources, line) = (&self.sources, line.to_vec());
+            let command = &mut command;
             let request = Request { command, sources, line, current_dir, may_run };
             shell.write_answer(request, &mut text)?
         };
         let mut stdout = io::stdout();
         stdout.write_all(&text)?;
         stdout.flush()?;
-        Ok(Some(status))
+        Ok(Some((status, command)))
     }
 }
 

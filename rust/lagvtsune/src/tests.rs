@@ -531,15 +531,16 @@ fn a_completer_is_called_before_or_after_the_library_asks() {
             let count = numbers.below(5);
             let typed = (0..=count).map(|_| TYPED[numbers.below(TYPED.len())]);
             let line: Vec<_> = ["app"].into_iter().chain(typed).map(Into::into).collect();
-            let request = || Completion {
-                command: command.clone(),
+            let mut commands = [command.clone(), command.clone()];
+            let requests = commands.each_mut().map(|command| Completion {
+                command,
                 sources: &sources,
                 line: line.clone(),
                 current_dir: Some(&current_dir),
                 may_run: false,
-            };
+            });
             let shell = LIVE_SHELLS[numbers.below(LIVE_SHELLS.len())];
-            let (likely, asked) = likely_and_asked(shell, request);
+            let (likely, asked) = likely_and_asked(shell, requests);
             early += usize::from(likely.is_some());
             over += usize::from(asked.is_over_completer);
             if let Some(text) = likely {

@@ -22,10 +22,10 @@ pub(super) const CURRENT_DIR: &str = "PWD";
 pub(super) type OverCompleter = Option<(Vec<u8>, Vec<CompletionCandidate>)>;
 
 /// A request as the library gets it, and what it is about.
-pub(super) struct Asked {
+pub(super) struct Asked<'r> {
     pub(super) request: LiveRequest,
     /// The command, of which the nodes on the way of the words are built.
-    pub(super) command: Command,
+    pub(super) command: &'r Command,
     /// The words before the one to complete, without the program's name.
     pub(super) before: Vec<String>,
     /// The word to complete.
@@ -39,17 +39,17 @@ pub(super) struct Asked {
     external: Vec<CompletionCandidate>,
 }
 
-impl Asked {
+impl<'r> Asked<'r> {
     /// Makes the request for the word at `index`, or else for the last one.
-    pub(super) fn of(request: Request<'_>, index: Option<usize>, has_keys: bool) -> Asked {
-        let Request { mut command, sources, line, current_dir, .. } = request;
+    pub(super) fn of(request: Request<'r>, index: Option<usize>, has_keys: bool) -> Asked<'r> {
+        let Request { command, sources, line, current_dir, .. } = request;
         let texts: Vec<String> = line.iter().map(|word| word.to_string_lossy().into()).collect();
         let index = index.unwrap_or(texts.len().saturating_sub(1));
         let word = texts.get(index).cloned().unwrap_or_default();
         let named = usize::from(!command.is_no_binary_name_set());
         let before = texts.get(named..index).unwrap_or_default().to_vec();
         let LiveTree { tree, path, sourced, external } =
-            live_tree(&mut command, sources, (&before, &word), has_keys);
+            live_tree(command, sources, (&before, &word), has_keys);
         let home = env::var(HOME).ok().filter(|path| !path.is_empty());
         let current_dir = current_dir.and_then(Path::to_str);
         let likely = likely_folder(&word, home.as_deref(), current_dir);
@@ -124,7 +124,7 @@ impl Asked {
 
     /// Calls a completer.
     pub(super) fn candidates(&self, called: &Called<'_>) -> Vec<CompletionCandidate> {
-        let walked = Walked::of(&self.command, self.before.iter().map(String::as_str));
+        let walked = Walked::of(self.command, self.before.iter().map(String::as_str));
         let arg = walked.argument(called.id);
         let (value, index) = arg.map_or((&*self.word, 0), |arg| walked.value(arg, &self.word));
         let delimiter = arg.and_then(clap::Arg::get_value_delimiter);
@@ -170,7 +170,7 @@ impl Asked {
     pub(super) fn call_in(
         &mut self,
         mode: &str,
-        call: impl FnOnce(&mut Asked) -> io::Result<Answer>,
+        call: impl FnOnce(&mut Self) -> io::Result<Answer>,
     ) -> io::Result<Answer> {
         let length = self.request.variables.len();
         self.set(VALUES, mode.as_bytes());

@@ -14,7 +14,7 @@ use std::mem;
 /// library needs the names in a directory.
 const OTHER_SOURCE: &str = ", \"value_hint\": \"AnyPath\"";
 
-impl Asked {
+impl Asked<'_> {
     /// Answers with the values of the completer that the words seem to ask for, before the library
     /// tells so. Returns `None` if they seem to ask for none, or if another call is necessary.
     ///
@@ -47,7 +47,7 @@ impl Asked {
         if !sources.has_completers() || !self.needs_current_dir_for_paths() {
             return None;
         }
-        let walked = Walked::of(&self.command, self.before.iter().map(String::as_str));
+        let walked = Walked::of(self.command, self.before.iter().map(String::as_str));
         let arg = walked.likely_asked_by(&self.word)?;
         sources.completer_at(&self.path, arg.get_id().as_str())
     }
@@ -89,21 +89,20 @@ pub(crate) struct AfterAsking {
     pub(crate) is_over_completer: bool,
 }
 
-/// Returns the text for a request as it is made at once, if it can be, and as it is made after the
-/// library was asked.
+/// Returns the text for the first request as it is made at once, if it can be. Returns the text for
+/// the second one as it is made after the library was asked.
 #[cfg(test)]
-pub(crate) fn likely_and_asked<'r>(
+pub(crate) fn likely_and_asked(
     shell: &str,
-    request: impl Fn() -> super::Request<'r>,
+    requests: [super::Request<'_>; 2],
 ) -> (Option<Vec<u8>>, AfterAsking) {
-    let sources = request().sources;
-    let asked = || {
-        let mut asked = Asked::of(request(), None, false);
+    let sources = requests[0].sources;
+    let [mut first, mut other] = requests.map(|request| {
+        let mut asked = Asked::of(request, None, false);
         asked.set(super::REQUEST, shell.as_bytes());
         asked
-    };
-    let likely = asked().over_likely_completer(sources, super::help).unwrap();
-    let mut other = asked();
+    });
+    let likely = first.over_likely_completer(sources, super::help).unwrap();
     let after = match other.call(Some(super::ASK)).unwrap() {
         Answer::Text(text) => AfterAsking { text, is_over_completer: false },
         Answer::Run(words) => {

@@ -55,7 +55,8 @@ pub(crate) fn candidates(
 ) -> io::Result<Vec<CompletionCandidate>> {
     let first = usize::from(!cmd.is_no_binary_name_set());
     let texts: Vec<_> = line.iter().map(|word| word.to_string_lossy().into_owned()).collect();
-    let request = Request { command: cmd.clone(), sources, line, current_dir, may_run: false };
+    let command = &mut cmd.clone();
+    let request = Request { command, sources, line, current_dir, may_run: false };
     let offered = offered(request, index)?;
     let before = texts.get(first..index).unwrap_or_default();
     let place = Place {

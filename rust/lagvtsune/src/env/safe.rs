@@ -122,7 +122,7 @@ impl EnvCompleter for SafeShell {
         }
         let mut sources = Sources::default();
         sources.add_attached(cmd, &mut Vec::new());
-        let command = cmd.clone();
+        let command = &mut cmd.clone();
         let request =
             Request { command, sources: &sources, line: args, current_dir, may_run: false };
         self.write_answer(request, buf).map(drop)

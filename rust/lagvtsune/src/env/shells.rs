@@ -104,9 +104,9 @@ pub trait EnvCompleter {
     /// command, and returns the exit status.
     #[doc(hidden)]
     fn write_answer(&self, request: Request<'_>, buf: &mut dyn Write) -> Result<u8, Error> {
-        let Request { mut command, line, current_dir, .. } = request;
+        let Request { command, line, current_dir, .. } = request;
         command.build();
-        self.write_complete(&mut command, line, current_dir, buf)?;
+        self.write_complete(command, line, current_dir, buf)?;
         Ok(0)
     }
 }
@@ -213,9 +213,9 @@ impl Builtin {
             buf.write_all(&plain_answer(self.name(), request, index)?)?;
             return Ok(0);
         }
-        let Request { mut command, sources, line, current_dir, .. } = request;
+        let Request { command, sources, line, current_dir, .. } = request;
         command.build();
-        self.write_reply(&candidates(&command, sources, line, index, current_dir)?, buf)?;
+        self.write_reply(&candidates(command, sources, line, index, current_dir)?, buf)?;
         Ok(0)
     }
 }
