@@ -1,7 +1,7 @@
 //! Calls the library with enough room for its result.
 
 use crate::folder::Listing;
-use crate::native::{self, Bytes, Request, Returned};
+use crate::native::{self, Bytes, Request};
 use std::io;
 
 /// The minimum size of the first room, in bytes. A longer text takes a second call.
@@ -20,10 +20,9 @@ const SCRIPT_LENGTHS: usize = 10;
 pub(crate) fn script(shell: &str, bin: &str, tree: &str) -> io::Result<Vec<u8>> {
     let (shell, bin, tree) = (shell.as_bytes(), bin.as_bytes(), tree.as_bytes());
     let first = LEAST_ROOM.max(SCRIPT_LENGTHS * tree.len());
-    let (status, text) = with_room(first, |room| native::script(shell, bin, tree, room));
-    match status {
-        0 => Ok(text),
-        other => Err(refusal(other, &text)),
+    match native::script(shell, bin, tree, first) {
+        (0, text) => Ok(text),
+        (other, text) => Err(refusal(other, &text)),
     }
 }
 
@@ -70,7 +69,7 @@ pub(crate) fn live(request: &LiveRequest) -> io::Result<Answer> {
         folders: slices(&request.listing.folders),
         files: slices(&request.listing.files),
     };
-    let (status, text) = with_room(LEAST_ROOM, |room| native::live(&request, room));
+    let (status, text) = native::live(&request, LEAST_ROOM);
     match status {
         0 => Ok(Answer::Text(text)),
         3 => Ok(Answer::NotRequested),
@@ -91,19 +90,5 @@ fn refusal(status: u8, text: &[u8]) -> io::Error {
         1 => io::Error::other(String::from_utf8_lossy(text).trim_end()),
         2 => io::Error::other("words: not UTF-8"),
         other => io::Error::other(format!("the library ended with the status {other}")),
-    }
-}
-
-/// Makes a call, and repeats it with more room if the text is longer than the first. Returns the
-/// status and the text.
-fn with_room(first: usize, call: impl Fn(&mut [u8]) -> Returned) -> (u8, Vec<u8>) {
-    let mut room = vec![0; first];
-    loop {
-        let Returned { status, length } = call(&mut room);
-        if length <= room.len() {
-            room.truncate(length);
-            return (status, room);
-        }
-        room = vec![0; length];
     }
 }

@@ -49,6 +49,9 @@ mod generation;
 mod generators;
 #[cfg(lagvtsune_own)]
 #[allow(unsafe_code)]
+mod memory;
+#[cfg(lagvtsune_own)]
+#[allow(unsafe_code)]
 mod native;
 #[cfg(all(test, lagvtsune_own))]
 #[allow(unsafe_code)]

@@ -1,13 +1,12 @@
-//! The archive of the proved library: its functions over bytes, and the memory that they request.
-//! All unsafe code of this package is here.
+//! The archive of the proved library: its functions over bytes.
+//! The unsafe code of this package is here and in `memory.rs`.
 //!
 //! `release/declarations.py` compares the declarations with `crates/complgen_c/src`, including their
-//! comments, and the tests call each function. The library does not unwind. The memory functions
-//! that it calls let no panic out: a panic of the program's allocator ends the process at the edge
-//! of an `extern "C"` function.
+//! comments, and the tests call each function. The library does not unwind.
 
-use std::alloc::{self, Layout};
+use crate::memory;
 use std::marker::PhantomData;
+use std::mem::MaybeUninit;
 
 extern "C" {
     // Each slice is passed as its start and its length.
@@ -132,13 +131,24 @@ pub(crate) struct Returned {
     pub(crate) length: usize,
 }
 
-/// Writes the script for the shell `shell`, under the name `bin`, of the command in the tree file
-/// `tree`, to `room`. All bytes are allowed. Allocates only the memory that the library requests.
-pub(crate) fn script(shell: &[u8], bin: &[u8], tree: &[u8], room: &mut [u8]) -> Returned {
+/// Returns the script for the shell `shell`, under the name `bin`, of the command in the tree file
+/// `tree`, and its status. All bytes are allowed. The first room has `first` bytes.
+pub(crate) fn script(shell: &[u8], bin: &[u8], tree: &[u8], first: usize) -> (u8, Vec<u8>) {
+    with_room(first, |room| script_in(shell, bin, tree, room))
+}
+
+/// Writes such a script to `room`. Allocates only the memory that the library requests.
+pub(crate) fn script_in(
+    shell: &[u8],
+    bin: &[u8],
+    tree: &[u8],
+    room: &mut [MaybeUninit<u8>],
+) -> Returned {
     let mut status = u8::MAX;
     // SAFETY: the function is proved for all bytes. It reads these slices and writes to `room` and
-    // `status`, each of which is borrowed here until it returns, and it keeps none of them.
-    let length = unsafe {
+    // `status`, each of which is borrowed here until it returns, and it keeps none of them. It does
+    // not depend on the bytes that `room` had before.
+    let length = memory::for_call(|| unsafe {
         lagvtsune_script(
             shell.as_ptr(),
             shell.len(),
@@ -146,11 +156,11 @@ pub(crate) fn script(shell: &[u8], bin: &[u8], tree: &[u8], room: &mut [u8]) -> 
             bin.len(),
             tree.as_ptr(),
             tree.len(),
-            room.as_mut_ptr(),
+            room.as_mut_ptr().cast(),
             room.len(),
             &raw mut status,
         )
-    };
+    });
     Returned { status, length }
 }
 
@@ -172,12 +182,17 @@ pub(crate) struct Request<'r> {
     pub(crate) files: Vec<Bytes<'r>>,
 }
 
-/// Writes the registration, the reply or the command that is requested to `room`. All bytes are allowed.
-/// Allocates only the memory that the library requests.
-pub(crate) fn live(request: &Request<'_>, room: &mut [u8]) -> Returned {
+/// Returns the registration, the reply or the command that is requested, and the status. All bytes are
+/// allowed. The first room has `first` bytes.
+pub(crate) fn live(request: &Request<'_>, first: usize) -> (u8, Vec<u8>) {
+    with_room(first, |room| live_in(request, room))
+}
+
+/// Writes such a text to `room`. Allocates only the memory that the library requests.
+pub(crate) fn live_in(request: &Request<'_>, room: &mut [MaybeUninit<u8>]) -> Returned {
     let mut status = u8::MAX;
-    // SAFETY: as in `script`. Each `Bytes` in the lists borrows its slice.
-    let length = unsafe {
+    // SAFETY: as in `script_in`. Each `Bytes` in the lists borrows its slice.
+    let length = memory::for_call(|| unsafe {
         lagvtsune_live(
             request.tree.as_ptr(),
             request.tree.len(),
@@ -195,123 +210,34 @@ pub(crate) fn live(request: &Request<'_>, room: &mut [u8]) -> Returned {
             request.folders.len(),
             request.files.as_ptr(),
             request.files.len(),
-            room.as_mut_ptr(),
+            room.as_mut_ptr().cast(),
             room.len(),
             &raw mut status,
         )
-    };
+    });
     Returned { status, length }
 }
 
-/// The number of bytes before each block. They contain the size of the block, because the library
-/// frees a block without its size. Their number gives the block the largest alignment that the
-/// library requests.
-const HEADER: usize = 16;
-
-/// The answer to a request of the library for memory.
-#[repr(C)]
-struct Tried {
-    ok: bool,
-    /// Without memory, a byte that nothing reads: the pointer must not be null.
-    block: *mut u8,
-}
-
-/// Allocates a block with this size. If there is no memory, the library receives that answer, and
-/// fails with "out of memory".
-#[unsafe(no_mangle)]
-extern "C" fn rattle_alloc(size: usize, align: usize) -> Tried {
-    let Some(whole) = layout(size, align) else {
-        return refusal();
-    };
-    // SAFETY: the layout includes the header, so it is not empty.
-    let start = unsafe { alloc::alloc(whole) };
-    // SAFETY: the allocator returned a block with this layout, or null.
-    unsafe { block_after(start, whole) }
-}
-
-/// Changes the size of a block, and keeps the bytes that fit. If there is no memory, the block is
-/// unchanged.
-///
-/// # Safety
-///
-/// The block came from here or from `rattle_alloc`, and was not freed. The library is proved to
-/// pass no other block.
-#[unsafe(no_mangle)]
-unsafe extern "C" fn rattle_realloc(
-    block: *mut u8,
-    _kept: usize,
-    size: usize,
-    align: usize,
-) -> Tried {
-    let Some(whole) = layout(size, align) else {
-        return refusal();
-    };
-    // SAFETY: by this function's own condition, `start_of` returns the pointer that the allocator
-    // returned, and the new size is that of a layout.
-    let start = unsafe {
-        let (start, old) = start_of(block);
-        alloc::realloc(start, old, whole.size())
-    };
-    // SAFETY: the allocator returned a block with this layout, or null.
-    unsafe { block_after(start, whole) }
-}
-
-/// Frees a block.
-///
-/// # Safety
-///
-/// The same condition as for `rattle_realloc`.
-#[unsafe(no_mangle)]
-unsafe extern "C" fn rattle_dealloc(block: *mut u8) {
-    // SAFETY: by this function's own condition, `start_of` returns the pointer that the allocator
-    // returned.
-    unsafe {
-        let (start, whole) = start_of(block);
-        alloc::dealloc(start, whole);
+/// Makes a call, and repeats it with more room if the text is longer than the first. Returns the
+/// status and the text.
+fn with_room(first: usize, call: impl Fn(&mut [MaybeUninit<u8>]) -> Returned) -> (u8, Vec<u8>) {
+    let mut text = Vec::with_capacity(first);
+    loop {
+        let Returned { status, length } = call(text.spare_capacity_mut());
+        if length <= text.capacity() {
+            // SAFETY: the text fits, so the library wrote it to the start of the room.
+            unsafe { text.set_len(length) };
+            return (status, text);
+        }
+        text.reserve_exact(length);
     }
 }
 
-/// Returns the layout of a block with this size and its header, if there is one.
-fn layout(size: usize, align: usize) -> Option<Layout> {
-    let whole = Layout::from_size_align(size.checked_add(HEADER)?, HEADER).ok()?;
-    (align <= HEADER).then_some(whole)
-}
-
-/// Writes the size into the header, and returns the block after it.
-///
-/// # Safety
-///
-/// At `start` there is memory with this layout, or `start` is null.
-unsafe fn block_after(start: *mut u8, whole: Layout) -> Tried {
-    if start.is_null() {
-        return refusal();
-    }
-    // SAFETY: the header is at the start of that memory, which is aligned for a `usize` there, and
-    // the block begins at most one byte past its end.
-    #[allow(clippy::cast_ptr_alignment)]
-    unsafe {
-        start.cast::<usize>().write(whole.size());
-        Tried { ok: true, block: start.add(HEADER) }
-    }
-}
-
-/// Returns the pointer that the allocator returned for a block, and its layout.
-///
-/// # Safety
-///
-/// `block_after` returned the block, and it was not freed.
-unsafe fn start_of(block: *mut u8) -> (*mut u8, Layout) {
-    // SAFETY: by the condition, there is a header before the block. It contains the size of the
-    // layout, which is valid with this alignment.
-    #[allow(clippy::cast_ptr_alignment)]
-    unsafe {
-        let start = block.sub(HEADER);
-        let size = start.cast::<usize>().read();
-        (start, Layout::from_size_align_unchecked(size, HEADER))
-    }
-}
-
-fn refusal() -> Tried {
-    static UNREAD: u8 = 0;
-    Tried { ok: false, block: (&raw const UNREAD).cast_mut() }
+/// Returns bytes as a room. The library writes nothing but bytes.
+#[cfg(test)]
+pub(crate) fn as_room(bytes: &mut [u8]) -> &mut [MaybeUninit<u8>] {
+    let (start, length) = (bytes.as_mut_ptr().cast(), bytes.len());
+    // SAFETY: a `MaybeUninit<u8>` has the layout of a byte, and the result borrows `bytes`. The tests
+    // pass it only to the library, so the bytes stay initialized.
+    unsafe { std::slice::from_raw_parts_mut(start, length) }
 }

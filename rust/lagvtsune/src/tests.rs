@@ -4,7 +4,8 @@ use crate::answering::{cut_after_line, likely_and_asked, Request as Completion};
 use crate::calls::{self, slices};
 use crate::engine::{ArgValueCandidates, Completer, CompletionCandidate};
 use crate::folder::likely_folder;
-use crate::native::{self, Request, Returned};
+use crate::memory::in_chunks;
+use crate::native::{self, as_room, Request, Returned};
 use crate::refusing::refused;
 use crate::sources::Sources;
 use crate::tree_file::{live_file, names_file, script_file, tree_file, Line, ValuesFrom};
@@ -114,7 +115,8 @@ fn an_output_that_is_too_long_is_cut_after_a_line() {
 /// Makes a call with this much room. Returns its status, its length, and the content of the room.
 fn call(shell: &str, bin: &[u8], tree: &[u8], size: usize) -> (u8, usize, Vec<u8>) {
     let mut room = vec![b'.'; size];
-    let Returned { status, length } = native::script(shell.as_bytes(), bin, tree, &mut room);
+    let Returned { status, length } =
+        native::script_in(shell.as_bytes(), bin, tree, as_room(&mut room));
     (status, length, room)
 }
 
@@ -160,15 +162,21 @@ fn refuse_each(end: u8, text: &[u8], call: impl Fn(&mut [u8]) -> Returned) -> us
     unreachable!("each call has so many allocations")
 }
 
+/// Does the same with each block of the library, and with its chunks, as in a program.
+fn refuse_each_and_chunks(end: u8, text: &[u8], call: impl Fn(&mut [u8]) -> Returned) {
+    let blocks = refuse_each(end, text, &call);
+    let chunks = in_chunks(|| refuse_each(end, text, &call));
+    assert!(blocks > 20 && chunks > 0 && chunks < blocks, "{blocks} blocks, {chunks} chunks");
+}
+
 #[test]
 fn a_refused_allocation_of_a_script_is_an_error_that_loses_nothing() {
     for shell in SHELLS {
         let (status, whole) = text_of(shell, b"app", TREE.as_bytes());
         assert_eq!(status, 0, "{whole}");
-        let count = refuse_each(0, whole.as_bytes(), |room| {
-            native::script(shell.as_bytes(), b"app", TREE.as_bytes(), room)
+        refuse_each_and_chunks(0, whole.as_bytes(), |room| {
+            native::script_in(shell.as_bytes(), b"app", TREE.as_bytes(), as_room(room))
         });
-        assert!(count > 20, "{shell}: only {count} allocations");
     }
 }
 
@@ -196,13 +204,13 @@ fn request(names: Option<&'static [&'static str]>) -> Request<'static> {
 #[test]
 fn a_reply_wants_the_names_of_a_folder_and_then_has_its_paths() {
     let mut room = vec![b'.'; 10];
-    let Returned { status, length } = native::live(&request(None), &mut room);
+    let Returned { status, length } = native::live_in(&request(None), as_room(&mut room));
     assert_eq!((status, &room[..length]), (4, &b"/w/"[..]));
     let known = request(Some(&["src", "a.txt"]));
-    let Returned { status, length } = native::live(&known, &mut room);
+    let Returned { status, length } = native::live_in(&known, as_room(&mut room));
     assert_eq!((status, length), (0, ".,a.txt,src/".len()));
     let mut room = vec![0; length];
-    assert_eq!(native::live(&known, &mut room).status, 0);
+    assert_eq!(native::live_in(&known, as_room(&mut room)).status, 0);
     assert_eq!(room, b".,a.txt,src/");
 }
 
@@ -215,7 +223,7 @@ fn the_likely_folder_is_the_wanted_one() {
         let made =
             Request { words: slices(&words), variables: slices(&variables), ..request(None) };
         let mut room = vec![0; 100];
-        let Returned { status, length } = native::live(&made, &mut room);
+        let Returned { status, length } = native::live_in(&made, as_room(&mut room));
         let wanted = str::from_utf8(&room[..length]).unwrap();
         assert_eq!(status, 4, "{word}");
         let likely = |word: &str| likely_folder(word, Some("/home/me"), Some("/w"));
@@ -236,8 +244,7 @@ fn a_word_without_a_slash_has_no_likely_folder() {
 #[test]
 fn a_refused_allocation_of_a_reply_is_an_error_that_loses_nothing() {
     let known = request(Some(&["src", "a.txt"]));
-    let count = refuse_each(0, b".,a.txt,src/", |room| native::live(&known, room));
-    assert!(count > 20, "only {count} allocations");
+    refuse_each_and_chunks(0, b".,a.txt,src/", |room| native::live_in(&known, as_room(room)));
 }
 
 /// A request of fish for a value of this option, in this mode, with the output of a command.
@@ -256,7 +263,8 @@ fn asked(option: &str, mode: &str, commands: &str, output: &[u8]) -> (u8, String
     let words = ["app", "--", "app", option, ""];
     let variables = ["COMPLETE", "fish", "_COMPLGEN_VALUES", mode, "COMPLGEN_COMMANDS", commands];
     let mut room = vec![0; 1 << 10];
-    let Returned { status, length } = native::live(&asking(&words, &variables, output), &mut room);
+    let Returned { status, length } =
+        native::live_in(&asking(&words, &variables, output), as_room(&mut room));
     (status, String::from_utf8(room[..length].to_vec()).unwrap())
 }
 
@@ -281,8 +289,7 @@ fn a_refused_allocation_of_words_and_lines_is_an_error_that_loses_nothing() {
     for (mode, end, text) in [("ask", 5, &b"git\x0bbranch\x0b"[..]), ("stdin", 0, b"main\n")] {
         let variables = ["COMPLETE", "fish", "_COMPLGEN_VALUES", mode];
         let made = asking(&words, &variables, b"main\n");
-        let count = refuse_each(end, text, |room| native::live(&made, room));
-        assert!(count > 20, "{mode}: only {count} allocations");
+        refuse_each_and_chunks(end, text, |room| native::live_in(&made, as_room(room)));
     }
 }
 
@@ -315,7 +322,7 @@ fn answer_of(tree: &str, shell: &str, words: &[&str]) -> (u8, Vec<u8>) {
         ..request(Some(&["src", "a.txt"]))
     };
     let mut room = vec![0; 1 << 16];
-    let Returned { status, length } = native::live(&made, &mut room);
+    let Returned { status, length } = native::live_in(&made, as_room(&mut room));
     (status, room[..length].to_vec())
 }
 
@@ -334,10 +341,16 @@ fn requests_at_once_are_answered_as_one_by_one() {
     let alone = answers(0);
     assert!(alone.iter().all(|(status, text)| *status == 0 && !text.is_empty()), "{alone:?}");
     let ready = Barrier::new(THREADS);
-    // Each thread begins with another request, and does not wait for the others again.
+    // Each thread begins with another request, and does not wait for the others again. Half of them use
+    // chunks.
     let rounds = |first: usize| {
+        let answers = || [(); ROUNDS].map(|()| answers(first));
         ready.wait();
-        [(); ROUNDS].map(|()| answers(first))
+        if first % 2 == 0 {
+            in_chunks(answers)
+        } else {
+            answers()
+        }
     };
     thread::scope(|scope| {
         let rounds = &rounds;
@@ -423,20 +436,24 @@ fn random_option(numbers: &mut Numbers, at: usize, depth: usize) -> Arg {
         arg = arg.help(format!("Help of {long}\nMore"));
     }
     arg = arg.hide(numbers.below(6) == 0).visible_alias(format!("{long}-too"));
-    match numbers.below(5) {
+    match numbers.below(8) {
         0 => arg.action(ArgAction::SetTrue),
         1 => arg.value_parser(["auto", "low", "list"]).value_delimiter(','),
         2 => arg.num_args(1..=3).value_parser(["a", "b"]),
         3 => arg.num_args(0..=2).allow_hyphen_values(true),
+        4 => arg.action(ArgAction::Count).value_name("TIMES"),
+        5 => arg.action(ArgAction::Append).value_name("MORE").display_order(numbers.below(3)),
+        6 => arg.value_names(["FROM", "TO"]),
         _ => arg.value_hint(ValueHint::AnyPath),
     }
 }
 
 fn random_positional(numbers: &mut Numbers, id: &'static str) -> Arg {
-    match numbers.below(4) {
+    match numbers.below(5) {
         0 if id == "second" => Arg::new(id).num_args(0..).value_parser(["auto", "always"]),
         1 => Arg::new(id).value_hint(ValueHint::DirPath),
         2 => Arg::new(id).value_parser(["run", "auto"]).allow_hyphen_values(true),
+        3 if id == "second" => Arg::new(id).num_args(1..).value_name("REST"),
         _ => Arg::new(id).help("A value"),
     }
 }
@@ -484,7 +501,8 @@ fn a_live_file_answers_as_the_whole_one() {
             smaller += usize::from(2 * part.len() < whole.len());
             for shell in LIVE_SHELLS {
                 let answer = answer_of(&whole, shell, &line);
-                assert_eq!(answer_of(&part, shell, &line), answer, "{line:?}\n{whole}\n{part}");
+                let of_part = in_chunks(|| answer_of(&part, shell, &line));
+                assert_eq!(of_part, answer, "{line:?}\n{whole}\n{part}");
                 texts += usize::from(answer.0 == 0 && !answer.1.is_empty());
             }
         }
@@ -561,7 +579,7 @@ fn a_script_of_the_parts_is_that_of_the_whole_tree() {
         for shell in Shell::value_variants() {
             let part = script_file(&command, shell.parts());
             let of = |tree: &str| calls::script(&shell.to_string(), "app", tree);
-            let (script, expected) = (of(&part), of(&whole));
+            let (script, expected) = (in_chunks(|| of(&part)), of(&whole));
             assert_eq!(script.map_err(|it| it.to_string()), expected.map_err(|it| it.to_string()));
             scripts += 1;
             saved += whole.len() - part.len();
@@ -605,12 +623,21 @@ impl Numbers {
     }
 }
 
+/// Makes a call of the library with chunks, if its number is even.
+fn each_second_in_chunks<R>(number: usize, call: impl FnOnce() -> R) -> R {
+    if number % 2 == 0 {
+        in_chunks(call)
+    } else {
+        call()
+    }
+}
+
 #[test]
 fn any_bytes_end_with_a_status() {
     let mut numbers = Numbers(1);
     let mut ends = [0; 3];
     let mut room = vec![0; 1 << 16];
-    for _ in 0..20_000 {
+    for number in 0..20_000 {
         let shell = match numbers.below(7) {
             6 => numbers.bytes(8),
             at => SHELLS[at].as_bytes().to_vec(),
@@ -621,7 +648,8 @@ fn any_bytes_end_with_a_status() {
             _ => numbers.changed_tree(TREE),
         };
         let size = numbers.below(room.len());
-        ends[native::script(&shell, &bin, &tree, &mut room[..size]).status as usize] += 1;
+        let call = || native::script_in(&shell, &bin, &tree, as_room(&mut room[..size]));
+        ends[each_second_in_chunks(number, call).status as usize] += 1;
     }
     assert!(ends.iter().all(|count| *count > 500), "{ends:?}");
 }
@@ -646,7 +674,7 @@ fn any_request_ends_with_a_status() {
     let mut numbers = Numbers(2);
     let mut ends = [0; 5];
     let mut room = vec![0; 1 << 16];
-    for _ in 0..20_000 {
+    for number in 0..20_000 {
         let tree = match numbers.below(4) {
             0 => numbers.bytes(200),
             _ => numbers.changed_tree(TREE),
@@ -665,7 +693,8 @@ fn any_request_ends_with_a_status() {
             files: slices(&files),
         };
         let size = numbers.below(room.len());
-        ends[native::live(&made, &mut room[..size]).status as usize] += 1;
+        let call = || native::live_in(&made, as_room(&mut room[..size]));
+        ends[each_second_in_chunks(number, call).status as usize] += 1;
     }
     assert!(ends.iter().all(|count| *count > 50), "{ends:?}");
 }
@@ -676,7 +705,7 @@ fn any_output_ends_with_a_status() {
     let mut numbers = Numbers(3);
     let mut ends = [0; 6];
     let mut room = vec![0; 1 << 12];
-    for _ in 0..20_000 {
+    for number in 0..20_000 {
         let tree = numbers.changed_tree(ASKING);
         let output = numbers.bytes(300);
         let variables = ["COMPLETE", "fish", "_COMPLGEN_VALUES", MODES[numbers.below(4)]];
@@ -684,7 +713,8 @@ fn any_output_ends_with_a_status() {
         let words = ["app", "--", "app", "--branch", typed];
         let made = Request { tree: &tree, ..asking(&words, &variables, &output) };
         let size = numbers.below(room.len());
-        ends[native::live(&made, &mut room[..size]).status as usize] += 1;
+        let call = || native::live_in(&made, as_room(&mut room[..size]));
+        ends[each_second_in_chunks(number, call).status as usize] += 1;
     }
     let [made, failed, .., runs] = ends;
     assert!(made > 500 && failed > 500 && runs > 500, "{ends:?}");
