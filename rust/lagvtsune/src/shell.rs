@@ -53,7 +53,7 @@ impl Shell {
     pub(crate) fn parts(self) -> Parts {
         match self {
             Shell::Bash => Parts::Valued,
-            Shell::Fish => Parts::Offered,
+            Shell::Fish => Parts::Shown,
             Shell::Zsh => Parts::Related,
             Shell::Elvish | Shell::Nushell | Shell::PowerShell => Parts::Described,
         }

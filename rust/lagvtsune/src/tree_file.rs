@@ -124,14 +124,30 @@ pub fn names_file(name: &str, bin_name: &str) -> String {
 pub enum Parts {
     /// Help texts.
     Described,
-    /// Values, headings and orders.
+    /// Values.
     Valued,
     /// Both.
-    Offered,
-    /// Conflicts too.
+    Shown,
+    /// Also conflicts and value names.
     Related,
-    /// Also what only a parser needs.
+    /// Help texts, values, value names and orders.
+    Offered,
+    /// All of these, and what only a parser needs.
     Whole,
+}
+
+impl Parts {
+    fn has_value_names(self) -> bool {
+        self >= Parts::Related
+    }
+
+    fn has_conflicts(self) -> bool {
+        matches!(self, Parts::Related | Parts::Whole)
+    }
+
+    fn has_orders(self) -> bool {
+        self >= Parts::Offered
+    }
 }
 
 /// A command line of which a live request completes a word.
@@ -263,7 +279,7 @@ fn command_object(out: &mut String, command: &mut Command, place: &Place<'_>) {
     let mut object = Object::new(out);
     command_texts(&mut object, command, place);
     let has_children = children.iter().any(Option::is_some) || !place.external().is_empty();
-    command_flags(&mut object, command, has_children);
+    command_flags(&mut object, command, has_children, place.parts);
     if place.parts == Parts::Whole {
         parser_flags(&mut object, command);
     }
@@ -391,7 +407,7 @@ fn version(command: &Command) -> Option<&str> {
     command.get_version().or(command.get_long_version())
 }
 
-fn command_flags(object: &mut Object<'_>, command: &Command, has_children: bool) {
+fn command_flags(object: &mut Object<'_>, command: &Command, has_children: bool, parts: Parts) {
     let no_version_flag = version(command).is_some() && command.is_disable_version_flag_set();
     let no_help_child = has_children && command.is_disable_help_subcommand_set();
     object.flag("hide", command.is_hide_set());
@@ -399,7 +415,9 @@ fn command_flags(object: &mut Object<'_>, command: &Command, has_children: bool)
     object.flag("disable_version_flag", no_version_flag);
     object.flag("disable_help_subcommand", no_help_child);
     object.flag("allow_external_subcommands", command.is_allow_external_subcommands_set());
-    object.order(command.get_display_order());
+    if parts.has_orders() {
+        object.order(command.get_display_order());
+    }
     object.flag("no_binary_name", command.is_no_binary_name_set());
 }
 
@@ -444,18 +462,26 @@ fn arg_object(out: &mut String, arg: &Arg, position: usize, command: &Command, p
     } else if place.parts != Parts::Valued {
         object.shown("help", arg.get_help());
     }
-    object.word("action", arg.get_action());
-    if let Some(range) = arg.get_num_args().filter(|range| *range != usual_range(arg)) {
+    let range = arg.get_num_args().filter(|range| *range != usual_range(arg));
+    let is_usual = matches!(arg.get_action(), ArgAction::Set) && range.is_none();
+    if place.parts == Parts::Whole || !is_usual {
+        object.word("action", arg.get_action());
+    }
+    if let Some(range) = range {
         value_range(object.key("num_args"), range);
     }
-    object.list("value_names", arg.get_value_names().unwrap_or(&[]), |out, it| quote(out, it));
+    // Several names mean as many values.
+    let names = arg.get_value_names().unwrap_or(&[]);
+    if place.parts.has_value_names() || names.len() > 1 {
+        object.list("value_names", names, |out, it| quote(out, it));
+    }
     if place.parts != Parts::Described {
         arg_values(&mut object, arg, place);
     }
     if place.parts == Parts::Whole {
         object.text("default_value", own_default(arg));
     }
-    if place.parts >= Parts::Related {
+    if place.parts.has_conflicts() {
         let conflicts = command.get_arg_conflicts_with(arg);
         object.list("conflicts_with", conflicts, |out, it| quote(out, it.get_id().as_str()));
     }
@@ -464,7 +490,7 @@ fn arg_object(out: &mut String, arg: &Arg, position: usize, command: &Command, p
     }
     object.flag("global", arg.is_global_set());
     if place.parts != Parts::Described {
-        arg_lists(&mut object, arg);
+        arg_lists(&mut object, arg, place.parts);
     }
     object.end();
 }
@@ -489,7 +515,7 @@ fn arg_values(object: &mut Object<'_>, arg: &Arg, place: &Place<'_>) {
 }
 
 /// Writes what decides how an argument and its values are listed.
-fn arg_lists(object: &mut Object<'_>, arg: &Arg) {
+fn arg_lists(object: &mut Object<'_>, arg: &Arg, parts: Parts) {
     object.text("value_terminator", arg.get_value_terminator().map(Str::as_str));
     object.flag("required", arg.is_required_set());
     object.flag("last", arg.is_last_set());
@@ -498,7 +524,9 @@ fn arg_lists(object: &mut Object<'_>, arg: &Arg) {
     if let Some(delimiter) = arg.get_value_delimiter() {
         quote_char(object.key("value_delimiter"), delimiter);
     }
-    object.order(arg.get_display_order());
+    if parts.has_orders() {
+        object.order(arg.get_display_order());
+    }
     object.flag("allow_hyphen_values", arg.is_allow_hyphen_values_set());
 }
 
