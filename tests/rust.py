@@ -56,8 +56,8 @@ WORDS = [
     "--filename", "--follow", "-Ft", "--now", "--grace", "--force", "--to", "--o", "-", "--", "", "",
     "src/", "src/m", ".", "..", "../", "~/", "nothing/x", "/",
 ]
-# The words of a request at the root, and of one with a path.
-ROOT, PATH = ["--", "herd", ""], ["--", "herd", "apply", "-f", "src/"]
+# The words of a request at the root, of one for a subcommand of a subcommand, and of one with a path.
+ROOT, DEEP, PATH = ["--", "herd", ""], ["--", "herd", "rollout", "undo", ""], ["--", "herd", "apply", "-f", "src/"]
 # The status of the original if it panics.
 PANICKED = 101
 # In a test program, Rust's own library ends with a block that may be lost.
@@ -259,14 +259,15 @@ def requesting(asked, work):
 
 
 def print_instructions(ours, theirs, work, replies):
-    """Prints the costs of both programs: scripts, a registration, a reply at the root and one with a path."""
+    """Prints the costs of both programs: scripts, a registration, and replies."""
     calls = [(f"script of {shell}", {}, ["--completions", shell]) for shell in SHELLS]
     if replies:
         asked = {"COMPLETE": "fish"}
         calls.append(("registration", asked, []))
         # The safe registration sets this variable, which clap_complete does not read.
         asked = {**asked, "_COMPLGEN_VALUES": "ask"}
-        calls += [("reply at the root", asked, ROOT), ("reply with a path", asked, PATH)]
+        kinds = [("at the root", ROOT), ("two subcommands deep", DEEP), ("with a path", PATH)]
+        calls += [(f"reply {kind}", asked, words) for kind, words in kinds]
     for name, asked, words in calls:
         own, other = (instructions(program, asked, words, work) for program in (ours, theirs))
         print(f"{name}: {own:,} instructions, {other:,} for clap_complete")
