@@ -58,7 +58,7 @@ pub(crate) fn for_call<R>(call: impl FnOnce() -> R) -> R {
     let returned = call();
     let mut chunk = ARENA.replace(outer).newest;
     while !chunk.is_null() {
-        // SAFETY: `add_chunk` allocated the chunk with this layout and wrote its first bytes, which
+        // SAFETY: `with_chunk` allocated the chunk with this layout and wrote its first bytes, which
         // no block overlaps. The library keeps no block after a call.
         unsafe {
             let before = (*chunk).before;
