@@ -15,7 +15,7 @@ const CHUNK: usize = 32 << 10;
 /// The size in bytes, with the header, of the largest block in a chunk.
 const MOST_IN_CHUNK: usize = 2 << 10;
 
-/// What precedes each block. Its alignment is the largest that the library requests.
+/// The header before each block. Its alignment is the largest that the library requests.
 #[repr(C, align(16))]
 struct Header {
     /// The size of the block with this header: a multiple of the alignment.
@@ -25,7 +25,7 @@ struct Header {
 
 const HEADER: usize = mem::size_of::<Header>();
 
-/// What precedes the blocks in a chunk.
+/// The header of a chunk, before its blocks.
 #[repr(C, align(16))]
 struct Chunk {
     /// The chunk that was allocated before this one, or null.
