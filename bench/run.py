@@ -312,12 +312,13 @@ def judged_growth(shell, seconds_each):
 # Instructions.
 
 
-# Parts of the symbols of the generator, the reader of trees, `complete`, `completes`, into which
-# `try_complete` is inlined, and `build`.
+# Parts of the symbols of the generator, the reader of trees, `complete_from`, the calls that make a
+# program's command and answer a request over it, and `build`.
 GENERATE = "ShellGenerator::generate"
 READ_TREE = "read_tree"
-COMPLETE = "completion::complete::<"
-COMPLETES = "cc_program::completing::completes"
+COMPLETE = "completion::complete_from::<"
+MAKES = "complete_env::CompleteEnv::command::<"
+ANSWERS = "answers::answer_call::<"
 BUILD = "command::Command::build"
 # The build within `complete`, in the program `complgen`.
 BUILD_WITHIN = "command::build::build_under"
@@ -472,16 +473,17 @@ def judged_each(what, each, most):
 def counted_reply(program, larder):
     """Prints what a reply costs `larder`, and what the candidates for the same words cost `complgen`.
 
-    The reply has three parts: the build, `complete` of the built command, and the rest of the call, which
-    makes the command and writes the reply. `complgen` reads the tree of a larger tool from a file.
+    The reply has four parts: making the command, its build, `complete` of the built command, and the rest,
+    which makes the text of the reply and frees the command. `complgen` reads the tree of a larger tool
+    from a file.
     """
     words = ["larder", "in"]
     replying, asked = [larder, "--", *words], {**os.environ, "COMPLETE": "fish"}
-    replied = common.callgrind(replying, COMPLETES, BUILD, COMPLETE, env=asked)
-    call, build, completed = replied.costs
+    replied = common.callgrind(replying, MAKES, ANSWERS, BUILD, COMPLETE, env=asked)
+    made, call, build, completed = replied.costs
     print(
-        f"larder replies:      {replied.total:>10,} in all, {call:,} completes: {build:,} build, "
-        f"{completed:,} complete, {call - build - completed:,} command and reply"
+        f"larder replies:      {replied.total:>10,} in all: {made:,} command, {build:,} build, "
+        f"{completed:,} complete, {call - build - completed:,} reply"
     )
     tree = os.path.join(common.EXAMPLES, "larder.json")
     counted = common.callgrind(completing(program, tree, words), COMPLETE)
