@@ -35,7 +35,7 @@ The status is 0 if these limits hold:
 With --instructions, valgrind counts the instructions of one run for each shell: over the wide trees of
 1,000 and 10,000 commands, over one command, over one command with 1,000 options, and over a chain of
 39 commands. bench/README.md explains the columns. Then it counts `complgen check` of the 10,000
-options, which may take three and a half times the instructions of reading them in a run of `script`.
+options, which may take three times the instructions of reading them in a run of `script`.
 
 With --candidates, valgrind counts the instructions of `complete`, without the build, in runs of
 `complgen candidates`. The runs are over 100, 1,000 and 10,000 children and options, for a word that
@@ -331,7 +331,7 @@ MOST_OPTIONS = 11_500_000
 MOST_TIMES = 10.5
 
 # The limit of a check of 10,000 options, in comparison with reading them.
-MOST_CHECK = 3.5
+MOST_CHECK = 3
 
 
 def script_costs(program, shell, tree):
