@@ -217,7 +217,7 @@ struct LiveTree {
     path: Vec<String>,
     /// The places in the tree of the sources of values.
     sourced: Vec<Sourced>,
-    /// What is offered as external subcommands.
+    /// The candidates for external subcommands.
     external: Vec<CompletionCandidate>,
 }
 

@@ -1,5 +1,5 @@
-//! Answers with the values of a completer by one call of the library. The library tells which
-//! argument the words ask for, but mostly the words show it.
+//! Answers with the values of a completer by one call of the library, if the words show which
+//! argument they ask for. Otherwise the library has to tell that first.
 
 use super::asked::{are_all_hidden, Asked, OverCompleter, CURRENT_DIR};
 use super::STDIN;
@@ -82,7 +82,7 @@ impl Asked<'_> {
     }
 }
 
-/// The text after the library has told which completer the words ask for, if any.
+/// The answer that is made after the library told which completer the words ask for, if any.
 #[cfg(test)]
 pub(crate) struct AfterAsking {
     pub(crate) text: Vec<u8>,
