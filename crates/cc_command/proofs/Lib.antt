@@ -1,3 +1,4 @@
+pub mod AddedLists
 pub mod BuiltAgain
 pub mod BuiltArguments
 pub mod BuiltExamples

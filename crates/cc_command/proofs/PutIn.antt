@@ -20,7 +20,7 @@ pub sibling_count-forest_of : (trees : List Tree) → sibling_count (forest_of t
 sibling_count-forest_of [] = refl
 sibling_count-forest_of (tree ∷ trees) = ap suc (sibling_count-forest_of trees)
 
-join_assoc : (a b c : Forest) → join (join a b) c ≡ join a (join b c)
+pub join_assoc : (a b c : Forest) → join (join a b) c ≡ join a (join b c)
 join_assoc none b c = refl
 join_assoc (more node below rest) b c = ap (more node below) (join_assoc rest b c)
 

@@ -68,6 +68,21 @@ with_argument node argument =
       built = false;
     }
 
+-- the next display order after an argument: a positional uses up none
+abbrev pub order_after : ℕ → Arg → ℕ
+order_after order argument = if is_positional argument then order else next_order order
+
+-- the argument, with this display order if it is an option or a flag that has none
+abbrev pub with_order : ℕ → Arg → Arg
+with_order order argument =
+    if is_positional argument then argument else ordered_argument order argument
+
+-- the arguments; the options and flags use up the display orders from this one on
+abbrev pub ordered_arguments : ℕ → List Arg → List Arg
+ordered_arguments order [] = []
+ordered_arguments order (argument ∷ arguments) =
+    with_order order argument ∷ ordered_arguments (order_after order argument) arguments
+
 -- the node, with this display order if it has none
 abbrev pub ordered_node : ℕ → Node → Node
 ordered_node order node = record node { display_order = Some (unwrap_or node.display_order order) }
@@ -80,3 +95,14 @@ with_child tree child = record {
   children = join tree.children
       (more (ordered_node tree.node.next_order child.node) child.children none);
 }
+
+-- the next display order after a child, whichever it is
+abbrev pub order_after_child : ℕ → Tree → ℕ
+order_after_child order child = next_order order
+
+-- the children, which use up the display orders from this one on
+abbrev pub ordered_children : ℕ → List Tree → List Tree
+ordered_children order [] = []
+ordered_children order (child ∷ children) =
+    record child { node = ordered_node order child.node } ∷
+    ordered_children (next_order order) children

@@ -17,7 +17,9 @@ mod settings;
 mod values;
 
 pub use crate::command::build::{build_as, has_id, lacks_index};
-pub use crate::command::builders::{add_argument, add_child, reserve_arguments, reserve_children};
+pub use crate::command::builders::{
+    add_argument, add_arguments, add_child, add_children, reserve_arguments, reserve_children,
+};
 pub use crate::command::conflicts::first_with_id;
 pub use crate::command::escaped::unescaped_quote;
 pub use crate::command::getters::{contains_name, full_name, has_name};

@@ -14,8 +14,9 @@ mod command;
 mod node;
 
 pub use crate::command::{
-    Arguments, Command, NameAndVisibleAliases, add_argument, add_child, build_as, contains_name,
-    first_with_id, from_node, full_name, has_id, has_name, has_no_quote, is_quiet_value,
-    lacks_index, list_values, node_of, reserve_arguments, reserve_children, unescaped_quote,
+    Arguments, Command, NameAndVisibleAliases, add_argument, add_arguments, add_child,
+    add_children, build_as, contains_name, first_with_id, from_node, full_name, has_id, has_name,
+    has_no_quote, is_quiet_value, lacks_index, list_values, node_of, reserve_arguments,
+    reserve_children, unescaped_quote,
 };
 pub use crate::node::Node;

@@ -1,7 +1,9 @@
 //! The builders that add an argument or a child to a command.
 
-ghost use Rattle.std.specs.Prelude.{◌≡◌, ◌++◌, ◌∷◌, [], IfOk, IfErr, OnOk, false};
+ghost use Rattle.std.specs.Prelude.{◌≡◌, ◌++◌, ◌∷◌, [], fold, IfOk, IfErr, OnOk, false};
 ghost use Rattle.cc_command.specs.Made.{ordered_node, with_argument, with_child};
+ghost use Rattle.cc_command.specs.Made.{order_after, order_after_child};
+ghost use Rattle.cc_command.specs.Made.{ordered_arguments, ordered_children};
 
 use crate::command::Command;
 use crate::node::Node;
@@ -86,6 +88,40 @@ pub fn add_child(command: &mut Command, mut child: Command) -> Result<(), AllocE
     Ok(())
 }
 
+/// Adds each of the arguments to a node, in order, as `add_argument` does. An empty list changes
+/// nothing. If the node has no arguments yet, the list becomes its list, so no argument is moved.
+///
+/// # Errors
+///
+/// `AllocError` if the allocation fails. The arguments are then dropped.
+pub fn add_arguments(node: &mut Node, mut arguments: Vec<Arg>) -> Result<(), AllocError>
+    ensures ok { OnOk result (node.new ≡ fold with_argument node.old arguments.items) }
+{
+    if arguments.is_empty() {
+        return Ok(());
+    }
+    node.built = false;
+    node.next_order = order_arguments(&mut arguments, node.next_order);
+    append_arguments(node, arguments)
+}
+
+/// Adds each of the children to a command, in order, as `add_child` does. An empty list changes
+/// nothing. If the command has no children yet, the list becomes its list, so no child is moved.
+///
+/// # Errors
+///
+/// `AllocError` if the allocation fails. The children are then dropped.
+pub fn add_children(command: &mut Command, mut children: Vec<Command>) -> Result<(), AllocError>
+    ensures ok { OnOk result (command.new ≡ fold with_child command.old children.items) }
+{
+    if children.is_empty() {
+        return Ok(());
+    }
+    command.node.built = false;
+    command.node.next_order = order_children(&mut children, command.node.next_order);
+    append_to(&mut command.children, children)
+}
+
 /// Makes room for `count` more arguments, so that adding these moves the others only once.
 ///
 /// # Errors
@@ -121,4 +157,58 @@ fn push_child(children: &mut Vec<Command>, child: Command) -> Result<(), AllocEr
     }
     children.push(child)?;
     Ok(())
+}
+
+// Gives each option and flag the next display order, unless it has one of its own. Returns the next
+// display order after them.
+fn order_arguments(arguments: &mut [Arg], order: usize) -> usize
+    ensures ordered { arguments.new ≡ ordered_arguments order arguments.old }
+    ensures next { result ≡ fold order_after order arguments.old }
+{
+    let mut next = order;
+    for argument in arguments.iter_mut() {
+        if argument.is_positional() {
+            continue;
+        }
+        fill_display_order(argument, next);
+        next = next.saturating_add(1);
+    }
+    next
+}
+
+// Gives each child the next display order, unless it has one of its own. Returns the next display
+// order after them.
+fn order_children(children: &mut [Command], order: usize) -> usize
+    ensures ordered { children.new ≡ ordered_children order children.old }
+    ensures next { result ≡ fold order_after_child order children.old }
+{
+    let mut next = order;
+    for child in children.iter_mut() {
+        child.fill_display_order(next);
+        next = next.saturating_add(1);
+    }
+    next
+}
+
+// Appends the arguments to those of the node. If an allocation fails, the node keeps its own.
+fn append_arguments(node: &mut Node, arguments: Vec<Arg>) -> Result<(), AllocError>
+    ensures ok { OnOk result
+        (node.new ≡ record node.old { arguments = node.old.arguments ++ arguments.items }) }
+{
+    let alloc = *arguments.allocator();
+    let mut own = replace(&mut node.arguments, Items::new(alloc)).into_vec();
+    let appended = append_to(&mut own, arguments);
+    node.arguments = Items::from(own);
+    appended
+}
+
+// Appends `added` to the items. If there are none, it becomes the list, so no item is moved.
+fn append_to<T: Drop>(items: &mut Vec<T>, mut added: Vec<T>) -> Result<(), AllocError>
+    ensures ok { OnOk result (items.new.items ≡ items.old.items ++ added.items) }
+{
+    if items.is_empty() {
+        *items = added;
+        return Ok(());
+    }
+    items.append(&mut added)
 }

@@ -1,4 +1,4 @@
-use Rattle.std.proofs.Common.{◌≡◌, ◌∙◌, ℕ, ◌+◌, ◌<◌, ◌≤◌, ◌≢◌, List, ◌∷◌, ◌++◌, length, get_or, le_refl, ap, sym, subst, refl, arith, rules, length-set, get_or-set_other}
+use Rattle.std.proofs.Common.{◌≡◌, ◌∙◌, ℕ, ◌<◌, ◌≤◌, ◌≢◌, List, ◌∷◌, ◌++◌, length, get_or, le_refl, ap, sym, subst, refl, arith, rules, length-set, get_or-set_other}
 use denote.Param.Weighed.{most, at_most}
 use Rattle.std.specs.Vec.Iter.{into_iter_items}
 use Rattle.cc_command.specs.declared.command.build.additions.Addition.{Addition}
