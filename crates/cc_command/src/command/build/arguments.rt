@@ -11,7 +11,8 @@ ghost use Rattle.cc_command.specs.Additions.{HasRoom};
 
 use crate::command::build::texts::{HELP_HELP, HELP_NAME, VERSION_HELP, VERSION_NAME};
 use crate::node::Node;
-use cc_arg::{Arg, ArgAction, copy_of, fill_display_order, fill_index, fill_range_and_action};
+use cc_arg::{Arg, ArgAction, ArgParts, copy_of, fill_index, fill_range_and_action};
+use cc_base::Text;
 use std::alloc::{AllocError, Global};
 
 // Makes the arguments that a node lacks: copies of those of `inherited`, then `help` and `version`.
@@ -118,8 +119,8 @@ fn push_if_missing(missing: &mut Vec<Arg>, own: &[Arg], argument: Arg) -> Result
         drop(argument);
         return Ok(());
     }
-    // Reserves exactly one, because the list becomes the node's.
-    missing.reserve_exact(1)?;
+    // Reserves no more than the node needs, because the list may become the node's.
+    missing.reserve_exact(own.len() + 1)?;
     Ok(missing.push(argument)?)
 }
 
@@ -183,7 +184,7 @@ fn version_argument(alloc: Global) -> Result<Arg, AllocError>
     generated_flag(alloc, VERSION_NAME, 'V', VERSION_HELP, ArgAction::Version)
 }
 
-// Makes a flag whose long is its id.
+// Makes a flag whose long is its id. The builders would move the argument once for each field.
 fn generated_flag(
     alloc: Global,
     id: &str,
@@ -194,11 +195,14 @@ fn generated_flag(
     ensures ok { IfOk result
         (λ argument. argument ≡ generated_flag id.now short help.now action) }
 {
-    let long = String::from_str(alloc, id)?;
-    let id = String::from_str(alloc, id)?;
-    let help = String::from_str(alloc, help)?;
-    let mut argument = Arg::new(alloc, id).short(short).long(long).help(help);
-    argument = argument.action(action);
-    fill_display_order(&mut argument, 999);
-    Ok(argument)
+    let long = Text::copy_of(alloc, id)?;
+    let id = Text::copy_of(alloc, id)?;
+    let help = Text::copy_of(alloc, help)?;
+    let mut parts = ArgParts::new(alloc, id);
+    parts.short = Some(short);
+    parts.long = Some(long);
+    parts.help = Some(help);
+    parts.action = Some(action);
+    parts.display_order = Some(999);
+    Ok(Arg::from(parts))
 }
