@@ -31,17 +31,18 @@ pub(super) fn finish(node: &mut Node, alloc: Global, missing: Vec<Arg>, bin_name
     node.built = true;
 }
 
-// Moves the items to the beginning of the list that is added.
-pub(super) fn put_before<T: Drop>(items: &mut Vec<T>, added: Vec<T>)
+// Appends `added` to the items if they have room for it, which moves none of them. Otherwise it
+// moves them to the beginning of `added`, which has room.
+pub(super) fn put_before<T: Drop>(items: &mut Vec<T>, mut added: Vec<T>)
     requires room { HasRoom (length items.old.items) added }
     ensures { items.new.items ≡ items.old.items ++ added.items }
 {
-    if added.is_empty() {
+    let count = added.len();
+    if count <= items.capacity() - items.len() {
+        items.append(&mut added).unwrap();
         return;
     }
-    let mut whole = added;
-    let count = whole.len();
-    whole.append(items).unwrap();
-    whole.rotate_left(count);
-    *items = whole;
+    added.append(items).unwrap();
+    added.rotate_left(count);
+    *items = added;
 }
