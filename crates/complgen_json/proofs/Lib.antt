@@ -1,5 +1,6 @@
 pub mod Digits
 pub mod Found
+pub mod NextLemmas
 pub mod Placed
 pub mod RangeSteps
 pub mod Readings

@@ -1,4 +1,5 @@
 pub mod Keys
+pub mod Next
 pub mod Reads
 pub mod Seen
 pub mod Slots
