@@ -12,6 +12,7 @@
 
 mod command;
 mod node;
+mod release;
 
 pub use crate::command::{
     Arguments, Command, NameAndVisibleAliases, add_argument, add_arguments, add_child,
@@ -20,3 +21,4 @@ pub use crate::command::{
     reserve_children, unescaped_quote,
 };
 pub use crate::node::Node;
+pub use crate::release::{Release, discard};

@@ -11,8 +11,8 @@ mod faults;
 mod keys;
 mod kinds;
 mod possible_values;
-mod release;
 mod sources;
+mod tokens;
 mod values;
 
 ghost use Rattle.complgen_json.specs.Seen.{view};
@@ -26,7 +26,7 @@ pub use crate::error::TreeError;
 pub use crate::faults::{Fault, FaultKind, Faults, SourceFault, Step};
 pub use crate::kinds::{ObjectKind, ValueKind};
 pub use crate::possible_values::possible_value_faults;
-pub use crate::release::{Release, discard};
+use crate::tokens::command_of_text;
 use cc_command::Command;
 use complgen_json::{JsonError, Scratch, Value, read_value};
 use std::alloc::Global;
@@ -42,37 +42,31 @@ use std::alloc::Global;
 pub fn read_tree(alloc: Global, bytes: &[u8]) -> Result<Command, TreeError>
     ensures { ReadsTree bytes.now result }
 {
-    read_tree_and_release(alloc, bytes, Release::AtOnce)
-}
-
-/// Returns the command that the bytes of a tree file describe, as `read_tree` does. `when` tells
-/// when the memory of the JSON is released.
-///
-/// # Errors
-///
-/// Those of `read_tree`.
-pub fn read_tree_and_release(
-    alloc: Global,
-    bytes: &[u8],
-    when: Release,
-) -> Result<Command, TreeError>
-    ensures { ReadsTree bytes.now result }
-{
     match std::str::from_utf8(bytes) {
-        Ok(text) => read_command(alloc, text, when),
+        Ok(text) => read_text(alloc, text),
         Err(_) => Err(TreeError::NotJson),
     }
 }
 
-// Returns the command that a text describes.
-fn read_command(alloc: Global, text: &str, when: Release) -> Result<Command, TreeError>
+// Returns the command that a text describes. If it describes none, reads it once more, as a value,
+// to tell why.
+fn read_text(alloc: Global, text: &str) -> Result<Command, TreeError>
+    ensures { ReadsTree text.now result }
+{
+    match command_of_text(alloc, text) {
+        Ok(command) => Ok(command),
+        Err(TreeError::Memory) => Err(TreeError::Memory),
+        Err(_) => read_whole(alloc, text),
+    }
+}
+
+// Returns the command that a text describes, from the value of the whole text.
+fn read_whole(alloc: Global, text: &str) -> Result<Command, TreeError>
     ensures { ReadsTree text.now result }
 {
     let mut scratch = Scratch::new(alloc);
     let tree = value(alloc, text, &mut scratch)?;
-    let command = commands::command(alloc, &tree);
-    discard(tree, when);
-    command
+    commands::command(alloc, &tree)
 }
 
 /// Returns the command that the value `tree` describes.

@@ -1,9 +1,9 @@
-//! When memory that is no longer needed is released.
+//! When the memory of a command that is no longer needed is released.
 
 use std::mem::forget;
 
 /// When memory that is no longer needed is released.
-#[derive(Clone, Copy)]
+#[derive(Clone, Copy, Drop)]
 pub enum Release {
     /// As soon as it is no longer needed.
     AtOnce,
