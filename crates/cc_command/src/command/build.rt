@@ -173,6 +173,8 @@ fn push_additions_to(
     ensures ok { OnOk result (AreAfter inherited.now parent.now (forest_of siblings.now)
         additions.old.items additions.new.items) }
 {
+    // Grows the list once for all siblings, instead of at every doubling.
+    additions.reserve(siblings.len())?;
     for sibling in siblings {
         let bin_name = joined_name(alloc, parent, sibling.node.name.as_str())?;
         sibling.push_additions(additions, alloc, inherited, Some(bin_name))?;

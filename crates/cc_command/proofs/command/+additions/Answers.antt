@@ -28,7 +28,9 @@ Command::push_additions-returns t c =
     }
 
 pub build::push_additions_to-loop-sibling-init : goal.build::push_additions_to-loop-sibling-init
-build::push_additions_to-loop-sibling-init t c = AreAfter-none c.args.inherited.now c.args.parent.now c.args.additions.now.items
+build::push_additions_to-loop-sibling-init t c =
+    subst (AreAfter c.args.inherited.now c.args.parent.now none c.args.additions.now.items) (sym c.in_ok-reserve.ensures.items)
+    (AreAfter-none c.args.inherited.now c.args.parent.now c.args.additions.now.items)
 
 pub build::push_additions_to-loop-sibling-preserved : goal.build::push_additions_to-loop-sibling-preserved
 build::push_additions_to-loop-sibling-preserved t c =

@@ -78,6 +78,7 @@ pub(super) fn push_globals(
 }
 
 // Adds the flag that shows the help, unless it is disabled or exists already.
+#[tactic(auto, unfolding(crate::specs::Generated::help_argument, crate::specs::Texts::fixed_texts))]
 fn push_help(
     missing: &mut Vec<Arg>,
     own: &[Arg],
@@ -90,11 +91,16 @@ fn push_help(
     if node.disable_help_flag {
         return Ok(());
     }
-    push_if_missing(missing, own, help_argument(alloc)?)
+    if has_id(own, HELP_NAME) || has_id(missing, HELP_NAME) {
+        return Ok(());
+    }
+    reserve_for_flag(missing, own)?;
+    Ok(missing.push(help_argument(alloc)?)?)
 }
 
 // Adds the flag that shows the version, if there is a version, unless the flag is disabled or
 // exists already.
+#[tactic(auto, unfolding(crate::specs::Generated::version_argument, crate::specs::Texts::fixed_texts))]
 fn push_version(
     missing: &mut Vec<Arg>,
     own: &[Arg],
@@ -107,21 +113,19 @@ fn push_version(
     if node.version.is_none() || node.disable_version_flag {
         return Ok(());
     }
-    push_if_missing(missing, own, version_argument(alloc)?)
-}
-
-fn push_if_missing(missing: &mut Vec<Arg>, own: &[Arg], argument: Arg) -> Result<(), AllocError>
-    ensures ok { OnOk result (own.now ++ missing.new.items
-        ≡ with_missing (own.now ++ missing.old.items) (argument ∷ [])) }
-{
-    let id = argument.get_id();
-    if has_id(own, id) || has_id(missing, id) {
-        drop(argument);
+    if has_id(own, VERSION_NAME) || has_id(missing, VERSION_NAME) {
         return Ok(());
     }
-    // Reserves no more than the node needs, because the list may become the node's.
-    missing.reserve_exact(own.len() + 1)?;
-    Ok(missing.push(argument)?)
+    reserve_for_flag(missing, own)?;
+    Ok(missing.push(version_argument(alloc)?)?)
+}
+
+// Makes room for one more flag and for the node's own arguments. It reserves no more than that,
+// because the list may become the node's.
+fn reserve_for_flag(missing: &mut Vec<Arg>, own: &[Arg]) -> Result<(), AllocError>
+    ensures same { missing.new.items ≡ missing.old.items }
+{
+    missing.reserve_exact(own.len() + 1)
 }
 
 fn push_copy_if_missing(

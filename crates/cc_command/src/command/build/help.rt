@@ -36,9 +36,8 @@ pub(super) fn help_command(
         (help_command (joined_name parent.now help_name) none))) }
 {
     let name = joined_name(alloc, parent, HELP_NAME)?;
-    let mut children = copies_of(siblings, alloc, name.as_str())?;
+    let mut children = copies_of(siblings, alloc, name.as_str(), 1)?;
     let last = joined_name(alloc, name.as_str(), HELP_NAME)?;
-    children.reserve_exact(1)?;
     children.push(generated_command(
         alloc,
         HELP_NAME,
@@ -59,14 +58,20 @@ pub(super) fn help_command(
     )
 }
 
-fn copies_of(siblings: &[Command], alloc: Global, parent: &str) -> Result<Vec<Command>, AllocError>
+// Copies the siblings and all commands below them. The list has room for `spare` more commands.
+fn copies_of(
+    siblings: &[Command],
+    alloc: Global,
+    parent: &str,
+    spare: usize,
+) -> Result<Vec<Command>, AllocError>
     ensures ok { IfOk result (λ made.
         forest_of made.items ≡ copies parent.now 0 (forest_of siblings.now)) }
 {
-    let mut made = Vec::with_capacity(alloc, siblings.len())?;
+    let mut made = Vec::with_capacity(alloc, siblings.len().saturating_add(spare))?;
     for (position, sibling) in siblings.iter().enumerate() {
         let name = joined_name(alloc, parent, sibling.get_name())?;
-        let below = copies_of(&sibling.children, alloc, name.as_str())?;
+        let below = copies_of(&sibling.children, alloc, name.as_str(), 0)?;
         let hide = sibling.node.hide;
         made.push(generated_command(
             alloc,
