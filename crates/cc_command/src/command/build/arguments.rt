@@ -1,6 +1,7 @@
 //! The arguments that building adds, and the values that it fills in.
 
-ghost use Rattle.std.specs.Prelude.{◌≡◌, ◌∷◌, ◌++◌, [], map, length, IfOk, OnOk};
+ghost use Rattle.std.specs.Prelude.{◌≡◌, ◌∷◌, ◌++◌, [], ◌+◌, ◌≤◌, map, length, vec_capacity};
+ghost use Rattle.std.specs.Prelude.{IfOk, OnOk};
 ghost use Rattle.cc_arg.specs.Arguments.{filled};
 ghost use Rattle.cc_command.specs.Names.{has_id};
 ghost use Rattle.cc_command.specs.Generated.{generated_arguments, generated_help, generated_version};
@@ -124,6 +125,8 @@ fn push_version(
 // because the list may become the node's.
 fn reserve_for_flag(missing: &mut Vec<Arg>, own: &[Arg]) -> Result<(), AllocError>
     ensures same { missing.new.items ≡ missing.old.items }
+    ensures room { OnOk result
+        (length own.now + 1 + length missing.new.items ≤ vec_capacity missing.new) }
 {
     missing.reserve_exact(own.len() + 1)
 }
