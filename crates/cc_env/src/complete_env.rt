@@ -2,6 +2,7 @@
 
 ghost use Rattle.std.specs.Prelude.{◌≡◌, Some, None, codes, map, string_bytes};
 ghost use Rattle.std.specs.Option.{option_copied};
+ghost use Rattle.cc_command.specs.declared.release.Release.TheVariants.{AtOnce};
 ghost use Rattle.cc_env.specs.Builtins.{all_builtins};
 ghost use Rattle.cc_env.specs.SafeShells.{all_safe};
 ghost use Rattle.cc_engine.specs.Completion.{Completes};
@@ -19,7 +20,7 @@ use crate::shells::Shells;
 use crate::wanted::{known_shell, wanted_name};
 use cc_base::{CandidateSources, Collected, Error, Sink, Text, put_all};
 use cc_candidates::Completers;
-use cc_command::Command;
+use cc_command::{Command, Release};
 use cc_engine::{Lookup, Sources};
 use cc_paths::Folder;
 use cc_replies::EnvValues;
@@ -36,6 +37,7 @@ pub struct CompleteEnv<'s, F, E> {
     bin: Option<Text>,
     completer: Option<Text>,
     shells: Shells<'s, E>,
+    release: Release,
 }
 
 impl<F> CompleteEnv<'static, F, Builtin> {
@@ -46,6 +48,7 @@ impl<F> CompleteEnv<'static, F, Builtin> {
         ensures variable { result.variable.now ≡ codes "COMPLETE" }
         ensures names { (result.bin ≡ None) × (result.completer ≡ None) }
         ensures shells { result.shells.0.now ≡ all_builtins }
+        ensures release { result.release ≡ AtOnce }
     {
         CompleteEnv {
             factory,
@@ -53,6 +56,7 @@ impl<F> CompleteEnv<'static, F, Builtin> {
             bin: None,
             completer: None,
             shells: Shells::builtins(),
+            release: Release::AtOnce,
         }
     }
 }
@@ -65,6 +69,7 @@ impl<F> CompleteEnv<'static, F, SafeShell> {
         ensures variable { result.variable.now ≡ codes "COMPLETE" }
         ensures names { (result.bin ≡ None) × (result.completer ≡ None) }
         ensures shells { result.shells.0.now ≡ all_safe }
+        ensures release { result.release ≡ AtOnce }
     {
         CompleteEnv {
             factory,
@@ -72,6 +77,7 @@ impl<F> CompleteEnv<'static, F, SafeShell> {
             bin: None,
             completer: None,
             shells: Shells::safe(),
+            release: Release::AtOnce,
         }
     }
 }
@@ -103,6 +109,15 @@ impl<'s, F, E> CompleteEnv<'s, F, E> {
         self
     }
 
+    /// Sets when the memory of the command is released, by default as soon as the text is made. A
+    /// program that exits right after the answer can leave that to its end.
+    pub fn release(mut self, when: Release) -> CompleteEnv<'s, F, E>
+        ensures { result ≡ record self.entry { release = when } }
+    {
+        self.release = when;
+        self
+    }
+
     /// Sets the shells. The first one that has the requested name answers.
     pub fn shells<'t, T>(self, shells: Shells<'t, T>) -> CompleteEnv<'t, F, T>
         ensures factory { result.factory ≡ self.entry.factory }
@@ -110,6 +125,7 @@ impl<'s, F, E> CompleteEnv<'s, F, E> {
         ensures bin { result.bin ≡ self.entry.bin }
         ensures completer { result.completer ≡ self.entry.completer }
         ensures shells { result.shells.0.now ≡ shells.entry.0.now }
+        ensures release { result.release ≡ self.entry.release }
     {
         CompleteEnv {
             factory: self.factory,
@@ -117,6 +133,7 @@ impl<'s, F, E> CompleteEnv<'s, F, E> {
             bin: self.bin,
             completer: self.completer,
             shells,
+            release: self.release,
         }
     }
 }
@@ -228,12 +245,14 @@ impl<'s, F: Fn(Global) -> Result<Command, Error> + Drop, E: EnvCompleter> Comple
         ensures variable { result.variable.now ≡ self.now.variable.now }
         ensures bin { option_copied result.bin ≡ self.now.bin }
         ensures completer { option_copied result.completer ≡ self.now.completer }
+        ensures release { result.release ≡ self.now.release }
     {
         ShellProgram {
             shell,
             variable: self.variable,
             bin: some_text(&self.bin),
             completer: some_text(&self.completer),
+            release: self.release,
         }
     }
 
@@ -270,6 +289,7 @@ impl<'s, F: Fn(Global) -> Result<Command, Error> + Drop, E: EnvCompleter> Comple
             variable: self.variable,
             bin: some_text(&self.bin),
             completer: some_text(&self.completer),
+            release: self.release,
         };
         program.text(alloc, command, args, env, lookup)
     }

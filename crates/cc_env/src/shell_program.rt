@@ -11,7 +11,7 @@ ghost use Rattle.cc_env.specs.Steps.{completer_path, in_memory, made_bytes, name
 use crate::arguments::{after_dashes, keep_last, program_path};
 use crate::env_completer::EnvCompleter;
 use cc_base::{Collected, Error, Text};
-use cc_command::{Command, full_name};
+use cc_command::{Command, Release, discard, full_name};
 use cc_engine::Lookup;
 use cc_replies::EnvValues;
 use std::alloc::{AllocError, Global};
@@ -28,6 +28,8 @@ pub struct ShellProgram<'a, E> {
     pub bin: Option<&'a str>,
     /// The path of the program that the shell runs. `None` stands for the first argument.
     pub completer: Option<&'a str>,
+    /// When the memory of the command is released.
+    pub release: Release,
 }
 
 impl<'a, E: EnvCompleter> ShellProgram<'a, E> {
@@ -54,17 +56,37 @@ impl<'a, E: EnvCompleter> ShellProgram<'a, E> {
             (Completes (L.may_return lookup.now)) (map string_bytes args.items)
             (made_bytes result) }
     {
+        let text = self.text_over(alloc, &mut command, args, env, lookup);
+        discard(command, self.release);
+        text
+    }
+
+    // Returns the text, and builds the command.
+    fn text_over<L: Lookup>(
+        &self,
+        alloc: Global,
+        command: &mut Command,
+        args: Vec<String>,
+        env: &EnvValues,
+        lookup: &L,
+    ) -> Result<Collected, Error>
+        ensures { MakesText (λ made. made ≡ Ok command.old) (E.spec self.now.shell.now)
+            (names_of self.now.variable.now (option_copied self.now.bin)
+            (option_copied self.now.completer) (L.current lookup.now)) env.now
+            (Completes (L.may_return lookup.now)) (map string_bytes args.items)
+            (made_bytes result) }
+    {
         command.build(alloc)?;
         let Some((program, rest)) = args.split_first() else {
             return Err(Error::NoArguments);
         };
         let after = after_dashes(rest);
         if after.is_empty() {
-            return self.registration(alloc, &command, lookup.current_dir(), program.as_str());
+            return self.registration(alloc, command, lookup.current_dir(), program.as_str());
         }
         let count = after.len();
         let words = keep_last(args, count);
-        self.reply(alloc, &mut command, words, env, lookup)
+        self.reply(alloc, command, words, env, lookup)
     }
 
     fn registration(

@@ -18,7 +18,7 @@ use crate::word_parser::ClapParser;
 use cc_asking::Called;
 use cc_base::{CandidateSources, Counted, Error};
 use cc_candidates::Completers;
-use cc_command::Command;
+use cc_command::{Command, Release};
 use cc_engine::Sources;
 use cc_env::CompleteEnv;
 use cc_lines::SystemLines;
@@ -83,7 +83,7 @@ where
         folder: &folder,
         completers,
     };
-    let completion = CompleteEnv::safe(factory);
+    let completion = CompleteEnv::safe(factory).release(Release::AtExit);
     let program = Program {
         completion,
         parser: ClapParser,

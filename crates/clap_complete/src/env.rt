@@ -4,6 +4,7 @@ pub use cc_asking::{
     Answer, Call, Called, LineSource, PassedLines, answer_call, answer_own, try_complete_asking,
     write_answer, write_run_words,
 };
+pub use cc_command::Release;
 pub use cc_env::{
     Bash, Builtin, CompleteEnv, Elvish, EnvCompleter, Fish, Powershell, SafeShell, ShellNames,
     ShellProgram, Shells, Zsh,

@@ -4,6 +4,7 @@
 use crate::contents;
 use crate::output::{buffered, flush};
 use cc_base::{Error, Sink};
+use cc_command::Release;
 use cc_lines::SystemLines;
 use cc_paths::{Folder, RealFolder};
 use cc_replies::{EnvValues, home, variables};
@@ -12,7 +13,6 @@ use complgen_live::{
     BadTree, OWN_TREE, Origin, ReplyError, Request, command_name, known_names, reply,
     request_words, tree_folders, tree_paths, write_registrations,
 };
-use complgen_tree_file::Release;
 use std::alloc::{AllocError, Global};
 use std::borrow::CowStr;
 use std::convert::AsStr;

@@ -14,12 +14,17 @@ use complgen_commands::{Refusal, WRITE_FAILED};
 use std::alloc::AllocError;
 use std::convert::AsStr;
 use std::env::{self, Env};
-use std::io::Input;
+use std::fs::OpenFile;
+use std::io::{Input, Read};
 use std::process::ExitCode;
 use std::rt::Files;
 use std::{fs, io};
 
 const NOT_UTF8: &str = "words: not UTF-8\n";
+
+// The most room that is made for a file before it is read. The size that a system states need not be
+// true.
+const MOST_ROOM: u64 = 1 << 24;
 
 fn main(rt: HostRuntime) -> ExitCode {
     match carry_out(&rt) {
@@ -50,11 +55,23 @@ fn words<R: Env + AllocGlobal>(rt: &R) -> Result<Vec<String>, Refusal> {
 
 // Returns the bytes of the file at `path`, or `None` if it cannot be read.
 fn contents<R: Files + AllocGlobal>(rt: &R, path: &str) -> Result<Option<Vec<u8>>, Refusal> {
-    match fs::read(rt, path) {
+    match read_whole(rt, path) {
         Ok(bytes) => Ok(Some(bytes)),
         Err(error) if error.kind() == io::ErrorKind::OutOfMemory => Err(Refusal::from(AllocError)),
         Err(_) => Ok(None),
     }
+}
+
+// Returns the bytes of the file at `path`. The list has room for them from the start, because
+// growing it takes 3 % of the instructions of a script.
+fn read_whole<R: Files + AllocGlobal>(rt: &R, path: &str) -> io::Result<Vec<u8>> {
+    let mut file = fs::open(rt, path)?;
+    let size = file.metadata().map_or(0, |about| about.len());
+    // One byte more shows the end of the file without another growth.
+    let room = size.min(MOST_ROOM) as usize + 1;
+    let mut bytes = Vec::with_capacity(rt.alloc(), room)?;
+    file.read_to_end(&mut bytes)?;
+    Ok(bytes)
 }
 
 // Prints the text of a refusal, and returns the exit status.

@@ -8,11 +8,11 @@ ghost use Rattle.complgen_commands.specs.Writing.{Finishes};
 
 use crate::refusals::{Refusal, error_refusal};
 use crate::shells::shell_of;
-use crate::tree_files::tree_and_release;
+use crate::tree_files::tree;
 use cc_base::Sink;
+use cc_command::{Release, discard};
 use cc_generator::generate;
 use cc_shell::Shell;
-use complgen_tree_file::{Release, discard};
 use std::alloc::Global;
 
 /// Writes the script for the shell named `shell` to `out`. `file` has the bytes of the tree file,
@@ -53,7 +53,7 @@ fn script_by<W: Sink>(
         (IsScript shell bin.now) out.old out.new (option_copied file.entry) result }
     ensures read_back { OnOk result (ScriptReads shell bin.now (option_copied file.entry)) }
 {
-    let mut command = tree_and_release(alloc, file, when)?;
+    let mut command = tree(alloc, file)?;
     let bin = String::from_str(alloc, bin)?;
     match generate(alloc, shell, &mut command, bin, out) {
         Ok(()) => {

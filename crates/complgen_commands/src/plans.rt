@@ -10,8 +10,8 @@ use crate::refusals::Refusal;
 use crate::registrations::register;
 use crate::replies::reply;
 use cc_base::Sink;
+use cc_command::Release;
 use cc_paths::Folder;
-use complgen_tree_file::Release;
 use std::alloc::Global;
 
 const OTHER_PLAN: &str = "plan: not carried out by run\n";

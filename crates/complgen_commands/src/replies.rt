@@ -7,14 +7,13 @@ ghost use Rattle.complgen_commands.specs.Ends.{EndsReply};
 ghost use Rattle.complgen_commands.specs.Replies.{AreFound, FindsNone};
 
 use crate::refusals::{Refusal, error_refusal};
-use crate::tree_files::tree_and_release;
+use crate::tree_files::tree;
 use cc_base::{Error, Sink};
 use cc_candidates::{Completers, CompletionCandidate};
-use cc_command::Command;
+use cc_command::{Command, Release, discard};
 use cc_engine::complete;
 use cc_paths::Folder;
 use cc_replies::write_lines;
-use complgen_tree_file::{Release, discard};
 use std::alloc::{AllocError, Global};
 
 /// The directory in which relative paths begin.
@@ -39,7 +38,7 @@ pub(crate) fn reply<D: Folder, W: Sink>(
     ensures { EndsReply W.taken W.failed (PathsOf (D.facts folder.now) (Some (codes ".")))
         (map string_bytes words.now) index (option_copied file.entry) out.old out.new result }
 {
-    let command = tree_and_release(alloc, file, Release::AtExit)?;
+    let command = tree(alloc, file)?;
     let words = copies(alloc, words)?;
     let found = match candidates(alloc, command, words, index, folder) {
         Ok(found) => found,

@@ -10,7 +10,7 @@ ghost use Rattle.complgen_commands.specs.TreeFiles.{ReadsFile, ReadsFileAt};
 use crate::refusals::{Refusal, UNREADABLE, VALUES_UNREADABLE, text_refusal, tree_refusal};
 use cc_base::on_one_line;
 use cc_command::Command;
-use complgen_tree_file::{Release, TreeError, read_tree, read_tree_and_release};
+use complgen_tree_file::{TreeError, read_tree};
 use std::alloc::{AllocError, Global};
 
 /// A tree file, with the path that messages name.
@@ -30,26 +30,10 @@ pub struct TreeFile<'f> {
 pub fn tree(alloc: Global, file: Option<&[u8]>) -> Result<Command, Refusal>
     ensures { ReadsFile (option_copied file.entry) result }
 {
-    tree_and_release(alloc, file, Release::AtOnce)
-}
-
-/// Parses the bytes of a tree file, as `tree` does. `when` tells when the memory of the JSON is
-/// released.
-///
-/// # Errors
-///
-/// Those of `tree`.
-pub(crate) fn tree_and_release(
-    alloc: Global,
-    file: Option<&[u8]>,
-    when: Release,
-) -> Result<Command, Refusal>
-    ensures { ReadsFile (option_copied file.entry) result }
-{
     let Some(bytes) = file else {
         return Err(Refusal::from_static(1, UNREADABLE));
     };
-    read_tree_and_release(alloc, bytes, when).map_err(tree_refusal)
+    read_tree(alloc, bytes).map_err(tree_refusal)
 }
 
 /// Parses the tree file `file`.

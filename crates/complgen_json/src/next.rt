@@ -87,6 +87,7 @@ fn next_members<'t>(
 }
 
 /// Takes the next token of `reader` if `depth` is not 0. Returns whether it opens an object.
+#[inline(always)]
 pub fn opens_object(reader: &mut Reader<'_>, depth: usize) -> bool
     ensures opens { result ≡ (nat_lt 0 depth && opens_object reader.old) }
     ensures rest { IsTrue result → reader.old ≡ begin_object ∷ reader.new }
@@ -95,6 +96,7 @@ pub fn opens_object(reader: &mut Reader<'_>, depth: usize) -> bool
 }
 
 /// Takes the next token of `reader` if `depth` is not 0. Returns whether it opens a list.
+#[inline(always)]
 pub fn opens_list(reader: &mut Reader<'_>, depth: usize) -> bool
     ensures opens { result ≡ (nat_lt 0 depth && opens_list reader.old) }
     ensures rest { IsTrue result → reader.old ≡ begin_array ∷ reader.new }

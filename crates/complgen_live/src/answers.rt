@@ -33,7 +33,7 @@ pub fn answer_request<D: Folder, S: LineSource>(
     ensures { AnswersRequest (parts_of (D.facts request.now.folder.now) request.now)
         (S.gives lines.now) (seen_request result) }
 {
-    let Some(prepared) = prepare(alloc, request.env, request.file, request.release)? else {
+    let Some(prepared) = prepare(alloc, request.env, request.file)? else {
         return Ok(None);
     };
     Ok(Some(answer_for(alloc, request, prepared, lines)?))
@@ -55,6 +55,7 @@ fn answer_for<D: Folder, S: LineSource>(
         variable: VARIABLE,
         bin: None,
         completer: None,
+        release: request.release,
     };
     let call = Call {
         program,

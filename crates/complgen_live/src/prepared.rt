@@ -9,7 +9,7 @@ use cc_base::Error;
 use cc_command::Command;
 use cc_env::{SafeShell, Shells, known_shell, wanted_name};
 use cc_replies::EnvValues;
-use complgen_tree_file::{Release, TreeError, read_tree_and_release};
+use complgen_tree_file::{TreeError, read_tree};
 use std::alloc::Global;
 
 /// The variable that requests a registration or a reply, by the name of a shell.
@@ -25,7 +25,7 @@ pub(crate) struct Prepared {
 }
 
 /// Returns the shell that `env` names and the command that `file` describes, or `None` without a
-/// file or a request. `when` tells when the memory of the JSON is released.
+/// file or a request.
 ///
 /// # Errors
 ///
@@ -36,7 +36,6 @@ pub(crate) fn prepare(
     alloc: Global,
     env: &EnvValues,
     file: Option<&[u8]>,
-    when: Release,
 ) -> Result<Option<Prepared>, ReplyError>
     ensures { Prepares env.now (option_copied file.entry) result }
 {
@@ -48,7 +47,7 @@ pub(crate) fn prepare(
     };
     let shells = Shells::safe();
     let known = known_shell(alloc, &shells, name)?;
-    let command = described(alloc, bytes, when)?;
+    let command = described(alloc, bytes)?;
     Ok(Some(Prepared {
         shell: *known,
         command,
@@ -56,10 +55,10 @@ pub(crate) fn prepare(
 }
 
 // Returns the command that a tree file describes.
-fn described(alloc: Global, bytes: &[u8], when: Release) -> Result<Command, ReplyError>
+fn described(alloc: Global, bytes: &[u8]) -> Result<Command, ReplyError>
     ensures { DescribedBy bytes.now result }
 {
-    match read_tree_and_release(alloc, bytes, when) {
+    match read_tree(alloc, bytes) {
         Ok(command) => Ok(command),
         Err(TreeError::NotJson) => Err(ReplyError::Tree(BadTree::NotJson)),
         Err(TreeError::BadForm) => Err(ReplyError::Tree(BadTree::BadForm)),

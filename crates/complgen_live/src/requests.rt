@@ -7,8 +7,8 @@ ghost use Rattle.complgen_live.specs.Origins.{is_trusted};
 ghost use Rattle.complgen_live.specs.Requests.{begins_request, is_request, names_shell};
 ghost use Rattle.complgen_live.specs.Requests.{request_words};
 
+use cc_command::Release;
 use cc_replies::EnvValues;
-use complgen_tree_file::Release;
 
 /// Where a tree comes from.
 #[derive(Clone, Copy, Drop)]
@@ -48,7 +48,7 @@ pub struct Request<'r, D> {
     pub current_dir: Option<&'r str>,
     /// The folder whose paths complete the values of value hints.
     pub folder: &'r D,
-    /// When the memory of the tree file's JSON is released.
+    /// When the memory of the command is released.
     pub release: Release,
 }
 

@@ -6,10 +6,10 @@
 #![tactic(auto)]
 
 use cc_base::Counted;
+use cc_command::Release;
 use complgen_check::{Report, check};
 use complgen_command_line::plan;
 use complgen_commands::{Plan, Refusal, script, unreadable};
-use complgen_tree_file::Release;
 use std::alloc::AllocError;
 use std::convert::AsStr;
 use std::env::{self, Env};

@@ -3,11 +3,11 @@
 use cc_arg::Arg;
 use cc_asking::LineSource;
 use cc_base::{Collected, Error};
+use cc_command::Release;
 use cc_fixtures::words::to_strings;
 use cc_paths::MemoryFolder;
 use cc_replies::EnvValues;
 use complgen_live::{Origin, Request, reply};
-use complgen_tree_file::Release;
 use std::alloc::{AllocError, Global};
 
 const TREE: &str = r#"{"name": "app", "disable_help_flag": true, "args": [

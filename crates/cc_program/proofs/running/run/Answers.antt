@@ -1,3 +1,4 @@
+use Rattle.std.proofs.Common.{◌∙◌, ap}
 use Rattle.std.proofs.lemmas.Result.{err_from_is_err_and}
 use Rattle.cc_program.specs.Running.{no_environment, unread}
 use Rattle.cc_program.proofs.Requested.{runs_some}
@@ -20,5 +21,10 @@ returns-in_err-found g c =
 
 pub returns : goal.returns
 returns g c =
-    runs_some _ _ _ _ _ _ _ c.new-folder.result.home _ _ _ _ _ c.run_here.ensures.0 c.safe-completion.ensures.factory c.safe-completion.ensures.variable
-    c.safe-completion.ensures.names.0 c.safe-completion.ensures.names.1 c.safe-completion.ensures.shells c.run_here.ensures.1
+    let set = c.release-completion.ensures in
+    runs_some _ _ _ _ _ _ _ c.new-folder.result.home _ _ _ _ _ c.run_here.ensures.0
+    (ap (λ env. env.factory) set ∙ c.safe.ensures.factory)
+    (ap (λ env. env.variable.now) set ∙ c.safe.ensures.variable)
+    (ap (λ env. env.bin) set ∙ c.safe.ensures.names.0)
+    (ap (λ env. env.completer) set ∙ c.safe.ensures.names.1)
+    (ap (λ env. env.shells.0.now) set ∙ c.safe.ensures.shells) c.run_here.ensures.1

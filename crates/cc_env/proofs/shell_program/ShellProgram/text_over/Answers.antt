@@ -5,7 +5,7 @@ use Rattle.cc_env.proofs.Texts.{text_registered, text_replied, text_without_argu
 use Rattle.std.specs.Option.{option_copied}
 use Rattle.cc_base.specs.Collected.{collected_bytes}
 use Rattle.cc_env.specs.Steps.{IsRegistration, made_bytes, names_of}
-use Rattle.cc_env.proofs.shell_program.ShellProgram.text.Goals as goal
+use Rattle.cc_env.proofs.shell_program.ShellProgram.text_over.Goals as goal
 
 pub returns-in_err-build : goal.returns-in_err-build
 returns-in_err-build g c =
@@ -14,13 +14,13 @@ returns-in_err-build g c =
 
 pub returns-in_default : goal.returns-in_default
 returns-in_default g c =
-    text_without_arguments _ _ _ _ _ string_bytes c.args.args.items c.args.command refl
+    text_without_arguments _ _ _ _ _ string_bytes c.args.args.items c.args.command.now refl
     (sym (ap length c.deref.ensures.value) ∙ c.in_default.ensures.cases)
 
 pub returns-then-is_empty : goal.returns-then-is_empty
 returns-then-is_empty g c =
     text_registered _ _ _ _ _ string_bytes c.args.args.items c.in-Some.program.now c.in-Some.rest.now
-    c.after_dashes-after.result.now c.args.command _ c.as_str.result.now c.registration.result refl c.in_ok-build.ensures.ok
+    c.after_dashes-after.result.now c.args.command.now _ c.as_str.result.now c.registration.result refl c.in_ok-build.ensures.ok
     (sym c.deref.ensures.value ∙ c.in-Some.ensures.cases.0) c.after_dashes-after.ensures
     (sym c.is_empty.ensures ∙ c.if-is_empty.true) c.as_str.ensures.value
     (subst (λ (current : Option (List ℕ)). IfOk c.registration.result (λ text. IsRegistration (g.E.EnvCompleter.spec c.args.self.now.shell.now)
@@ -37,7 +37,7 @@ pub returns : goal.returns
 returns g c =
     let split = sym c.deref.ensures.value ∙ c.in-Some.ensures.cases.0 in
     text_replied _ _ _ _ _ string_bytes c.args.args.items c.in-Some.program.now c.in-Some.rest.now
-    c.after_dashes-after.result.now (map string_bytes c.keep_last-words.result.items) c.args.command _ _
+    c.after_dashes-after.result.now (map string_bytes c.keep_last-words.result.items) c.args.command.now _ _
     (made_bytes c.reply.result) refl c.in_ok-build.ensures.ok c.in_ok-build.ensures.whole split c.after_dashes-after.ensures
     (sym c.is_empty.ensures ∙ c.if-is_empty.false)
     (ap (map string_bytes) c.keep_last-words.ensures
