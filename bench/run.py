@@ -474,7 +474,7 @@ def counted_reply(program, larder):
     """Prints what a reply costs `larder`, and what the candidates for the same words cost `complgen`.
 
     The reply has four parts: making the command, its build, `complete` of the built command, and the rest,
-    which makes the text of the reply and frees the command. `complgen` reads the tree of a larger tool
+    which makes the text of the reply. `complgen` reads the tree of a larger tool
     from a file.
     """
     words = ["larder", "in"]
