@@ -68,7 +68,7 @@ class Room(unittest.TestCase):
         process = self.begin(*words, **more)
         out, errors = process.communicate(given, timeout=LONGEST)
         self.assertEqual([], os.listdir(self.temporary), "left in the scratch directory")
-        self.assertNotIn(b"Traceback", errors)
+        self.assertNotIn(b"Traceback", errors or b"")
         messages = (errors or b"").decode().replace("complgen-import: ", "")
         return process.returncode, (out or b"").decode(), messages
 
