@@ -135,7 +135,7 @@ class Runs(Room):
                     r'"add --help") printf "  -v  About it\n  -n  Number\n" ;; *) echo "no $1" >&2; exit 2 ;; esac')
         status, out, messages = self.run_importer("--walk", "app")
         self.assertEqual((0, "app fails --help: printed no help text, and ended with the status 2\n"), (status, messages))
-        line = "app: 4 commands, 2 options, 2 lines dropped (2 with names such as -name)\n"
+        line = "app: 4 commands, 2 options, 2 lines dropped (1 name such as -rf)\n"
         self.assertEqual(line, out)
         with open(os.path.join(self.bin, "app.log"), encoding="utf-8") as file:
             self.assertEqual(["--help", "add --help", "fails --help", "same --help"], sorted(file.read().splitlines()))
