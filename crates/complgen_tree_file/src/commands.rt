@@ -74,19 +74,6 @@ pub fn command(alloc: Global, tree: &Value<'_>) -> Result<Command, TreeError>
     Ok(command)
 }
 
-/// Returns the node of the command that `tree` describes, without its children.
-///
-/// # Errors
-///
-/// `BadForm` if `tree` describes none, `Memory` if an allocation fails.
-pub(crate) fn own_node(alloc: Global, tree: &Value<'_>) -> Result<Node, TreeError>
-    ensures { GivesSame result (form.own_of (view tree.now)) }
-{
-    let mut slots = [None; MOST_KEYS];
-    let has_only_keys = find_values(&mut slots, tree);
-    own(alloc, tree, &slots, has_only_keys)
-}
-
 // Returns the value that describes the children.
 fn children<'v, 't>(
     _tree: &Value<'_>,
@@ -105,8 +92,7 @@ fn add_children(parent: &mut Command, alloc: Global, value: &Value<'_>) -> Resul
         (form.commands_of (view value.now))) parent.old parent.new }
 {
     let items = complgen_json::items(value).ok_or(TreeError::BadForm)?;
-    // Building may add the child `help`.
-    reserve_children(parent, items.len().saturating_add(1))?;
+    reserve_children(parent, items.len())?;
     for item in items {
         add_child(parent, command(alloc, item)?)?;
     }
@@ -262,8 +248,7 @@ fn add_each(node: &mut Node, alloc: Global, value: &Value<'_>) -> Result<(), Tre
         (form.arguments_of (view value.now))) node.old node.new }
 {
     let items = complgen_json::items(value).ok_or(TreeError::BadForm)?;
-    // Building may add the flags `--help` and `--version`.
-    reserve_arguments(node, alloc, items.len().saturating_add(2))?;
+    reserve_arguments(node, alloc, items.len())?;
     for item in items {
         add_argument(node, arg(alloc, item)?)?;
     }
