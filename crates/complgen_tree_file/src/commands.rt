@@ -92,7 +92,8 @@ fn add_children(parent: &mut Command, alloc: Global, value: &Value<'_>) -> Resul
         (form.commands_of (view value.now))) parent.old parent.new }
 {
     let items = complgen_json::items(value).ok_or(TreeError::BadForm)?;
-    reserve_children(parent, items.len())?;
+    // Building may add the child `help`.
+    reserve_children(parent, items.len().saturating_add(1))?;
     for item in items {
         add_child(parent, command(alloc, item)?)?;
     }
@@ -248,7 +249,8 @@ fn add_each(node: &mut Node, alloc: Global, value: &Value<'_>) -> Result<(), Tre
         (form.arguments_of (view value.now))) node.old node.new }
 {
     let items = complgen_json::items(value).ok_or(TreeError::BadForm)?;
-    reserve_arguments(node, alloc, items.len())?;
+    // Building may add the flags `--help` and `--version`.
+    reserve_arguments(node, alloc, items.len().saturating_add(2))?;
     for item in items {
         add_argument(node, arg(alloc, item)?)?;
     }
