@@ -77,7 +77,7 @@ CALLS = {
         Completers: new none add_completer add_completer_closure add_list add_list_closure
         ArgValueCompleter: new complete complete_at
         ArgValueCandidates: new candidates ; SubcommandCandidates: new candidates
-        Folder: names is_dir is_file is_executable home ; FolderError: ; RealFolder: new
+        Folder: names is_dir is_file is_executable home ; FolderError: ; RealFolder: new with_modes
         MemoryFolder: new ; PathTest: passes ; EveryPath: ; IsFile: ; IsDir: ; IsExecutable: ; FnTest:
         PathCompleter: any file dir with_test stdio filter current_dir complete_at ; complete
         bash_script_and_candidates ; has_no_hidden_alias
