@@ -51,17 +51,17 @@ pub fn same_range(range: ValueRange, other: ValueRange) -> bool
 }
 
 /// Returns whether both are the same adapter.
-pub fn same_builtin(shell: Builtin, other: Builtin) -> bool
-    ensures { Decides result (shell ≡ other) }
+pub fn same_builtin(adapter: Builtin, other: Builtin) -> bool
+    ensures { Decides result (adapter ≡ other) }
 {
-    shell == other
+    adapter == other
 }
 
 /// Returns whether both are the same safe adapter.
-pub fn same_safe_shell(shell: SafeShell, other: SafeShell) -> bool
-    ensures { Decides result (shell ≡ other) }
+pub fn same_safe_shell(safe: SafeShell, other: SafeShell) -> bool
+    ensures { Decides result (safe ≡ other) }
 {
-    shell == other
+    safe == other
 }
 
 /// Returns whether both are the same refusal, which is always so.
