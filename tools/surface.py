@@ -79,7 +79,7 @@ CALLS = {
         ArgValueCandidates: new candidates ; SubcommandCandidates: new candidates
         Folder: names is_dir is_file is_executable home ; FolderError: ; RealFolder: new with_modes
         MemoryFolder: new ; PathTest: passes ; EveryPath: ; IsFile: ; IsDir: ; IsExecutable: ; FnTest:
-        PathCompleter: any file dir with_test stdio filter current_dir complete_at ; complete
+        PathCompleter: any file dir with_test stdio filter current_dir complete ; complete
         bash_script_and_candidates ; has_no_hidden_alias
         possible_value_candidates ; complete_possible_values
     """,
