@@ -1,7 +1,7 @@
 use Rattle.std.proofs.Common.{◌≡◌, ◌++◌, drop, map, string_bytes}
 use Rattle.clap_complete.specs.Candidate.{new_candidate}
 use Rattle.cc_caller.specs.KnownNames.{names_beginning}
-use Rattle.cc_caller.proofs.known_names.KnownNamesValueCompleter.complete_at.Given as goal
+use Rattle.cc_caller.proofs.known_names.KnownNamesValueCompleter.complete.Given as goal
 
 abbrev pub invariant-loop-name : goal.invariant-loop-name
 invariant-loop-name l =
