@@ -1,4 +1,5 @@
 pub mod Branches
+pub mod Hashes
 pub mod KnownNames
 pub mod PlainScript
 pub mod QuietScript

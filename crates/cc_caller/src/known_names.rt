@@ -22,12 +22,7 @@ impl ValueCompleter for KnownNames {
     ghost completes = { λ known _ text found.
         found ≡ map new_candidate (names_beginning (map string_bytes known.names.items) text) };
 
-    fn complete_at(
-        &self,
-        alloc: Global,
-        _number: usize,
-        text: &str,
-    ) -> Result<Vec<CompletionCandidate>, AllocError> {
+    fn complete(&self, alloc: Global, text: &str) -> Result<Vec<CompletionCandidate>, AllocError> {
         let mut found = Vec::new(alloc);
         for name in &self.names {
             if name.as_bytes().starts_with(text.as_bytes()) {

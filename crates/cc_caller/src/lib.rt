@@ -18,7 +18,10 @@ mod word_list;
 
 pub use crate::bash::write_bash_if_quiet;
 pub use crate::branches::{branch, write_answer_over};
-pub use crate::equality::{same_action, same_hint, same_range, same_shell};
+pub use crate::equality::{
+    Adapters, Generators, same_action, same_adapters, same_builtin, same_generators, same_hash,
+    same_hint, same_range, same_refusal, same_safe_shell, same_shell,
+};
 pub use crate::known_names::{KnownNames, tools};
 pub use crate::word_list::WordList;
 use clap_complete::aot::{Elvish, Sink};

@@ -14,8 +14,17 @@ pub trait ValueCompleter: Drop {
     // the lists that it may return, by the number of the value and the text to complete
     ghost completes: { Self → ℕ → List ℕ → List CompletionCandidate → Type 0 };
 
+    /// Returns the candidates for `text`, which may be any value of an argument.
+    ///
+    /// # Errors
+    ///
+    /// `AllocError` if an allocation fails.
+    fn complete(&self, alloc: Global, text: &str) -> Result<Vec<CompletionCandidate>, AllocError>
+        ensures { IfOk result (λ found. (number : ℕ)
+            → completes self.now number text.now found.items) };
+
     /// Returns the candidates for `text`, the value with this `number` in one use of an argument.
-    /// The first value has the number 0.
+    /// The first value has the number 0. By default, the number makes no difference.
     ///
     /// # Errors
     ///
@@ -26,17 +35,10 @@ pub trait ValueCompleter: Drop {
         number: usize,
         text: &str,
     ) -> Result<Vec<CompletionCandidate>, AllocError>
-        ensures { IfOk result (λ found. completes self.now number text.now found.items) };
-
-    /// Returns the candidates for `text` as the first value.
-    ///
-    /// # Errors
-    ///
-    /// `AllocError` if an allocation fails.
-    fn complete(&self, alloc: Global, text: &str) -> Result<Vec<CompletionCandidate>, AllocError>
-        ensures { IfOk result (λ found. completes self.now 0 text.now found.items) }
+        ensures { IfOk result (λ found. completes self.now number text.now found.items) }
     {
-        self.complete_at(alloc, 0, text)
+        let _ = number;
+        self.complete(alloc, text)
     }
 }
 

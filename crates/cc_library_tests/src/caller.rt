@@ -4,12 +4,16 @@ use crate::checks::{is, same};
 use crate::fixtures::tree;
 use crate::written::script;
 use cc_caller::{
-    WordList, same_action, same_hint, same_range, same_shell, write_bash_if_quiet, write_if_plain,
+    WordList, same_action, same_adapters, same_builtin, same_generators, same_hash, same_hint,
+    same_range, same_refusal, same_safe_shell, same_shell, write_bash_if_quiet, write_if_plain,
 };
 use cc_fixtures::trees;
 use clap_complete::Shell;
-use clap_complete::aot::{Bash, Collected, Elvish, Generator};
+use clap_complete::aot::{
+    Bash, Collected, Elvish, Fish, Generator, InvalidShell, Nushell, PowerShell, Zsh,
+};
 use clap_complete::command::{ArgAction, ValueHint, ValueRange};
+use clap_complete::env::{self, Builtin, SafeShell};
 use std::process::Abort;
 
 // `app` with an option `--to`, whose possible value is `a b`.
@@ -83,4 +87,29 @@ fn values_are_equal_where_they_are_one(rt: HostRuntime) {
     let range = ValueRange::new(1, 2);
     same(&rt, same_range(range, ValueRange::new(1, 2)), true);
     same(&rt, same_range(range, ValueRange::new(1, 3)), false);
+}
+
+#[test]
+fn adapters_and_generators_are_equal_where_they_are_one(rt: HostRuntime) {
+    same(&rt, same_builtin(Builtin::Zsh, Builtin::Zsh), true);
+    same(&rt, same_builtin(Builtin::Zsh, Builtin::Bash), false);
+    let (zsh, bash) = (SafeShell::new(Builtin::Zsh), SafeShell::new(Builtin::Bash));
+    same(&rt, same_safe_shell(zsh, zsh), true);
+    same(&rt, same_safe_shell(zsh, bash), false);
+    let generators = ((Bash, Elvish, Fish), (Nushell, PowerShell, Zsh));
+    same(&rt, same_generators(generators, generators), true);
+    let adapters = (
+        (env::Bash, env::Elvish, env::Fish),
+        (env::Powershell, env::Zsh),
+    );
+    same(&rt, same_adapters(adapters, adapters), true);
+    same(&rt, same_refusal(InvalidShell, InvalidShell), true);
+}
+
+#[test]
+fn equal_values_have_equal_hashes(rt: HostRuntime) {
+    same(&rt, same_hash(&Shell::Zsh, &Shell::Zsh), true);
+    same(&rt, same_hash(&Shell::Zsh, &Shell::Bash), false);
+    same(&rt, same_hash(&ValueHint::Url, &ValueHint::Url), true);
+    same(&rt, same_hash(&ValueHint::Url, &ValueHint::Other), false);
 }

@@ -1,2 +1,5 @@
+mod Examples
 mod FirstLines
+pub mod Parts
+pub mod ReadBack
 mod ValueFilesExamples

@@ -1,7 +1,15 @@
 //! The lines that are the values of an argument, as the system gives them: the output of a command,
-//! which the shell passes on, the contents of a file, or the names of users and hosts.
+//! which the shell passes on, the contents of a file, or the names of users, hosts and commands.
 #![tactic(auto)]
 
+mod commands;
+mod config;
+mod hosts;
+mod known;
+mod mark;
+mod names;
+mod passwd;
+mod patterns;
 mod system_lines;
 mod value_files;
 

@@ -4,10 +4,14 @@
 ghost use Rattle.std.specs.Prelude.{◌≡◌, IfOk, [], false};
 ghost use Rattle.cc_arg.specs.ValueSources.{is_listed};
 
+use crate::commands::{command_names, path_folders};
+use crate::config::hosts_of_config;
+use crate::hosts::hosts_of_table;
+use crate::known::hosts_known;
+use crate::passwd::users;
 use crate::value_files::{first_lines, values_path};
 use cc_arg::{Arg, ValueHint};
 use cc_asking::LineSource;
-use cc_hints::{command_names, hosts_known, hosts_of_config, hosts_of_table, path_folders, users};
 use cc_paths::{Folder, FolderError, join};
 use cc_replies::EnvValues;
 use std::alloc::{AllocError, Global};

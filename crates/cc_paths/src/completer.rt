@@ -132,12 +132,7 @@ impl<D: Folder + Drop, T: PathTest<D> + Drop> ValueCompleter for PathCompleter<D
         completer.current_dir word)
         completer.stdio word found };
 
-    fn complete_at(
-        &self,
-        alloc: Global,
-        _number: usize,
-        word: &str,
-    ) -> Result<Vec<CompletionCandidate>, AllocError> {
+    fn complete(&self, alloc: Global, word: &str) -> Result<Vec<CompletionCandidate>, AllocError> {
         let current_dir = self.current_dir.as_ref().map(|path| path.as_str());
         let mut found = path_candidates(alloc, &self.folder, &self.test, current_dir, word)?;
         push_stdio(&mut found, alloc, word, self.stdio)?;

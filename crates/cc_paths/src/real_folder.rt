@@ -1,6 +1,6 @@
 //! The file system of the operating system.
 
-ghost use Rattle.std.specs.Prelude.{◌≡◌, ⊤};
+ghost use Rattle.std.specs.Prelude.{◌≡◌, ⊤, false, true};
 ghost use Rattle.std.specs.Option.{option_map};
 ghost use Rattle.std.specs.String.{string_bytes};
 
@@ -15,8 +15,8 @@ use std::{fs, io};
 // The bits of a file's mode that let the owner, the group or others execute it.
 const EXECUTE_BITS: u32 = 0o111;
 
-/// The files and directories of the operating system. A file is executable if its mode lets somebody
-/// execute it.
+/// The files and directories of the operating system. Every file counts as executable, unless
+/// `with_modes` is set.
 ///
 /// Names omit entries that cannot be read. A path about which the system returns an error is
 /// neither a directory nor a file. The contracts of `Folder` promise nothing about these answers,
@@ -25,6 +25,7 @@ const EXECUTE_BITS: u32 = 0o111;
 pub struct RealFolder<R> {
     files: R,
     home: Option<Text>,
+    by_mode: bool,
 }
 
 impl<R: Files + Drop> RealFolder<R> {
@@ -32,11 +33,21 @@ impl<R: Files + Drop> RealFolder<R> {
     pub fn new(files: R, home: Option<String>) -> RealFolder<R>
         ensures files { result.files ≡ files }
         ensures home { result.home ≡ option_map string_bytes home }
+        ensures by_mode { result.by_mode ≡ false }
     {
         RealFolder {
             files,
             home: home.map(|home| Text::from(home)),
+            by_mode: false,
         }
+    }
+
+    /// Counts a file as executable only if its mode lets the owner, the group or others execute it.
+    pub fn with_modes(mut self) -> RealFolder<R>
+        ensures { result ≡ record self { by_mode = true } }
+    {
+        self.by_mode = true;
+        self
     }
 }
 
@@ -73,6 +84,9 @@ impl<R: Files + Drop> Folder for RealFolder<R> {
     }
 
     fn is_executable(&self, path: &str) -> bool {
+        if !self.by_mode {
+            return self.is_file(path);
+        }
         match fs::metadata(&self.files, path) {
             Ok(data) => data.is_file() && data.permissions().mode() & EXECUTE_BITS != 0,
             Err(_) => false,

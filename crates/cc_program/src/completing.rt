@@ -59,7 +59,7 @@ where
     let variables = environment(rt)?;
     let found = directories(rt, &variables)?;
     let (home, current) = found;
-    let folder = RealFolder::new(rt, home);
+    let folder = RealFolder::new(rt, home).with_modes();
     let current_dir = current.as_ref().map(|path| path.as_str());
     let called = Called {
         args: words,

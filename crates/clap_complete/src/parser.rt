@@ -2,5 +2,4 @@
 //! both to complete a command line and to parse it.
 
 pub use cc_agreement::{candidates_and_parser, candidates_and_reached_parser};
-pub use cc_covered::{has_globals, is_parsed_exactly};
-pub use cc_parser::{fits_parser, local_parser, parser};
+pub use cc_parser::{fits_parser, has_globals, is_parsed_exactly, local_parser, parser};

@@ -60,7 +60,7 @@ pub(crate) fn complete<R: Env + Files + Input + Print + Eprint + AllocGlobal>(
     words: Vec<String>,
 ) -> Result<u8, Refusal> {
     let folders = tree_folders(rt.alloc(), env)?;
-    let folder = RealFolder::new(rt, home(rt)?);
+    let folder = RealFolder::new(rt, home(rt)?).with_modes();
     print(rt, env, words.as_slice(), folders.as_slice(), &folder)
 }
 

@@ -82,7 +82,7 @@ found_put_at name key d found true e =
 found_put_at name key d found false e = get_member-put_other name key d found (λ same.
     absurd (true≢false (sym ((bytes_eq-Decides key name).1 (sym same)) ∙ e)))
 
-pub found_put : (name key : List ℕ) (d : Data) (found : Members)
+found_put : (name key : List ℕ) (d : Data) (found : Members)
     → get_member name (put key d found)
     ≡ cond (bytes_eq key name) (Some d) (get_member name found)
 found_put name key d found = found_put_at name key d found (bytes_eq key name) refl
@@ -146,7 +146,7 @@ keys_put_at test Equal key l d e ms is rest =
 keys_put_at test Greater key l d e ms is rest =
     ap (λ b. test l && b) rest ∙ and_swapped (test l) (test key) (list_all test (keys_in ms))
 
-pub keys_put : (test : List ℕ → Bool) (key : List ℕ) (d : Data) (ms : Members)
+keys_put : (test : List ℕ → Bool) (key : List ℕ) (d : Data) (ms : Members)
     → list_all test (keys_in (put key d ms)) ≡ (test key && list_all test (keys_in ms))
 keys_put test key d no_members = refl
 keys_put test key d (member l e ms) =

@@ -10,7 +10,7 @@ use Rattle.serde_json.specs.Find.{get_member}
 use Rattle.serde_json.proofs.Views.{get_member-put, get_member-put_other}
 use Rattle.complgen_json.specs.Slots.{are_distinct, members_at}
 
-pub or_false : (a b : Bool) → (a || b) ≡ false → (a ≡ false) × (b ≡ false)
+or_false : (a b : Bool) → (a || b) ≡ false → (a ≡ false) × (b ≡ false)
 or_false true b e = absurd (true≢false e)
 or_false false b e = (refl, e)
 
@@ -37,7 +37,7 @@ any_at p [] k d h e = absurd (omega arith)
 any_at p (x ∷ xs) zero d h e = first_true (p x) (list_any p xs) e
 any_at p (x ∷ xs) (suc k) d h e = or_true (p x) (list_any p xs) (any_at p xs k d (omega arith) e)
 
-pub other_kept : (l key : List ℕ) (d : Data) (ms : Members) → bytes_eq l key ≡ false
+other_kept : (l key : List ℕ) (d : Data) (ms : Members) → bytes_eq l key ≡ false
     → get_member l ms ≡ get_member l (put key d ms)
 other_kept l key d ms e = sym (get_member-put_other l key d ms
     (λ same. absurd (true≢false (sym ((bytes_eq-Decides l key).1 same) ∙ e))))

@@ -19,10 +19,10 @@ ReadsJson text (Err NotJson) = serde.read text ≡ None
 ReadsJson text (Err Memory) = ⊤
 
 -- of the tokens `old`, reading the first value returns it and leaves `new`
-abbrev pub ReadsFirst : ℕ → List Token → Result (Value Global) JsonError → List Token → Type 0
-ReadsFirst depth old (Ok v) new = value depth old ≡ Some (value_view v, new)
-ReadsFirst depth old (Err NotJson) new = value depth old ≡ None
-ReadsFirst depth old (Err Memory) new = ⊤
+abbrev pub ReadsFirst : List Token → Result (Value Global) JsonError → List Token → Type 0
+ReadsFirst old (Ok v) new = value serde.max_depth old ≡ Some (value_view v, new)
+ReadsFirst old (Err NotJson) new = value serde.max_depth old ≡ None
+ReadsFirst old (Err Memory) new = ⊤
 
 -- the text spells this JSON, in which each object has all its members, also those of one key
 abbrev pub SpellsJson : List ℕ → Json → Type 0

@@ -2,14 +2,12 @@
 #![tactic(auto)]
 
 mod look;
-mod next;
 mod number;
 mod object;
 mod range;
 mod read;
 
 pub use crate::look::{boolean, has_only_keys, is_null, items, member, text, whole_number};
-pub use crate::next::{next_object, next_value, opens_list, opens_object};
 pub use crate::object::find_keys;
-pub use crate::read::{JsonError, MAX_DEPTH, read_value};
-pub use json::{Invalid, Reader, Scratch, Value};
+pub use crate::read::{JsonError, read_value};
+pub use json::{Scratch, Value};

@@ -1,12 +1,12 @@
 //! Reads a JSON value.
 
-ghost use Rattle.std.specs.Prelude.{◌≡◌, ◌<◌, IfOk, OnOk, length};
+ghost use Rattle.std.specs.Prelude.{IfOk};
 ghost use Rattle.json.specs.Value.{value_view};
 ghost use Rattle.complgen_json.specs.Reads.{ReadsFirst, ReadsJson, SpellsJson};
 
 use crate::range::has_range;
-use json::{Invalid, Reader, Scratch, Value};
-use std::alloc::{AllocFailed, Global};
+use json::{Reader, Scratch, Value};
+use std::alloc::Global;
 
 /// The reason why no value was read.
 #[derive(Debug, Drop)]
@@ -17,28 +17,7 @@ pub enum JsonError {
     Memory,
 }
 
-/// The depth to which the objects and lists of a text may nest.
-pub const MAX_DEPTH: usize = 127;
-
-impl From<Invalid> for JsonError {
-    ghost use Rattle.complgen_json.specs.declared.read.JsonError.TheVariants.{NotJson};
-
-    ghost from_gives = { λ _ error. error ≡ NotJson };
-
-    fn from(_invalid: Invalid) -> JsonError {
-        JsonError::NotJson
-    }
-}
-
-impl<T: Drop> From<AllocFailed<T>> for JsonError {
-    ghost use Rattle.complgen_json.specs.declared.read.JsonError.TheVariants.{Memory};
-
-    ghost from_gives = { λ _ error. error ≡ Memory };
-
-    fn from(_failed: AllocFailed<T>) -> JsonError {
-        JsonError::Memory
-    }
-}
+const MAX_DEPTH: usize = 127;
 
 /// Returns the value that `text` spells. It borrows from `text` and, if a string has escapes, from
 /// `scratch`.
@@ -59,7 +38,7 @@ pub fn read_value<'t>(
     let Ok(mut reader) = Reader::new(text, scratch) else {
         return Err(JsonError::Memory);
     };
-    let value = first(alloc, &mut reader, MAX_DEPTH)?;
+    let value = first(alloc, &mut reader)?;
     if reader.next().is_some() {
         return Err(JsonError::NotJson);
     }
@@ -69,17 +48,11 @@ pub fn read_value<'t>(
     Ok(value)
 }
 
-// Reads the first value of the reader, which may nest `depth` deep.
-#[inline(always)]
-pub(crate) fn first<'t>(
-    alloc: Global,
-    reader: &mut Reader<'t>,
-    depth: usize,
-) -> Result<Value<'t>, JsonError>
-    ensures first { ReadsFirst depth reader.old result reader.new }
-    ensures shorter { OnOk result (length reader.new < length reader.old) }
+// Reads the first value of the reader.
+fn first<'t>(alloc: Global, reader: &mut Reader<'t>) -> Result<Value<'t>, JsonError>
+    ensures { ReadsFirst reader.old result reader.new }
 {
-    match Value::read(alloc, reader, depth) {
+    match Value::read(alloc, reader, MAX_DEPTH) {
         Ok(value) => Ok(value),
         Err(json::Error::OutOfMemory) => Err(JsonError::Memory),
         Err(_) => Err(JsonError::NotJson),

@@ -1,5 +1,5 @@
 -- The children of a command are found at their key.
-use Rattle.std.proofs.Common.{◌≡◌, ◌∙◌, Option, Some, None, Ordering, Less}
+use Rattle.std.proofs.Common.{◌≡◌, ◌∙◌, List, [], Option, Some, None, Ordering, Less}
 use Rattle.std.proofs.Common.{ap, codes, fold, if◌then◌else◌, nat_cmp, refl, sym}
 use Rattle.std.specs.Prelude.{option_map}
 use Rattle.std.specs.Ordering.{is_eq, match_ordering}
@@ -13,28 +13,31 @@ use Rattle.cc_command.specs.Made.{of_node, with_child}
 use Rattle.cc_command.specs.Tree.{Tree}
 use Rattle.cc_command.specs.declared.node.Node.{Node}
 use Rattle.complgen_tree_file.specs.CommandForm.{children_in, command_of, commands_of, own_of}
-use Rattle.complgen_tree_file.specs.Parts.{listed}
 use Rattle.complgen_tree_file.specs.TreeForm.{◌>>=◌, with_key, with_value}
 
+-- the children at the key, if it is there
+abbrev found_children : Option Data → Option (List Tree)
+found_children None = Some []
+found_children (Some d) = commands_of d
+
 either_children : (o : Ordering) (found : Option Data) (d : Data)
-    → (if is_eq o then commands_of d else listed commands_of found)
-    ≡ listed commands_of (match_ordering o found (Some d) found)
+    → (if is_eq o then commands_of d else found_children found)
+    ≡ found_children (match_ordering o found (Some d) found)
 either_children Less found d = refl
 either_children o found d = refl
 
--- the children are listed at their key
-pub children_found : (ms : Members)
-    → children_in ms ≡ listed commands_of (get_member (codes "subcommands") ms)
+children_found : (ms : Members)
+    → children_in ms ≡ found_children (get_member (codes "subcommands") ms)
 children_found no_members = refl
 children_found (member key d ms) =
     let key_of_children = codes "subcommands" in
     ap (λ rest. if bytes_eq key_of_children key then commands_of d else rest) (children_found ms)
-    ∙ ap (λ here. if here then commands_of d else listed commands_of (get_member key_of_children ms))
+    ∙ ap (λ here. if here then commands_of d else found_children (get_member key_of_children ms))
     (sym (is_eq-slice_cmp key_of_children key))
     ∙ either_children (slice_cmp nat_cmp key_of_children key) (get_member key_of_children ms) d
 
 children_added : (found : Option Data) (own : Tree)
-    → option_map (fold with_child own) (listed commands_of found)
+    → option_map (fold with_child own) (found_children found)
     ≡ with_value commands_of (fold with_child) own found
 children_added None own = refl
 children_added (Some d) own = refl

@@ -1,7 +1,6 @@
 pub mod ArgumentForm
 pub mod CommandForm
 pub mod Faults
-pub mod Parts
 pub mod PossibleValueForm
 pub mod SourceForm
 pub mod Slots

@@ -6,17 +6,10 @@ use Rattle.json.specs.declared.value.Value.{Value}
 use Rattle.serde_json.specs.Data.{Data}
 use Rattle.serde_json.specs.Read.{read}
 use Rattle.complgen_json.specs.Seen.{view}
-use Rattle.complgen_json.specs.declared.read.JsonError.{JsonError}
-use Rattle.complgen_json.specs.declared.read.JsonError.TheVariants as json
 use Rattle.cc_command.specs.Tree.{Tree}
 use Rattle.complgen_tree_file.specs.CommandForm.{command_of}
 use Rattle.complgen_tree_file.specs.declared.error.TreeError.{TreeError}
 use Rattle.complgen_tree_file.specs.declared.error.TreeError.TheVariants.{BadForm, Memory, NotJson}
-
--- the error of a tree file whose JSON is not read
-abbrev pub error_of_json : JsonError → TreeError
-error_of_json json.NotJson = NotJson
-error_of_json json.Memory = Memory
 
 -- the bytes spell this JSON
 abbrev pub Spells : List ℕ → Data → Type 0

@@ -74,19 +74,6 @@ pub fn command(alloc: Global, tree: &Value<'_>) -> Result<Command, TreeError>
     Ok(command)
 }
 
-/// Returns the node of the command that `tree` describes, without its children.
-///
-/// # Errors
-///
-/// `BadForm` if `tree` describes none, `Memory` if an allocation fails.
-pub(crate) fn own_node(alloc: Global, tree: &Value<'_>) -> Result<Node, TreeError>
-    ensures { GivesSame result (form.own_of (view tree.now)) }
-{
-    let mut slots = [None; MOST_KEYS];
-    let has_only_keys = find_values(&mut slots, tree);
-    own(alloc, tree, &slots, has_only_keys)
-}
-
 // Returns the value that describes the children.
 fn children<'v, 't>(
     _tree: &Value<'_>,

@@ -3,7 +3,6 @@
 ghost use Rattle.std.specs.Prelude.{◌≡◌};
 ghost use Rattle.complgen_tree_file.specs.declared.error.TreeError.TheVariants.{Memory};
 
-use complgen_json::{Invalid, JsonError};
 use std::alloc::{AllocError, AllocFailed};
 use thiserror::Error as ThisError;
 
@@ -34,28 +33,5 @@ impl<T: Drop> From<AllocFailed<T>> for TreeError {
 
     fn from(_failed: AllocFailed<T>) -> TreeError {
         TreeError::Memory
-    }
-}
-
-impl From<JsonError> for TreeError {
-    ghost use Rattle.complgen_tree_file.specs.TreeFile.{error_of_json};
-
-    ghost from_gives = { λ failed error. error ≡ error_of_json failed };
-
-    fn from(failed: JsonError) -> TreeError {
-        match failed {
-            JsonError::NotJson => TreeError::NotJson,
-            JsonError::Memory => TreeError::Memory,
-        }
-    }
-}
-
-impl From<Invalid> for TreeError {
-    ghost use Rattle.complgen_tree_file.specs.declared.error.TreeError.TheVariants.{NotJson};
-
-    ghost from_gives = { λ _ error. error ≡ NotJson };
-
-    fn from(_invalid: Invalid) -> TreeError {
-        TreeError::NotJson
     }
 }

@@ -12,7 +12,6 @@ mod keys;
 mod kinds;
 mod possible_values;
 mod sources;
-mod tokens;
 mod values;
 
 ghost use Rattle.complgen_json.specs.Seen.{view};
@@ -26,7 +25,6 @@ pub use crate::error::TreeError;
 pub use crate::faults::{Fault, FaultKind, Faults, SourceFault, Step};
 pub use crate::kinds::{ObjectKind, ValueKind};
 pub use crate::possible_values::possible_value_faults;
-use crate::tokens::command_of_text;
 use cc_command::Command;
 use complgen_json::{JsonError, Scratch, Value, read_value};
 use std::alloc::Global;
@@ -48,20 +46,8 @@ pub fn read_tree(alloc: Global, bytes: &[u8]) -> Result<Command, TreeError>
     }
 }
 
-// Returns the command that a text describes. If it describes none, reads it once more, as a value,
-// to tell why.
+// Returns the command that a text describes.
 fn read_text(alloc: Global, text: &str) -> Result<Command, TreeError>
-    ensures { ReadsTree text.now result }
-{
-    match command_of_text(alloc, text) {
-        Ok(command) => Ok(command),
-        Err(TreeError::Memory) => Err(TreeError::Memory),
-        Err(_) => read_whole(alloc, text),
-    }
-}
-
-// Returns the command that a text describes, from the value of the whole text.
-fn read_whole(alloc: Global, text: &str) -> Result<Command, TreeError>
     ensures { ReadsTree text.now result }
 {
     let mut scratch = Scratch::new(alloc);

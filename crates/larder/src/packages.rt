@@ -29,12 +29,7 @@ impl<R> Installed<R> {
 impl<R: Files + Drop> ValueCompleter for Installed<R> {
     ghost completes = { λ _ _ _ _. ⊤ };
 
-    fn complete_at(
-        &self,
-        alloc: Global,
-        _number: usize,
-        text: &str,
-    ) -> Result<Vec<CompletionCandidate>, AllocError> {
+    fn complete(&self, alloc: Global, text: &str) -> Result<Vec<CompletionCandidate>, AllocError> {
         let list = contents(&self.files, alloc)?;
         let mut found = Vec::new(alloc);
         for name in list.lines() {

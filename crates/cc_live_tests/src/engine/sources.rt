@@ -18,12 +18,7 @@ struct Auto;
 impl ValueCompleter for Auto {
     ghost completes = { λ _ _ _ _. ⊤ };
 
-    fn complete_at(
-        &self,
-        alloc: Global,
-        _number: usize,
-        _text: &str,
-    ) -> Result<Vec<CompletionCandidate>, AllocError> {
+    fn complete(&self, alloc: Global, _text: &str) -> Result<Vec<CompletionCandidate>, AllocError> {
         let id = String::from_str(alloc, "arg::col")?;
         let tag = String::from_str(alloc, "Auto")?;
         let auto = CompletionCandidate::new(String::from_str(alloc, "auto")?);
@@ -33,12 +28,17 @@ impl ValueCompleter for Auto {
     }
 }
 
-/// Completes with the number of the value and the text, such as `1:text`.
+/// Completes with the number of the value and the text, such as `1:text`. For any value, completes
+/// with the text alone.
 #[derive(Drop)]
 struct Echo;
 
 impl ValueCompleter for Echo {
     ghost completes = { λ _ _ _ _. ⊤ };
+
+    fn complete(&self, alloc: Global, text: &str) -> Result<Vec<CompletionCandidate>, AllocError> {
+        candidates_named(alloc, &[text])
+    }
 
     fn complete_at(
         &self,
@@ -72,10 +72,9 @@ struct OutOfMemory;
 impl ValueCompleter for OutOfMemory {
     ghost completes = { λ _ _ _ _. ⊤ };
 
-    fn complete_at(
+    fn complete(
         &self,
         _alloc: Global,
-        _number: usize,
         _text: &str,
     ) -> Result<Vec<CompletionCandidate>, AllocError> {
         Err(AllocError)

@@ -111,13 +111,15 @@ fn the_names_in_a_folder_of_the_system_are_offered(rt: HostRuntime) {
     remove(&rt, path.as_str());
 }
 
-// Fails unless `wanted` tells whether a path leads to a directory, whether it leads to a file, and
-// whether somebody may execute that file.
-fn leads(rt: &(impl Abort + AllocGlobal + Files), path: &str, wanted: (bool, bool, bool)) {
+// Fails unless `wanted` tells whether a path leads to a directory, whether it leads to a file,
+// whether that file counts as executable, and whether its mode lets somebody execute it.
+fn leads(rt: &(impl Abort + AllocGlobal + Files), path: &str, wanted: (bool, bool, bool, bool)) {
     let folder = RealFolder::new(rt, None);
     let shown = (folder.is_dir(path), folder.is_file(path));
     same(rt, shown, (wanted.0, wanted.1));
     same(rt, folder.is_executable(path), wanted.2);
+    let folder = folder.with_modes();
+    same(rt, folder.is_executable(path), wanted.3);
 }
 
 #[test]
@@ -126,18 +128,18 @@ fn a_path_of_the_system_is_a_folders_or_a_files(rt: HostRuntime) {
     leads(
         &rt,
         path_in(&rt, path.as_str(), "src").as_str(),
-        (true, false, false),
+        (true, false, false, false),
     );
     leads(
         &rt,
         path_in(&rt, path.as_str(), "a.txt").as_str(),
-        (false, true, false),
+        (false, true, true, false),
     );
     leads(
         &rt,
         path_in(&rt, path.as_str(), "b.txt").as_str(),
-        (false, false, false),
+        (false, false, false, false),
     );
-    leads(&rt, "/bin/sh", (false, true, true));
+    leads(&rt, "/bin/sh", (false, true, true, true));
     remove(&rt, path.as_str());
 }

@@ -11,7 +11,7 @@ returns-then-is_some-clause-reads c =
     let v = c.in_ok-value.value in
     let rest = c.first.new.reader in
     let read : value 127 (tokens c.args.text.now) ≡ Some (value_view v, rest) =
-    ap (value 127) (sym c.in-Ok.ensures.ok) ∙ c.in_ok-value.ensures.first in
+    ap (value 127) (sym c.in-Ok.ensures.ok) ∙ c.in_ok-value.ensures in
     let some : is_some c.next.result ≡ true = search rules in
     goes_on _ (value_view v) rest c.next.new.self read c.next.result c.next.ensures.value some
 
@@ -20,7 +20,7 @@ returns-then-not-has_range-clause-reads c =
     let v = c.in_ok-value.value in
     let rest = c.first.new.reader in
     let read : value 127 (tokens c.args.text.now) ≡ Some (value_view v, rest) =
-    ap (value 127) (sym c.in-Ok.ensures.ok) ∙ c.in_ok-value.ensures.first in
+    ap (value 127) (sym c.in-Ok.ensures.ok) ∙ c.in_ok-value.ensures in
     let none : is_some c.next.result ≡ false = search rules in
     let outside : is_in_range (value_view v) ≡ false = search rules in
     is_outside _ (value_view v) rest c.next.new.self read c.next.result c.next.ensures.value none
@@ -31,7 +31,7 @@ returns-clause-reads c =
     let v = c.in_ok-value.value in
     let rest = c.first.new.reader in
     let read : value 127 (tokens c.args.text.now) ≡ Some (value_view v, rest) =
-    ap (value 127) (sym c.in-Ok.ensures.ok) ∙ c.in_ok-value.ensures.first in
+    ap (value 127) (sym c.in-Ok.ensures.ok) ∙ c.in_ok-value.ensures in
     let none : is_some c.next.result ≡ false = search rules in
     let inside : is_in_range (value_view v) ≡ true = search rules in
     is_whole _ (value_view v) rest c.next.new.self read c.next.result c.next.ensures.value none
@@ -42,6 +42,6 @@ returns-clause-spells c =
     let v = c.in_ok-value.value in
     let rest = c.first.new.reader in
     let read : value 127 (tokens c.args.text.now) ≡ Some (value_view v, rest) =
-    ap (value 127) (sym c.in-Ok.ensures.ok) ∙ c.in_ok-value.ensures.first in
+    ap (value 127) (sym c.in-Ok.ensures.ok) ∙ c.in_ok-value.ensures in
     let none : is_some c.next.result ≡ false = search rules in
     nothing_left _ (value_view v) rest c.next.new.self read c.next.result c.next.ensures.value none

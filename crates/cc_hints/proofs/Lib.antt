@@ -1,3 +1,0 @@
-mod Examples
-pub mod Parts
-pub mod ReadBack
