@@ -4,16 +4,22 @@ from __future__ import annotations
 
 import functools
 import glob
+import itertools
 import os
+import re
 import shutil
 from typing import Callable, Dict, Iterable, List, Optional
 
 BASH_FILES = ("{}", "{}.bash", "_{}")
 ZSH_FOLDERS = ("~/.zfunc", "~/.local/share/zsh/site-functions", "/usr/local/share/zsh/site-functions",
-               "/usr/share/zsh/site-functions", "/usr/share/zsh/vendor-functions", "/usr/share/zsh/vendor-completions",
+               "/usr/share/zsh/vendor-functions", "/usr/share/zsh/vendor-completions", "/usr/share/zsh/site-functions",
                "/usr/share/zsh/functions/**/", "/usr/share/zsh/[0-9]*/functions/**/",
                "/usr/local/share/zsh/[0-9]*/functions/**/")
+# The zsh of Debian searches the first of these two directories in place of the second.
+DEBIAN_FOLDER, OTHERS_FOLDER = "/usr/share/zsh/vendor-completions", "/usr/share/zsh/site-functions"
 COMPDEF = "#compdef"
+# The options in a first line, which patterns and keys follow.
+COMPDEF_OPTION = re.compile("-[a-zA-Z]")
 
 
 def own_completions(name: str) -> Dict[str, Optional[str]]:
@@ -67,7 +73,8 @@ def zsh_file(name: str) -> Optional[str]:
 def zsh_functions(folders: str) -> Dict[str, str]:
     """Returns the first function for each program that the functions name in their first lines. The directories are
     those of the variable FPATH, which is seldom exported, or else the usual ones."""
-    places = folders.split(":") if folders else [path for it in ZSH_FOLDERS for path in sorted(
+    usual = [it for it in ZSH_FOLDERS if it != OTHERS_FOLDER or not os.path.isdir(DEBIAN_FOLDER)]
+    places = folders.split(":") if folders else [path for it in usual for path in sorted(
         glob.glob(os.path.expanduser(it), recursive=True))]
     found: Dict[str, str] = {}
     for path in (file for place in places for file in sorted(glob.glob(os.path.join(glob.escape(place), "_*")))):
@@ -77,16 +84,17 @@ def zsh_functions(folders: str) -> Dict[str, str]:
 
 
 def names_in(path: str) -> List[str]:
-    """Returns the names of programs in the first line of a function of zsh. Patterns, which follow an option, are left
-    out."""
+    """Returns the names of programs in the first line of a function of zsh. Contexts, such as `-value-`, are left out,
+    and so is what follows an option."""
     try:
         with open(path, encoding="utf-8", errors="replace") as file:
             words = file.readline(10_000).split()
     except OSError:
         return []
-    options = [at for at, word in enumerate(words) if word.startswith("-")]
-    names = words[1:options[0]] if options else words[1:]
-    return [word.partition("=")[0] for word in names] if words[:1] == [COMPDEF] else []
+    if words[:1] != [COMPDEF]:
+        return []
+    names = itertools.takewhile(lambda word: not COMPDEF_OPTION.fullmatch(word), words[1:])
+    return [word.partition("=")[0] for word in names if not word.startswith("-")]
 
 
 def tree_folders() -> List[str]:

@@ -25,6 +25,7 @@ COMPDEF = (
     ("#compdef app", ["app"]),
     ("#compdef app gapp app2=app -p 'app-*' -P 'x*'", ["app", "gapp", "app2"]),
     ("#compdef -P pip[0-9.]#", []),
+    ("#compdef - nohup time -value-,PS1,-default- eval -p 'x*' y", ["nohup", "time", "eval"]),
     ("#compdef -k complete-word ^X", []),
     ("#autoload", []),
     ("# compdef app", []),
