@@ -56,10 +56,10 @@ class Room(unittest.TestCase):
                 **more}
 
     def begin(self, *words, **more):
-        """Starts the importer."""
+        """Starts the importer. Each program gets a minute, because the machine may be busy."""
         how = {"stdin": subprocess.DEVNULL, "stdout": subprocess.PIPE, "stderr": subprocess.PIPE,
                "env": self.environment(), "cwd": self.room, **more}
-        return subprocess.Popen([sys.executable, "-m", "importer", *words], **how)
+        return subprocess.Popen([sys.executable, "-m", "importer", "--seconds", "60", *words], **how)
 
     def run_importer(self, *words, **more):
         """Runs the importer. Returns its status, its output and its messages without the program's name."""
