@@ -69,6 +69,14 @@ def seconds(data):
     return time.process_time() - began
 
 
+def loop_seconds():
+    """Returns the seconds of a loop that does nothing, which tell how busy the machine is."""
+    began = time.process_time()
+    for _ in range(10_000_000):
+        pass
+    return time.process_time() - began
+
+
 def main(words):
     """Prints a row for each shape, each measured in a process of its own, or measures the shape with this number."""
     if words[:1] == ["--shape"]:
@@ -76,6 +84,7 @@ def main(words):
         memory = resource.getrusage(resource.RUSAGE_SELF).ru_maxrss / 1024
         print("".join(f"{it:8.2f}" for it in times) + f"{memory:8.0f}")
         return
+    print(f"A loop of ten million rounds takes {loop_seconds():.2f} s, on an idle machine about 0.25 s.")
     print(f"{'begins':24}{'repeated':28}  64 KiB 256 KiB   1 MiB      MB")
     for number, (head, unit) in enumerate(SHAPES):
         if words and not re.search(words[0], head + unit):

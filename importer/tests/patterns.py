@@ -131,8 +131,7 @@ class Walker:
 
     def characters(self, item: Tuple[Any, Any]) -> Characters:
         """Returns the characters that an item of one character matches."""
-        compiled = parser.SubPattern(parser.State(), [item])
-        pattern = re.compile(text_of(compiled), self.flags)
+        pattern = re.compile(text_of(item), self.flags)
         return frozenset(it for it in ALPHABET if pattern.fullmatch(chr(it)))
 
     def first(self, items: List[Any]) -> Characters:
@@ -176,9 +175,9 @@ def can_fail(item: Tuple[Any, Any]) -> bool:
     return all(any(map(can_fail, it)) for it in held[1]) if kind == "BRANCH" else True
 
 
-def text_of(pattern: Any) -> str:
+def text_of(item: Tuple[Any, Any]) -> str:
     """Returns an item of one character as the text of a pattern."""
-    kind, held = pattern[0]
+    kind, held = item
     if str(kind) == "ANY":
         return "."
     if str(kind) in ("LITERAL", "NOT_LITERAL"):
