@@ -7,20 +7,24 @@ come from, to tell which names must not. It shares no pattern with the package `
 from __future__ import annotations
 
 import re
+import unicodedata
 from typing import Optional, Set
 
 # ---- the text as a terminal shows it
 
 COLOR = re.compile(r"\x1b\[[0-9;]*m")
 STRUCK = re.compile(r"([^\x00-\x20\x7f-\x9f])\x08(?=\1)|_\x08(?=[^\x00-\x1f\x7f-\x9f])")
-CONTROL = re.compile(r"[\x00-\x08\x0b-\x1f\x7f-\x9f\u2028\u2029]")
+# Control characters, signs without a width, and line separators, as Unicode has them.
+UNSEEN = ("Cc", "Cf", "Zl", "Zp")
 
 
 def shown(data: bytes) -> Optional[str]:
     """Returns a text without colours, overstrikes and control characters. Returns `None` if it has other escapes or
     backspaces, of which the page does not say what a terminal shows."""
     text = STRUCK.sub("", COLOR.sub("", data.decode("utf-8", "replace")))
-    return None if "\x1b" in text or "\b" in text else CONTROL.sub("", text)
+    if "\x1b" in text or "\b" in text:
+        return None
+    return "".join(it for it in text.replace("\xa0", " ") if it in "\t\n" or unicodedata.category(it) not in UNSEEN)
 
 
 # ---- complete: the names in lines of the stated form

@@ -96,8 +96,10 @@ def try_environment(room: Room, options: Any) -> None:
     room.expect("flag", (0, ["seer -h"]), (room.run("--flag", "-h", "--force", "seer")[0], room.logged()[-1:]))
 
 
+# So many seconds have programs that must not reach this limit.
+AMPLE = "60"
 LIMITED: Dict[str, Tuple[List[str], str]] = {
-    # lines of a program, the message about it
+    # lines of a program, the message about it. Only programs that sleep get a second.
     "endless": (["while :; do echo '  --more  And more'; done"], "endless --help: printed more than 1 MiB"),
     "loud": (["while :; do echo '  --more  And more' >&2; done"], "loud --help: printed more than 1 MiB"),
     "sleeper": ([f"sleep {SLEEP}"], "sleeper --help: did not end within 1 second"),
@@ -122,7 +124,7 @@ def try_limits(room: Room, options: Any) -> None:
     """Programs that print for ever, sleep, print nothing or crash are named, and nothing of them stays."""
     for name, (lines, message) in LIMITED.items():
         room.script(name, *lines)
-        room.fails(message, "--seconds", "1", name)
+        room.fails(message, "--seconds", "1" if "did not end" in message else AMPLE, name)
         room.expect(f"{name}: processes", [], sleeping())
         room.expect(f"{name}: file", False, os.path.exists(room.place(name)))
     room.fails("nothere: not found", "nothere")
@@ -132,7 +134,7 @@ def try_limits(room: Room, options: Any) -> None:
     os.chmod(os.path.join(room.bin, "junk"), 0o755)
     room.fails("junk --help: cannot be run: Exec format error", "junk")
     try_accepted(room)
-    status, out, _ = room.run("--seconds", "1", "sleeper", "nothere", "fine")
+    status, out, _ = room.run("--seconds", "5", "sleeper", "nothere", "fine")
     room.expect("the others go on", (1, "fine: 0 commands, 1 option, 0 lines dropped\n"), (status, out))
     room.expect("command line", [2, 2, 2], [room.run(*words)[0] for words in ((), ("--depth", "0", "x"), ("--nope", "x"))])
 
@@ -156,7 +158,7 @@ def try_accepted(room: Room) -> None:
     for name, lines in ACCEPTED.items():
         room.script(name, *lines)
         found = f"{name}: 0 commands, 1 option, 0 lines dropped\n"
-        room.expect(name, (0, found, ""), room.run("--seconds", "20", name))
+        room.expect(name, (0, found, ""), room.run("--seconds", AMPLE, name))
         room.expect(f"{name}: options", ["--" + name], room.names(name))
         room.expect(f"{name}: processes", [], sleeping())
     room.script("placed", "echo 'Usage: placed FILE'")
@@ -200,7 +202,7 @@ def try_many(room: Room) -> None:
     room.script("many", f"if [ $# = 1 ]; then cat '{path}'; else echo \"  --only-$1  X\"; fi")
     limit = "complgen-import: many: 2 subcommands were not run, because the limit is 2000 help texts\n"
     counted = "many: 2001 commands, 2000 options, 0 lines dropped\n"
-    room.expect("many", (0, counted, limit), room.run("--walk", "--seconds", "60", "many"))
+    room.expect("many", (0, counted, limit), room.run("--walk", "--seconds", AMPLE, "many"))
     room.expect("many: runs", 2000, len(room.logged()))
     wanted = [[f"--only-c{at}"] if at < 1999 else [] for at in range(2001)]
     room.expect("many: options", wanted, [option_names(it) for it in room.tree("many")["subcommands"]])
@@ -260,9 +262,9 @@ def try_failing(room: Room) -> None:
     path = put_listing(room, "some", ["works", "hangs", "dies", "mute"], "--some")
     room.script("some", "case $1 in works) echo '  --works  X' ;;", f"hangs) sleep {SLEEP} ;;", "dies) kill -ABRT $$ ;;",
                 f"mute) ;; *) cat '{path}' ;; esac")
-    status, out, messages = room.run("--walk", "--seconds", "3", "some")
+    status, out, messages = room.run("--walk", "--seconds", "6", "some")
     room.expect("some: status and output", (0, "some: 4 commands, 2 options, 0 lines dropped\n"), (status, out))
-    expected = ["some dies --help: ended by the signal SIGABRT", "some hangs --help: did not end within 3 seconds",
+    expected = ["some dies --help: ended by the signal SIGABRT", "some hangs --help: did not end within 6 seconds",
                 "some mute --help: printed nothing"]
     room.expect("some: messages", [f"complgen-import: {it}" for it in expected], sorted(messages.splitlines()))
     room.expect("some: processes", [], sleeping())

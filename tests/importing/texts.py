@@ -1,7 +1,7 @@
 """The texts of tests/import.d, changed at random, and hostile ones.
 
-Each text is read as that of a subcommand, a hundred in a run, and the first of each hundred also as that of a program.
-What is found is compared with the model in form.py. What is printed is searched for tracebacks and control characters.
+Each text is read as that of a subcommand, many in a run, and the first of each run also as that of a program. What is
+found is compared with the model in form.py. What is printed is searched for tracebacks and control characters.
 """
 
 from __future__ import annotations
@@ -13,12 +13,11 @@ import random
 import re
 import shutil
 import unicodedata
-from typing import Any, Iterator, List, NamedTuple, Sequence, Set
+from typing import Any, Dict, Iterator, List, Sequence, Set, Tuple
 
 from importing import form
 from importing.room import Imported, JOBS, Node, Room, TEXTS, names_of, option_names, write_bytes
 
-GROUP_SIZE = 100
 SHOWN = 3000
 
 SIGNS = (
@@ -53,7 +52,7 @@ def changed_texts(seed: int, number: int) -> List[bytes]:
 def changed(text: bytes, chance: random.Random) -> bytes:
     """Returns a text with one to eight changes."""
     for _ in range(chance.randrange(1, 9)):
-        text = chance.choice((put_sign, put_sign, put_sign, cut, replace, repeat, exchange, indent))(text, chance)
+        text = chance.choice(CHANGES)(text, chance)
     return text
 
 
@@ -98,6 +97,7 @@ def indent(text: bytes, chance: random.Random) -> bytes:
     return b"\n".join(lines)
 
 
+CHANGES = (put_sign, put_sign, put_sign, cut, replace, repeat, exchange, indent)
 FRAMES = (b"%s", b"  -o, --out <X>  %s", b"usage: app [%s", b"usage: app %s", b"Commands:\n  a%s", b"Arguments:\n  %s",
           b"Options:\n%s\n  -x, --extra  More\n", b"  -o <X>\n      Possible values:\n      - %s", b"OPTIONS := { %s")
 
@@ -123,44 +123,52 @@ def hostile(chance: random.Random) -> bytes:
 
 # ---- groups of texts
 
-class Fault(NamedTuple):
-    """What is wrong with the result for a text."""
-
-    number: int
-    text: bytes
-    what: str
+# The texts of a program or a subcommand: the path of each in its directory.
+Case = Dict[str, bytes]
+TEXT_NAME = "help.txt"
 
 
-def try_group(room: Room, first: int, texts: Sequence[bytes]) -> List[Fault]:
-    """Returns what is wrong with the results for some texts. If there is no tree, each text is tried alone."""
-    place = os.path.join(room.path, f"group-{first}-{len(texts)}")
-    put_group(place, texts)
+def put_cases(place: str, first: int, cases: Sequence[Case]) -> None:
+    """Writes a directory of texts. Each case is a subcommand with its number as a name."""
+    names = "".join(f"  c{first + at}  Case {at}\n" for at in range(len(cases)))
+    write_bytes(os.path.join(place, TEXT_NAME), b"Commands:\n" + names.encode())
+    for at, case in enumerate(cases):
+        for path, text in case.items():
+            write_bytes(os.path.join(place, f"c{first + at}", path), text)
+
+
+def try_group(room: Room, first: int, cases: Sequence[Case]) -> List[Tuple[int, str]]:
+    """Returns the numbers of the cases with a wrong result, and what is wrong. If there is no tree, each case is tried
+    alone. The first one is also tried as a program."""
+    place = os.path.join(room.path, f"group-{first}-{len(cases)}")
+    put_cases(place, first, cases)
     made = room.import_texts(place)
-    faults = [Fault(first, texts[0], it) for it in printing_faults(made)]
-    if made.tree is None and len(texts) > 1:
-        faults += [it for at, text in enumerate(texts) for it in try_group(room, first + at, [text])]
+    faults = [(first, it) for it in printing_faults(made)]
+    if made.tree is None and len(cases) > 1:
+        faults += [it for at, case in enumerate(cases) for it in try_group(room, first + at, [case])]
     elif made.tree is not None:
+        nodes = made.tree["subcommands"]
+        names = [f"c{first + at}" for at in range(len(cases))]
+        faults += [(first, "subcommands are missing")] if [it["name"] for it in nodes] != names else []
         above = {name for it in made.tree.get("args", []) if it.get("global") for name in names_of(it)}
-        for at, (node, text) in enumerate(zip(made.tree["subcommands"], texts)):
-            faults += [Fault(first + at, text, it) for it in node_faults(node, text, above)]
-    faults += [Fault(first, texts[0], it) for it in alone_faults(room, os.path.join(place, "c0", "help.txt"))]
+        faults += [(int(node["name"][1:]), it) for node in nodes
+                   for it in tree_faults(node, os.path.join(place, node["name"]), above)]
+    alone = room.import_texts(os.path.join(place, f"c{first}"))
+    faults += [(first, it) for it in printing_faults(alone)]
+    faults += [(first, it) for it in tree_faults(alone.tree or {}, os.path.join(place, f"c{first}"), set())]
     shutil.rmtree(place)
     return faults
 
 
-def put_group(place: str, texts: Sequence[bytes]) -> None:
-    """Writes a directory of texts, each that of a subcommand."""
-    names = "".join(f"  c{at}  Text {at}\n" for at in range(len(texts)))
-    write_bytes(os.path.join(place, "help.txt"), b"Commands:\n" + names.encode())
-    for at, text in enumerate(texts):
-        write_bytes(os.path.join(place, f"c{at}", "help.txt"), text)
-
-
-def alone_faults(room: Room, path: str) -> List[str]:
-    """Returns what is wrong with the result for a text that is read as that of a program."""
-    made = room.import_texts(path)
-    faults = printing_faults(made)
-    return faults + (node_faults(made.tree, read_bytes(path), set()) if made.tree is not None else [])
+def tree_faults(node: Node, place: str, above: Set[str]) -> Iterator[str]:
+    """Yields what is wrong with a command and those below it. It inherits the names `above`."""
+    path = os.path.join(place, TEXT_NAME)
+    if node and os.path.exists(path):
+        text = read_bytes(path)
+        yield from (f"{it}\n    in {text[:SHOWN]!r}" for it in node_faults(node, text, above))
+    inherited = above | {name for it in node.get("args", []) if it.get("global") for name in names_of(it)}
+    for child in node.get("subcommands", []):
+        yield from tree_faults(child, os.path.join(place, child["name"]), inherited)
 
 
 def printing_faults(made: Imported) -> List[str]:
@@ -209,14 +217,14 @@ def node_faults(node: Node, text: bytes, above: Set[str]) -> List[str]:
     return found + [f"{what}: {names}" for what, names in (("missing", missing), ("not in the text", invented)) if names]
 
 
-def try_texts(room: Room, texts: List[bytes], size: int = GROUP_SIZE) -> None:
-    """Tries all texts, several groups at once, and prints what is wrong with the text and its number."""
-    groups = [(at, texts[at:at + size]) for at in range(0, len(texts), size)]
+def try_cases(room: Room, cases: Sequence[Case], size: int) -> None:
+    """Tries all cases, several groups at once, and prints what is wrong with each."""
+    groups = [(at, cases[at:at + size]) for at in range(0, len(cases), size)]
     with concurrent.futures.ThreadPoolExecutor(JOBS) as pool:
-        for (at, group), faults in zip(groups, pool.map(lambda it: try_group(room, *it), groups)):
-            room.good += len(group) - len({it.number for it in faults})
-            for fault in faults:
-                room.fault(f"text {fault.number}: {fault.what}\n    in {fault.text[:SHOWN]!r}")
+        for (_, group), faults in zip(groups, pool.map(lambda it: try_group(room, *it), groups)):
+            room.good += len(group) - len({number for number, _ in faults})
+            for number, fault in faults:
+                room.fault(f"case {number}: {fault}")
 
 
 # ---- parts
@@ -224,15 +232,33 @@ def try_texts(room: Room, texts: List[bytes], size: int = GROUP_SIZE) -> None:
 def try_changed(room: Room, options: Any) -> None:
     """Sound, complete and total: the kept texts and changed ones."""
     texts = changed_texts(options.seed, options.texts)
-    try_texts(room, texts)
+    try_cases(room, [{TEXT_NAME: text} for text in texts], 100)
     said = [form.shown(text) for text in texts]
     names = sum(len(form.stated_names(text)) for text in said if text is not None)
     print(f"  {len(texts)} texts with {names} names in lines of the form; {said.count(None)} of them have escapes that the "
           f"model cannot read")
 
 
+def try_global(room: Room, options: Any) -> None:
+    """Global and sound: programs whose subcommands have texts, a few of them changed."""
+    chance = random.Random(options.seed)
+    folders = [os.path.join(TEXTS, name) for name in sorted(os.listdir(TEXTS))]
+    kept = [case for case in map(texts_below, folders) if len(case) > 1]
+    cases = [changed_case(chance.choice(kept), chance) for _ in range(options.trees)]
+    try_cases(room, kept + cases, 20)
+
+
+def texts_below(folder: str) -> Case:
+    """Returns the texts in a directory and below it."""
+    paths = sorted(glob.glob(os.path.join(folder, "**", TEXT_NAME), recursive=True))
+    return {os.path.relpath(path, folder): read_bytes(path) for path in paths}
+
+
+def changed_case(case: Case, chance: random.Random) -> Case:
+    """Returns texts, half of them with a change."""
+    return {path: chance.choice(CHANGES)(text, chance) if chance.randrange(2) else text for path, text in case.items()}
+
+
 def try_hostile(room: Room, options: Any) -> None:
     """Total: hostile texts."""
-    try_texts(room, hostile_texts(options.seed, options.hostile), 10)
-
-
+    try_cases(room, [{TEXT_NAME: text} for text in hostile_texts(options.seed, options.hostile)], 10)
