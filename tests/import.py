@@ -85,7 +85,8 @@ def run_apart(part: str, numbers: List[str]) -> Tuple[int, str]:
 
 def run_part(part: str, options: argparse.Namespace) -> int:
     """Runs a part. Returns the status."""
-    room, began = Room(part), time.monotonic()
+    numbers = "".join(f" --{name} {getattr(options, name)}" for name in NUMBERS if getattr(options, name) != NUMBERS[name])
+    room, began = Room(part, f"tests/import.py --only {part}{numbers}"), time.monotonic()
     try:
         PARTS[part](room, options)
     finally:

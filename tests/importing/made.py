@@ -273,10 +273,11 @@ def try_group(room: Room, seed: int, first: int) -> List[Tuple[int, str]]:
     names = "".join(f"  {it.names[0]}  Program\n" for it in programs)
     write_bytes(os.path.join(place, "help.txt"), b"Commands:\n" + names.encode())
     made = room.import_texts(place)
-    nodes = (made.tree or {}).get("subcommands", [{} for _ in programs])
-    faults = [(first, f"status {made.status}: {made.messages!r}")] if made.status else []
-    for number, (program, node) in enumerate(zip(programs, nodes), first):
-        fault = difference(program, rows(node, [program.names[0]]), os.path.join(place, program.names[0]))
+    faults = [(first, f"status {made.status}: {made.messages[-2000:]!r}")] if made.tree is None else []
+    nodes = {node["name"]: node for node in made.tree.get("subcommands", [])} if made.tree else {}
+    for number, program in enumerate(programs if nodes else [], first):
+        name = program.names[0]
+        fault = difference(program, rows(nodes.get(name, {}), [name]), os.path.join(place, name))
         faults += [(number, fault)] if fault else []
     shutil.rmtree(place)
     return faults

@@ -21,6 +21,7 @@ IMPORTER = [os.environ["COMPLGEN_IMPORT"]] if "COMPLGEN_IMPORT" in os.environ el
 LONGEST = 300
 # A number of seconds by which the sleeping processes of this run are found.
 SLEEP = f"98765.{os.getpid()}"
+MOST_FAULTS = 10
 JOBS = len(os.sched_getaffinity(0))
 
 Node = Dict[str, Any]
@@ -38,8 +39,10 @@ class Imported(NamedTuple):
 class Room:
     """A scratch directory with programs, and counts of what was as expected."""
 
-    def __init__(self, part: str) -> None:
+    def __init__(self, part: str, again: str = "") -> None:
         self.part, self.good, self.bad = part, 0, 0
+        # The command that repeats the part, for a message.
+        self.again = f"\n    again: {again}" if again else ""
         self.path = os.path.realpath(tempfile.mkdtemp(prefix="import."))
         self.bin, self.data, self.temporary, self.home = (
             self.folder(name) for name in ("bin", "data", "temporary", "home"))
@@ -135,17 +138,19 @@ class Room:
         return sorted(option_names(self.tree(name))) if os.path.exists(self.place(name)) else None
 
     def expect(self, what: object, expected: object, got: object) -> None:
-        """Counts a comparison, and prints it if it fails."""
+        """Counts a comparison. If it fails, prints it."""
         if got == expected:
             self.good += 1
-            return
-        self.bad += 1
-        print(f"  {self.part}, {what}:\n    expected {expected!r}\n    got      {got!r}", flush=True)
+        else:
+            self.fault(f"{what}:\n    expected {expected!r}\n    got      {got!r}")
 
     def fault(self, what: str) -> None:
-        """Counts and prints something that is wrong."""
+        """Counts something that is wrong, and prints the first of them."""
         self.bad += 1
-        print(f"  {self.part}, {what}", flush=True)
+        if self.bad <= MOST_FAULTS:
+            print(f"  {self.part}, {what}{self.again}", flush=True)
+        elif self.bad == MOST_FAULTS + 1:
+            print(f"  {self.part}: further exceptions are not printed", flush=True)
 
     def fails(self, message: str, *words: str, **variables: str) -> None:
         """Expects this message alone, and status 1."""
