@@ -25,6 +25,8 @@ The parts:
 - hostile: 200 texts of few signs again and again, or of random bytes, 1 to 64 KiB long;
 - made: 300 invented programs, whose options, values, positionals, subcommands and global options are known
   (importing/made.py);
+- floors: of the names of known programs (tests/import.d/FORMAT/truth.json), laid out as each format does it, at least
+  so many are found (importing/floors.py);
 - live: bash completes an imported program.
 
 --seed makes other texts, and --texts, --trees, --hostile and --programs another number of them. The script prints each
@@ -41,7 +43,7 @@ import sys
 import time
 from typing import List, Tuple
 
-from importing import live, made, programs, texts
+from importing import floors, live, made, programs, texts
 from importing.room import Room, proved_program
 
 import common
@@ -50,7 +52,7 @@ PARTS = {
     "formats": programs.try_formats, "program": programs.try_program, "environment": programs.try_environment,
     "limits": programs.try_limits, "walks": programs.try_walks, "files": programs.try_files, "own": programs.try_own,
     "changed": texts.try_changed, "global": texts.try_global, "hostile": texts.try_hostile, "made": made.try_made,
-    "live": live.try_live,
+    "floors": floors.try_floors, "live": live.try_live,
 }
 NUMBERS = {"seed": 1, "texts": 2000, "trees": 200, "hostile": 200, "programs": 300}
 # So many parts run at once.
