@@ -10,9 +10,10 @@ import sys
 from kit import licences
 from man import schema_page
 from man.roff import escaped
+from pack import ANY_PYTHON, packed
 from packing import copy, copy_folder, gzipped, put, put_tar_xz, run
 
-# The programs: the proved one, and the script in Python that runs other programs for it.
+# The programs: the proved one, and the one in Python that reads the help texts of others.
 PROGRAM, IMPORTER = "complgen", "complgen-import"
 PROGRAMS = (PROGRAM, IMPORTER)
 # The files below share/ in which shells look for the completions of a program.
@@ -23,8 +24,7 @@ COMPLETIONS = {
     "elvish": "elvish/lib/{}.elv",
 }
 DEBIAN_ZSH = "zsh/vendor-completions/_{}"
-# The first lines of a script in Python. Debian wants the path of its own interpreter.
-ANY_PYTHON, DEBIAN_PYTHON = "#!/usr/bin/env python3\n", "#!/usr/bin/python3\n"
+DEBIAN_PYTHON = "/usr/bin/python3"
 TOP_DOCUMENTS = ("README.md", "CHANGELOG.md", "NOTICE", "LICENSE-MIT", "LICENSE-APACHE")
 # How a title begins: `complgen man` writes the name as it is, and no date.
 TITLE = '.TH "{}" "1" "{}" '
@@ -42,11 +42,8 @@ def put_program(args, root, debian=False):
 
 
 def put_importer(args, to, debian):
-    """Writes complgen-import, which needs no compiler."""
-    text = (args.source / IMPORTER).read_text()
-    if not text.startswith(ANY_PYTHON):
-        raise SystemExit(f"release: {IMPORTER} does not begin with {ANY_PYTHON.strip()}")
-    put(to, text.replace(ANY_PYTHON, DEBIAN_PYTHON, 1) if debian else text, 0o755)
+    """Writes complgen-import, which needs no compiler. Debian wants the path of its own interpreter."""
+    put(to, packed(args.source, DEBIAN_PYTHON if debian else ANY_PYTHON), 0o755)
 
 
 def put_completions(args, share, debian):

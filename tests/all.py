@@ -45,8 +45,7 @@ def main():
 def listed():
     """Returns all tests, the quick ones first."""
     runs = [
-        ["tools/surface.py"], ["tools/calls.py", "--check"], ["tools/clauses.py", "--check"], ["tools/schema.py"],
-        ["tools/keys.py", "--check"], ["tools/documents.py"], ["release/declarations.py"], ["tests/man_pages.py"],
+        ["tools/calls.py", "--check"], ["tools/keys.py", "--check"], ["tools/documents.py"], ["release/declarations.py"], ["tests/man_pages.py"],
         ["tests/first-minutes", "--without-rt"],
         ["tests/shell_syntax.py"], ["tests/bash_texts.py"], ["tests/check.py"], ["tests/folders"], ["tests/offered.py"],
         ["tests/live"], ["tests/hostile.py"], ["tests/running.py"], ["tests/refusals.py", *whole_runs()],

@@ -10,7 +10,7 @@ names the root of an older system, as debootstrap makes one; `system` then runs.
 - archive: install.sh into a directory, also over an older version, and uninstall.sh. Nothing may be left;
 - debian: dpkg installs and removes the package below a root of its own. lintian checks it;
 - program: `script`, `check`, `man` and `--version` of the installed program;
-- importer: `complgen-import` makes a tree file of a program's help text;
+- importer: `complgen-import`, one file, makes a tree file of a program's help text or of a text, and removes it;
 - system: the older system installs, runs and removes the Debian package, in an empty environment;
 - manuals: `man --warnings` and `mandoc -Tlint -Wwarning` find nothing in the man pages;
 - live: live completion in bash, zsh, fish and Elvish, by the lines of docs/LIVE.md and docs/INSTALL.md;
@@ -25,6 +25,7 @@ Prints a line for each part. A part whose tools are not installed is skipped. Th
 
 import argparse
 import collections
+import filecmp
 import os
 import pty
 import re
@@ -283,7 +284,15 @@ def importer(files):
     run(["complgen", "check", tree], env=environment)
     words = run(["complgen", "candidates", "--index", "1", tree, "--", "app", "--d"], env=environment)
     check(words.startswith("--dir"), f"the tree file offers {words}")
-    return "a tree file of a help text"
+    with open(tree, encoding="utf-8") as file:
+        said = run(["complgen-import", "--texts", "-", "app"], env=environment, input=run([f"{room}/app"]).encode())
+        check(said == file.read(), f"--texts prints {said}")
+    run(["complgen-import", "--undo", "app"], env=environment)
+    check(names_below(os.path.join(home, ".local/share/complgen")) == [], "--undo leaves something")
+    installed, again = os.path.join(prefix, "bin/complgen-import"), os.path.join(room, "again")
+    run([sys.executable, "-B", os.path.join(RELEASE, "pack.py"), again])
+    check(filecmp.cmp(installed, again, shallow=False), "packing again gives other bytes")
+    return f"{os.path.getsize(installed):,} bytes; a tree file of a help text, and none after --undo"
 
 
 def system(files):

@@ -1,61 +1,54 @@
 #!/usr/bin/env python3
-"""Makes docs/CALLS.md, the page of all public calls, from the sources.
+"""Lists the public calls, and checks that none is missing.
 
-    tools/calls.py           prints the page
-    tools/calls.py --write   writes it to docs/CALLS.md
-    tools/calls.py --check   compares docs/CALLS.md with it
+    tools/calls.py           writes out/CALLS.md, the page of all public calls
+    tools/calls.py --check   checks that each call of tools/calls.txt is there
 
 The page has a section for each module of crates/clap_complete, and for the crates next to it. A section has
 the public functions, types and traits, with their signatures and the first sentences of their doc comments.
-Contracts, bodies and ghost lines are left out. The script searches the sources, in the layout of `rt fmt`,
-and builds nothing.
+Contracts, bodies and ghost lines are left out.
 
-With --check the status is 0 if the page is up to date.
+The list in tools/calls.txt names the calls that users rely on. A call is a function, a type, or a type with
+its methods. The module of crates/clap_complete has to re-export the name, or the named crate has to declare
+it public. Each method has to be public in an `impl` or a trait of that type.
+
+The script searches the sources, and builds nothing. With --check it prints what is missing, and the number of
+calls. The status is 0 if nothing is missing.
 """
 
-import glob
 import os
 import re
 import sys
 import textwrap
 
 import common
+from source import CLAUSE, aliases, exported, find, implementations, items, private_traits, public_names, sources
 
-PAGE = os.path.join(common.TOP, "docs", "CALLS.md")
+LIST = os.path.join(common.TOP, "tools", "calls.txt")
 MODULES = ["", "aot", "aot::utils", "command", "describe", "engine", "env", "parser", "program", "quote"]
 CRATES = ["complgen_tree_file", "complgen_command_line", "complgen_commands", "complgen_check", "complgen_c"]
-CLAUSE = re.compile(r"\s*(ensures|requires|decreases|measure|ghost|\{)")
-ITEM = re.compile(r"(pub )?(?:const |extern \"C\" )?(fn|struct|enum|trait|type|const|static) (\w+)")
 LAW = {"Model", "Drop"}
 SHOWN = {"ThisError": "Error"}
 
 HEAD = """# Calls
 
 All public calls with their signatures, by module, as a program finds them in `clap_complete`. The last sections are
-those of the crates beside it. `tools/calls.py --write` makes this page from the sources, and `tools/calls.py --check`
-tells whether it is up to date. Each call has the first sentence of its doc comment. Its contract is in the source: the
+those of the crates beside it. Each call has the first sentence of its doc comment. Its contract is in the source: the
 head of a group names the directory. `requires` means that the call has a precondition.
-
-The two functions of `complgen_c` are for programs in other languages. `rust/lagvtsune/src/native.rs` declares them. There
-a slice is its start and its length, and `alloc` is left out. Each such program has to define the three functions that give
-the archive its memory: `rattle_alloc`, `rattle_realloc` and `rattle_dealloc`. `lagvtsune_live` reads no file, so it offers
-values from commands, but none for `values_file` and for the hints `Username`, `Hostname` and `CommandName`.
 
 If several modules re-export an item, it is listed in one of them, and the others name that one.
 """
 
 
-class Item:
-    """A function, a type or a trait: its kind, name, signature, comment, derives and members."""
-
-    def __init__(self, kind, name, lines, comment, attributes):
-        self.kind, self.name, self.lines = kind, name, lines
-        self.comment, self.attributes = comment, attributes
-
-
 def main():
-    return common.generated_page(PAGE, make_page())
+    if sys.argv[1:] == ["--check"]:
+        return check()
+    if sys.argv[1:]:
+        sys.exit(__doc__)
+    return common.write_page("CALLS.md", make_page())
 
+
+# ---- the page
 
 def make_page():
     places = homes()
@@ -191,130 +184,63 @@ def wrapped(begin, text):
     return textwrap.wrap(text, 96, initial_indent=begin, subsequent_indent=begin, break_on_hyphens=False)
 
 
-def exported(module):
-    """Returns the names that a module re-exports or declares, each with its crate."""
-    crate, file = ("cc_generator", "utils") if module == "aot::utils" else ("clap_complete", module or "lib")
-    with open(os.path.join(common.TOP, "crates", crate, "src", f"{file}.rt"), encoding="utf-8") as source:
-        text = source.read()
-    found = []
-    for of, names in re.findall(r"pub use (\w+)::(?:\w+::)*(\w+|\{[^}]*\});", text):
-        found += [(name, of) for name in re.findall(r"\w+", names)]
-    found += [(name, crate) for name in re.findall(r"^pub fn (\w+)", text, re.MULTILINE)]
-    return [(name, of) for name, of in found if name != "utils"]
+# ---- the check
+
+def check():
+    """Prints the calls of the list that are missing. Returns the exit status."""
+    count, missing = 0, []
+    for module, name, methods in listed():
+        crate = crate_of(module, name)
+        count += max(1, len(methods))
+        if crate is None:
+            missing.append(f"{module}: {name} is not public")
+            continue
+        there = methods_of(crate, name) if methods else set()
+        missing += [f"{module}: {name}::{it}" for it in methods if it not in there]
+    print("\n".join([*missing, f"{count} calls and types, {len(missing)} missing"]))
+    return 1 if missing else 0
 
 
-def public_names(crate):
-    with open(os.path.join(common.TOP, "crates", crate, "src", "lib.rt"), encoding="utf-8") as source:
-        text = source.read()
-    found = re.findall(r"^pub use (?:crate::)?(?:\w+::)*(\w+|\{[^}]*\});", text, re.MULTILINE)
-    names = [name for part in found for name in re.findall(r"\w+", part)]
-    return names + re.findall(r"^pub (?:fn|struct|enum|trait) (\w+)", text, re.MULTILINE)
+def listed():
+    """Yields the calls of the list: the module, the name and the methods.
+
+    A line in brackets names the module of those below it. A line is a name, or a name, a colon and methods.
+    A line that is indented goes on with the methods.
+    """
+    module, name, methods = "", "", []
+    with open(LIST, encoding="utf-8") as file:
+        for line in [*file, "["]:
+            if line.startswith(" "):
+                methods += line.split()
+                continue
+            if name:
+                yield module, name, methods
+            name, _, text = line.strip().partition(":")
+            methods = text.split()
+            if line.startswith("["):
+                module, name = line.strip("[]\n"), ""
 
 
-def find(crate, name):
-    """Returns the public item of this name in a crate."""
+def crate_of(module, name):
+    """Returns the crate that has the item which the module exports under this name, or `None`."""
+    if module.startswith("crate "):
+        crate = module.split()[1]
+        return crate if name in public_names(crate) else None
+    return dict(exported(module)).get(name)
+
+
+def methods_of(crate, name):
+    """Returns the public methods of a type, and those of its traits."""
+    found = set()
+    for trait, _, body in implementations(crate, name):
+        found |= set(re.findall(rf"^    {'' if trait else 'pub '}(?:const )?fn (\w+)", "\n".join(body), re.MULTILINE))
+        # The trait has a default for it.
+        found |= {"try_generate"} if trait == "Generator" else set()
     for lines in sources(crate):
         for item in items(lines, ""):
-            if item.name == name and item.kind != "type" and item.lines[0].startswith("pub "):
-                return item
-    raise SystemExit(f"tools/calls.py: no public {name} in crates/{crate}")
-
-
-def items(lines, indent):
-    """Yields the items that begin at this indent."""
-    comment, attributes = [], []
-    for at, line in enumerate(lines):
-        text = line[len(indent):] if line.startswith(indent) else ""
-        if text.startswith("///"):
-            comment.append(text[3:].strip())
-            continue
-        if text.startswith("#["):
-            derived = re.match(r"#\[derive\((.*)\)\]", text)
-            attributes += derived.group(1).split(", ") if derived else []
-            continue
-        found = ITEM.match(text)
-        if found:
-            end = at
-            while end + 1 < len(lines) and not closes(lines[end], indent, end == at, found.group(2)):
-                end += 1
-            yield Item(found.group(2), found.group(3), lines[at:end + 1], first_sentence(comment), attributes)
-        if text.strip() and not text.startswith(" "):
-            comment, attributes = [], []
-
-
-def closes(line, indent, is_first, kind):
-    """Tells whether an item ends with this line, or the clauses of a function."""
-    if line.startswith(indent + "}") or is_first and line.endswith((";", "}")):
-        return True
-    return kind in ("fn", "const", "type") and line.endswith(";") and not line.endswith(" });")
-
-
-def first_sentence(comment):
-    text = ""
-    for line in comment:
-        if not line:
-            break
-        text += (" " if text else "") + line
-    return re.split(r"(?<=[.])\s(?=[A-Z`])", text)[0]
-
-
-def implementations(crate, name):
-    """Yields the impls of a type: the trait or an empty text, the head, and the lines of the body."""
-    for lines in sources(crate):
-        for at, line in enumerate(lines):
-            if not line.startswith("impl"):
-                continue
-            end = at
-            while not lines[end].endswith("{") and not lines[end].endswith("{}") and end + 1 < len(lines):
-                end += 1
-            head = " ".join(it.strip() for it in lines[at:end + 1]).rstrip("{} ")
-            close = end
-            while not lines[close].startswith("}") and not lines[close].endswith("{}"):
-                close += 1
-            plain = without_parameters(head)
-            trait, _, of = plain.rpartition(" for ")
-            if re.match(rf"{name}\b", of or plain):
-                yield trait, head, lines[end + 1:close]
-
-
-def without_parameters(head):
-    """Returns the head of an impl without `impl` and its type parameters."""
-    text, depth, at = head[len("impl"):].replace("->", "  "), 0, 0
-    while text[0] == "<" and (at == 0 or depth):
-        depth += {"<": 1, ">": -1}.get(text[at], 0)
-        at += 1
-    return head[len("impl") + at:].strip()
-
-
-def aliases(crate):
-    """Returns the private names of types, which signatures show in full."""
-    found = {}
-    for lines in sources(crate):
-        for at, line in enumerate(lines):
-            named = re.match(r"(?:pub(?:\(crate\))? )?type (\w+) =(.*)", line)
-            if named:
-                text = named.group(2)
-                while not text.endswith(";"):
-                    at += 1
-                    text += " " + lines[at].strip()
-                text = re.sub(r",? >", ">", text.strip().rstrip(";"))
-                found[named.group(1)] = text.replace("< ", "<")
+            if item.kind == "trait" and item.name == name:
+                found |= set(re.findall(r"^    fn (\w+)", "\n".join(item.lines), re.MULTILINE))
     return found
-
-
-def private_traits(crate):
-    found = set()
-    for lines in sources(crate):
-        for line in lines:
-            found.update(re.findall(r"^(?:pub\(crate\) )?trait (\w+)", line))
-    return found
-
-
-def sources(crate):
-    pattern = os.path.join(common.TOP, "crates", crate, "src", "**", "*.rt")
-    for path in sorted(glob.glob(pattern, recursive=True)):
-        with open(path, encoding="utf-8") as file:
-            yield file.read().split("\n")
 
 
 if __name__ == "__main__":

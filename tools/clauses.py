@@ -1,15 +1,11 @@
 #!/usr/bin/env python3
-"""Makes docs/CLAUSES.md, the page of the clauses of public functions, from the sources.
+"""Lists the clauses of public functions.
 
-    tools/clauses.py           prints the page
-    tools/clauses.py --write   writes it to docs/CLAUSES.md
-    tools/clauses.py --check   compares docs/CLAUSES.md with it
+    tools/clauses.py         writes out/CLAUSES.md
 
 The page has a table for each library crate: each public function with the clauses that it ensures, and the
 definitions of this project that each clause cites. The script searches the sources, in the layout of `rt fmt`,
 and builds nothing.
-
-With --check the status is 0 if the page is up to date.
 """
 
 import glob
@@ -17,24 +13,20 @@ import os
 import re
 import sys
 
-import calls
 import common
+import source
 
-PAGE = os.path.join(common.TOP, "docs", "CLAUSES.md")
 # Tests, their trees and callers that show how contracts are used.
 NO_LIBRARY = {
     "cc_caller", "cc_core_tests", "cc_fixtures", "cc_library_tests", "cc_live_tests", "complgen_cases",
     "complgen_tests",
 }
-FUNCTION = re.compile(r'(pub )?(?:const )?(?:extern "C" )?fn (\w+)')
-KEYWORD = re.compile(r"\s*(?://[^\n]*\n\s*)*(ensures|requires|decreases|measure)\b\s*(\w+)?\s*")
 DEFINED = re.compile(r"^(?:(?:pub|abbrev|unfoldable|data|record) +)+(\w+)\b", re.MULTILINE)
 
 HEAD = """# Clauses
 
-This page lists what each public function of the library crates ensures. `tools/clauses.py --write` makes it from the
-sources, and `tools/clauses.py --check` tells whether it is up to date. [PROOFS.md](PROOFS.md) explains what a clause is,
-and [DEFINITIONS.md](DEFINITIONS.md) what the main definitions mean.
+This page lists what each public function of the library crates ensures. docs/PROOFS.md explains what a clause is, and
+docs/DEFINITIONS.md what the main definitions mean.
 
 - A clause has the name after `ensures`. "the clause" is one without a name.
 - The last column has the definitions in `crates/*/specs` whose names are in the text of the clause. If it is empty, the
@@ -42,12 +34,13 @@ and [DEFINITIONS.md](DEFINITIONS.md) what the main definitions mean.
   `grep -rnw NAME crates/*/specs` finds a definition, often with a comment.
 - A method is listed under its type, or under its trait if the trait states the clauses. `Sink::put of Held` is a
   method of a trait with clauses of its own for this type.
-- A precondition, `requires`, is in [CALLS.md](CALLS.md). A function that is not listed has no clause of its own.
+- A precondition, `requires`, is in CALLS.md, which `tools/calls.py` writes. A function that is not listed has no
+  clause of its own.
 """
 
 
 def main():
-    return common.generated_page(PAGE, make_page())
+    return common.write_page("CLAUSES.md", make_page())
 
 
 def make_page():
@@ -98,32 +91,32 @@ def definitions():
 def public_functions(crate):
     """Yields the public functions of a crate that have clauses: the name, and the clauses as in `functions`."""
     names = public_names(crate)
-    for lines in calls.sources(crate):
-        for name, is_public, clauses in functions(lines, ""):
+    for lines in source.sources(crate):
+        for name, is_public, clauses in source.functions(lines, ""):
             if is_public and name in names and clauses:
                 yield name, clauses
     for name in names:
-        for lines in calls.sources(crate):
+        for lines in source.sources(crate):
             yield from of_trait(lines, name)
-        for trait, _, body in calls.implementations(crate, name):
+        for trait, _, body in source.implementations(crate, name):
             trait = re.sub(r"<.*", "", trait.split("::")[-1])
-            for method, is_public, clauses in functions(body, "    "):
+            for method, is_public, clauses in source.functions(body, "    "):
                 if clauses and (trait or is_public):
                     yield f"{trait}::{method} of {name}" if trait else f"{name}::{method}", clauses
 
 
 def of_trait(lines, name):
     """Yields the methods of a trait with their clauses, if these lines have it."""
-    for item in calls.items(lines, ""):
+    for item in source.items(lines, ""):
         if item.kind == "trait" and item.name == name and item.lines[0].startswith("pub "):
-            for method, _, clauses in functions(item.lines, "    "):
+            for method, _, clauses in source.functions(item.lines, "    "):
                 if clauses:
                     yield f"{name}::{method}", clauses
 
 
 def public_names(crate):
     """Returns what a crate exports, also in its public modules."""
-    names = calls.public_names(crate)
+    names = source.public_names(crate)
     folder = os.path.join(common.TOP, "crates", crate, "src")
     with open(os.path.join(folder, "lib.rt"), encoding="utf-8") as file:
         modules = re.findall(r"^pub mod (\w+);", file.read(), re.MULTILINE)
@@ -133,50 +126,6 @@ def public_names(crate):
             with open(path, encoding="utf-8") as file:
                 names += re.findall(r"^pub (?:fn|struct|enum|trait) (\w+)", file.read(), re.MULTILINE)
     return list(dict.fromkeys(names))
-
-
-def functions(lines, indent):
-    """Yields the functions that begin at this indent: the name, whether it is public, and the clauses.
-
-    A clause is its name, its text and the parameters of the function.
-    """
-    for at, line in enumerate(lines):
-        found = FUNCTION.match(line[len(indent):]) if line.startswith(indent) else None
-        if not found:
-            continue
-        end = at
-        while not calls.CLAUSE.match(lines[end]) and not lines[end].endswith((" {", ";", "}")) and end + 1 < len(lines):
-            end += 1
-        if calls.CLAUSE.match(lines[end]):
-            parameters = set(re.findall(r"\b(\w+):(?!:)", "\n".join(lines[at:end])))
-            clauses = ensured("\n".join(lines[end:]))
-            yield found[2], bool(found[1]), [(name, text, parameters) for name, text in clauses]
-        else:
-            yield found[2], bool(found[1]), []
-
-
-def ensured(text):
-    """Returns the name and the text of each clause `ensures` at the beginning of a text."""
-    found, at = [], 0
-    while keyword := KEYWORD.match(text, at):
-        begin = keyword.end()
-        if text[begin:begin + 1] != "{":
-            at = text.find("\n", begin) + 1
-            continue
-        at = closing(text, begin) + 1
-        if keyword[1] == "ensures":
-            found.append((keyword[2], text[begin + 1:at - 1]))
-    return found
-
-
-def closing(text, begin):
-    """Returns the place of the brace that closes the one at `begin`."""
-    depth = 0
-    for at in range(begin, len(text)):
-        depth += {"{": 1, "}": -1}.get(text[at], 0)
-        if depth == 0:
-            return at
-    raise SystemExit(f"tools/clauses.py: a clause without its end: {text[begin:begin + 80]}")
 
 
 if __name__ == "__main__":

@@ -6,7 +6,6 @@ The scripts run the proved programs. The variables COMPLGEN and LARDER name othe
 """
 
 import collections
-import difflib
 import glob
 import os
 import re
@@ -60,24 +59,14 @@ def crate_lines():
     return {line.split(":")[0].split()[0]: line for line in lines if line}
 
 
-def generated_page(path, text):
-    """Prints the text of a generated page. With --write it writes the page, with --check it compares them.
-
-    Returns the exit status: with --check 1 if the page is out of date.
-    """
-    if "--write" in sys.argv:
-        with open(path, "w", encoding="utf-8") as file:
-            file.write(text)
-        return 0
-    if "--check" not in sys.argv:
-        sys.stdout.write(text)
-        return 0
-    name = os.path.relpath(path, TOP)
-    with open(path, encoding="utf-8") as file:
-        there = file.read()
-    changes = list(difflib.unified_diff(there.split("\n"), text.split("\n"), name, "sources", lineterm="", n=0))
-    print("\n".join(changes) if changes else f"{name} is up to date")
-    return 1 if changes else 0
+def write_page(name, text):
+    """Writes a page into the directory `out` at the top, and prints its path. Returns the exit status."""
+    path = os.path.join(TOP, "out", name)
+    os.makedirs(os.path.dirname(path), exist_ok=True)
+    with open(path, "w", encoding="utf-8") as file:
+        file.write(text)
+    print(os.path.relpath(path))
+    return 0
 
 
 def callgrind(call, *functions, **how):

@@ -6,7 +6,7 @@
 The documents are the pages at the top, those of docs/, and the README.md of bench/, release/, tests/ and tools/.
 
 - Each code block in Rattle or Rust is in a file of crates/ or examples/, line by line, at any indentation.
-  What it imports is imported there. The blocks of docs/CALLS.md, which tools/calls.py makes, are left out.
+  What it imports is imported there.
 - Each file, function and definition in the walks of docs/ARCHITECTURE.md exists.
 - Each link leads to a file. Each named source file exists, such as `quote/src/escape.rt` or `escape.rt`,
   and so does each named script of bench/, release/, tests/ and tools/.
@@ -24,8 +24,7 @@ import common
 
 TOP = common.TOP
 WALKS = os.path.join("docs", "ARCHITECTURE.md")
-CALLS = os.path.join("docs", "CALLS.md")
-GENERATED = {CALLS, os.path.join("docs", "CLAUSES.md"), os.path.join("docs", "TEXTS.md")}
+WITHOUT_SENTENCES = {os.path.join("docs", "TEXTS.md")}
 LONG_SENTENCE = 30
 
 
@@ -35,10 +34,9 @@ def main():
         lines = lines_of(page)
         found += [f"{page}:{at}: no such file: {link}" for at, link in broken_links(page, lines)]
         found += [f"{page}:{at}: no such file: {name}" for at, name in unknown_files(lines)]
-        if page not in GENERATED:
+        if page not in WITHOUT_SENTENCES:
             long[page] = [it for it in sentences(lines) if len(it.split()) > LONG_SENTENCE]
-        if page != CALLS:
-            found += [f"{page}:{at}: this code is in no source: {line}" for at, line in unknown_blocks(lines)]
+        found += [f"{page}:{at}: this code is in no source: {line}" for at, line in unknown_blocks(lines)]
         if page == WALKS:
             found += [f"{page}:{at}: there is no {name}" for at, name in unknown_names(lines)]
     print_long(long)

@@ -15,6 +15,8 @@ From the schema come:
 
 - a table or a definition is not the one that `--write` writes;
 - a key of the schema has no description;
+- complgen_tree_file reads other keys, actions or value hints than the schema has;
+- the tree in examples/complgen.json is not the one that complgen_live has built in;
 - rust/lagvtsune/src/tree_file.rs does not write a key of the schema that clap has, or writes another one.
 
 `--write` prints the markers that it does not find, and then exits with status 1.
@@ -29,6 +31,7 @@ import sys
 TOP = pathlib.Path(__file__).resolve().parent.parent
 SCHEMA = TOP / "docs/tree.schema.json"
 WRITER = TOP / "rust/lagvtsune/src/tree_file.rs"
+SOURCES = TOP / "crates/complgen_tree_file/src"
 
 PAGE = "docs/TREE_FILE.md"
 DEFINITIONS = {
@@ -73,6 +76,8 @@ def main():
             faults += difflib.unified_diff(old.split("\n"), new.split("\n"), name, "schema", lineterm="", n=0)
     if sys.argv[1] == "--check":
         faults += undescribed(schema)
+        faults += unread(schema)
+        faults += other_own_tree()
         faults += unwritten(schema, WRITER.read_text(encoding="utf-8"))
     for fault in faults:
         print(fault)
@@ -131,6 +136,46 @@ def undescribed(schema):
     return [f"docs/tree.schema.json: the key {key} of {kind} has no description"
             for kind in FUNCTIONS
             for key, shape in schema[kind]["properties"].items() if not shape.get("description")]
+
+
+def keys_read(file):
+    """Returns the keys in the table of an object, each on a line of its own."""
+    return re.findall(r'^            \d+ "(\w+)" \w+ \w+,$', (SOURCES / file).read_text(encoding="utf-8"), re.M)
+
+
+def spelled(kind):
+    """Returns the names of the variants of a type that a tree file spells."""
+    form = rf'^            "(\w+)" => Ok\({kind}::\1\),$'
+    return re.findall(form, (SOURCES / "values.rt").read_text(encoding="utf-8"), re.M)
+
+
+def value_keys():
+    """Returns the keys of a possible value, which are in one list."""
+    text = (SOURCES / "possible_values.rt").read_text(encoding="utf-8")
+    return re.findall(r'"(\w+)"', re.search(r"KEYS: &\[&str\] = &\[(.*?)\]", text, re.S).group(1))
+
+
+def unread(schema):
+    """Yields the keys, actions and value hints that only the code has, or only the schema."""
+    argument = schema["argument"]["properties"]
+    pairs = {
+        "key of a command": (keys_read("commands.rt"), schema["command"]["properties"]),
+        "key of an argument": (keys_read("args.rt"), argument),
+        "key of a possible value": (value_keys(), schema["possible_value"]["properties"]),
+        "action": (spelled("ArgAction"), argument["action"]["enum"]),
+        "value hint": (spelled("ValueHint"), argument["value_hint"]["enum"]),
+    }
+    for what, (code, shown) in pairs.items():
+        yield from (f"{what} in the code alone: {name}" for name in sorted(set(code) - set(shown)))
+        yield from (f"{what} in the schema alone: {name}" for name in sorted(set(shown) - set(code)))
+
+
+def other_own_tree():
+    """Yields a fault if the built-in tree is not examples/complgen.json."""
+    source = (TOP / "crates/complgen_live/src/own_tree.rt").read_text(encoding="utf-8")
+    own = re.search(r'r#"(.*?)"#', source, re.S)[1]
+    if own.rstrip() != (TOP / "examples/complgen.json").read_text(encoding="utf-8").rstrip():
+        yield "the built-in tree is not examples/complgen.json"
 
 
 def unwritten(schema, source):

@@ -2,8 +2,6 @@
 //! describes.
 #![tactic(auto)]
 
-mod help_texts;
-mod import;
 mod live;
 mod output;
 mod plans;

@@ -1,7 +1,6 @@
 //! Carries out the plans of the command line over the files of the machine.
 
 use crate::contents;
-use crate::import::import;
 use crate::output::{buffered, flush};
 use cc_base::Sink;
 use cc_paths::{Folder, RealFolder};
@@ -23,13 +22,10 @@ use std::rt::Files;
 /// # Errors
 ///
 /// A refusal with status 1 and the text of the error.
-pub(crate) fn carry_out_plan<R: Env + Files + Print + Eprint + AllocGlobal>(
+pub(crate) fn carry_out_plan<R: Env + Files + Print + AllocGlobal>(
     rt: &R,
     plan: &Plan,
 ) -> Result<u8, Refusal> {
-    if let Plan::Import { .. } = plan {
-        return import(rt, plan);
-    }
     let file = contents(rt, plan.tree())?;
     let folder = RealFolder::new(rt, home(rt)?);
     print(rt, plan, file.as_ref().map(Vec::as_slice), &folder)
@@ -104,7 +100,7 @@ fn write_plan<R: Files + AllocGlobal, D: Folder, W: Sink>(
             write_man_page(alloc, bin.as_str(), file, out)?;
             Ok(0)
         }
-        Plan::Script(..) | Plan::Register(..) | Plan::Candidates(..) | Plan::Import { .. } => {
+        Plan::Script(..) | Plan::Register(..) | Plan::Candidates(..) => {
             run(alloc, plan, file, folder, out)?;
             Ok(0)
         }

@@ -132,7 +132,7 @@ fn carry_out(
             let is_clean = check(alloc, bin, report, file, out)?;
             Ok(u8::from(!is_clean))
         }
-        Plan::Scripts { .. } | Plan::Import { .. } | Plan::Man { .. } => Ok(3),
+        Plan::Scripts { .. } | Plan::Man { .. } => Ok(3),
         Plan::CandidatesWith {
             values,
             index,

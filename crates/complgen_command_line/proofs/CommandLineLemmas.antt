@@ -22,7 +22,7 @@ use Rattle.clap.specs.declared.error.kind.ErrorKind.TheVariants as kind
 use Rattle.clap.proofs.OnLiterals.{clap_on_literals}
 use Rattle.complgen_command_line.specs.CommandLine.{program_line}
 use Rattle.complgen_command_line.specs.Plans.{Enters, EntersOne, GivesDirectory, GivesNames}
-use Rattle.complgen_command_line.specs.Plans.{GivesPage, GivesTexts, GivesTree, GivesWords}
+use Rattle.complgen_command_line.specs.Plans.{GivesPage, GivesTree, GivesWords}
 use Rattle.complgen_command_line.specs.Refusals.{Reports, ReportsKind}
 use Rattle.complgen_commands.specs.Refusals.{IsOutOfMemory}
 use Rattle.complgen_commands.specs.declared.refusals.Refusal.{Refusal}
@@ -246,10 +246,8 @@ enters_its entered among = regroup (
     (two_given _ _ (checks_pass (shape_at 4) words e))))
     (either (enters entered (shape_at 5) GivesTree (λ words e. has_value (shape_at 5) words e (codes "tree")
     refl (one_given _ (checks_pass (shape_at 5) words e))))
-    (either (enters entered (shape_at 6) GivesTexts (λ words e. gives_two (codes "name") (codes "path")
-    (shape_at 6) words e refl refl (two_given _ _ (checks_pass (shape_at 6) words e))))
-    (last (enters entered (shape_at 7) GivesPage (λ words e. gives_two (codes "bin") (codes "tree")
-    (shape_at 7) words e refl refl (two_given _ _ (checks_pass (shape_at 7) words e))))))))))) among)
+    (last (enters entered (shape_at 6) GivesPage (λ words e. gives_two (codes "bin") (codes "tree")
+    (shape_at 6) words e refl refl (two_given _ _ (checks_pass (shape_at 6) words e)))))))))) among)
 
 -- words at which no step fails enter a command, with its required arguments
 pub enters_one : (words : List Text) → fault_of program_line words ≡ []

@@ -114,49 +114,7 @@ no_tree : takes program_line (codes "complgen" ∷ codes "check" ∷ []) ≡ fal
 unfolding clap_on_literals
 no_tree = refl
 
--- ---- `import` and `man`
-
--- the words of `import` with the path alone, and with all options
-abbrev plain_import : List Text
-plain_import = codes "complgen" ∷ codes "import" ∷ codes "--name" ∷ codes "app" ∷ codes "h" ∷ []
-
-abbrev full_import : List Text
-full_import = codes "complgen" ∷ codes "import" ∷ codes "--name" ∷ codes "app" ∷ codes "--list"
-    ∷ codes "--strict" ∷ codes "--onto" ∷ codes "t.json" ∷ codes "h" ∷ []
-
-takes_import : takes program_line plain_import ≡ true
-unfolding clap_on_literals
-takes_import = refl
-
-takes_full_import : takes program_line full_import ≡ true
-unfolding clap_on_literals
-takes_full_import = refl
-
--- `--list` and `--onto` count only if they are given
-not_list : option_map (λ entered. is_set (codes "list") entered.1)
-    (subcommand_of program_line plain_import) ≡ Some false
-unfolding clap_on_literals
-not_list = refl
-
-list : option_map (λ entered. is_set (codes "list") entered.1)
-    (subcommand_of program_line full_import) ≡ Some true
-unfolding clap_on_literals
-list = refl
-
-onto : option_map (λ entered. first_of (codes "onto") entered.1)
-    (subcommand_of program_line full_import) ≡ Some (Some (codes "t.json"))
-unfolding clap_on_literals
-onto = refl
-
--- `--name` and the path are required
-no_name : takes program_line (codes "complgen" ∷ codes "import" ∷ codes "h" ∷ []) ≡ false
-unfolding clap_on_literals
-no_name = refl
-
-no_path : takes program_line (codes "complgen" ∷ codes "import" ∷ codes "--name" ∷ codes "app" ∷ [])
-    ≡ false
-unfolding clap_on_literals
-no_path = refl
+-- ---- `man`
 
 takes_man : takes program_line (codes "complgen" ∷ codes "man" ∷ codes "--bin" ∷ codes "app"
     ∷ codes "t.json" ∷ []) ≡ true

@@ -21,10 +21,6 @@ optional_rule name = record (new_rule name) { long = Some name; value_names = 1 
 abbrev pub flag_rule : Text → Rule
 flag_rule name = record (new_rule name) { long = Some name; action = Some SetTrue }
 
--- `PATH`, which is required
-abbrev pub path_rule : Rule
-path_rule = record (new_rule (codes "path")) { value_names = 1; required = true }
-
 -- `WORDS`, any number of them
 abbrev pub words_rule : Rule
 words_rule = record (new_rule (codes "words")) {
@@ -57,12 +53,6 @@ abbrev pub check_line : App
 check_line = with_rule (with_rule (with_rule (new_app (codes "check"))
     (optional_rule (codes "bin"))) (flag_rule (codes "json"))) tree_rule
 
--- `import --name NAME [--list] [--strict] [--onto FILE] PATH`
-abbrev pub import_line : App
-import_line = with_rule (with_rule (with_rule (with_rule (with_rule (new_app (codes "import"))
-    (option_rule (codes "name"))) (flag_rule (codes "list"))) (flag_rule (codes "strict")))
-    (optional_rule (codes "onto"))) path_rule
-
 -- `man --bin NAME TREE`
 abbrev pub man_line : App
 man_line = with_rule (with_rule (new_app (codes "man")) (option_rule (codes "bin"))) tree_rule
@@ -90,4 +80,4 @@ checking_line = with_subcommand asking_line check_line.top
 
 -- the whole command line
 abbrev pub program_line : App
-program_line = with_subcommand (with_subcommand checking_line import_line.top) man_line.top
+program_line = with_subcommand checking_line man_line.top

@@ -6,7 +6,7 @@ use Rattle.std.specs.Str.Parse.{IsNumeral, digits_value, without_leading_plus}
 use Rattle.clap.specs.Words.{Row, Text, all_of, first_of}
 use Rattle.complgen_commands.specs.declared.plans.Plan.{Plan}
 use Rattle.complgen_commands.specs.declared.plans.Plan.TheVariants.{Candidates, CandidatesWith}
-use Rattle.complgen_commands.specs.declared.plans.Plan.TheVariants.{Check, Import, Man, Register, Script}
+use Rattle.complgen_commands.specs.declared.plans.Plan.TheVariants.{Check, Man, Register, Script}
 use Rattle.complgen_commands.specs.declared.plans.Plan.TheVariants.{Scripts, Wanted}
 
 -- the subcommand with this name was entered, and its rows have this property
@@ -44,15 +44,6 @@ pub record HasReport (bin : Option Text) (json : Bool) (tree : Text) (rows : Lis
   pub has_bin : first_of (codes "bin") rows ≡ bin
   pub has_json : json ≡ is_set (codes "json") rows
   pub has_tree : first_of (codes "tree") rows ≡ Some tree
-
--- of `--name`, `--list`, `--strict`, `--onto`, which may be left out, and `PATH`
-pub record HasImport (name : Text) (list strict : Bool) (onto : Option Text) (path : Text)
-    (rows : List Row) : Type 0 where
-  pub has_name : first_of (codes "name") rows ≡ Some name
-  pub has_list : list ≡ is_set (codes "list") rows
-  pub has_strict : strict ≡ is_set (codes "strict") rows
-  pub has_onto : first_of (codes "onto") rows ≡ onto
-  pub has_path : first_of (codes "path") rows ≡ Some path
 
 -- of `--bin` and `TREE`
 pub record HasPage (bin tree : Text) (rows : List Row) : Type 0 where
@@ -110,9 +101,6 @@ AsksFor entered (Wanted index tree words) = Enters (codes "wanted")
     (HasWords index (string_bytes tree) (map string_bytes words.items)) entered
 AsksFor entered (Check bin json tree) = Enters (codes "check")
     (HasReport (option_map string_bytes bin) json (string_bytes tree)) entered
-AsksFor entered (Import name list strict onto path) = Enters (codes "import")
-    (HasImport (string_bytes name) list strict (option_map string_bytes onto) (string_bytes path))
-    entered
 AsksFor entered (Man bin tree) = Enters (codes "man")
     (HasPage (string_bytes bin) (string_bytes tree)) entered
 AsksFor entered (Scripts bin out_dir tree) = Enters (codes "scripts")
@@ -136,10 +124,6 @@ GivesWords rows = IsSome (first_of (codes "index") rows) × IsSome (first_of (co
 abbrev pub GivesTree : List Row → Type 0
 GivesTree rows = IsSome (first_of (codes "tree") rows)
 
--- the required arguments of `import` have values
-abbrev pub GivesTexts : List Row → Type 0
-GivesTexts rows = IsSome (first_of (codes "name") rows) × IsSome (first_of (codes "path") rows)
-
 -- the required arguments of `man` have values
 abbrev pub GivesPage : List Row → Type 0
 GivesPage rows = IsSome (first_of (codes "bin") rows) × IsSome (first_of (codes "tree") rows)
@@ -156,5 +140,4 @@ EntersTree entered = Enters (codes "script") GivesNames entered
 
 -- a subcommand was entered, with its required arguments
 abbrev pub EntersOne : Option (Text × List Row) → Type 0
-EntersOne entered = EntersTree entered
-    ⊎ (Enters (codes "import") GivesTexts entered ⊎ Enters (codes "man") GivesPage entered)
+EntersOne entered = EntersTree entered ⊎ Enters (codes "man") GivesPage entered

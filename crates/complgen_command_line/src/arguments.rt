@@ -2,10 +2,10 @@
 
 ghost use Rattle.std.specs.Prelude.{◌≡◌, false};
 ghost use Rattle.clap.specs.Words.{rule_of};
-ghost use Rattle.complgen_command_line.specs.CommandLine.{flag_rule, option_rule, optional_rule, path_rule};
+ghost use Rattle.complgen_command_line.specs.CommandLine.{flag_rule, option_rule, optional_rule};
 ghost use Rattle.complgen_command_line.specs.CommandLine.{tree_rule, words_rule};
 
-use crate::texts::{PATH_HELP, TREE_HELP, WORDS_HELP};
+use crate::texts::{TREE_HELP, WORDS_HELP};
 use clap::{Arg, ArgAction};
 use std::alloc::Global;
 
@@ -63,17 +63,6 @@ pub fn tree<'a>(alloc: Global) -> Arg<'a>
         .value_name("TREE")
         .required(true)
         .help(TREE_HELP)
-}
-
-/// Returns the required argument `PATH`.
-pub fn path<'a>(alloc: Global) -> Arg<'a>
-    ensures rule { rule_of result ≡ path_rule }
-    ensures local { result.global ≡ false }
-{
-    Arg::new(alloc, "path")
-        .value_name("PATH")
-        .required(true)
-        .help(PATH_HELP)
 }
 
 /// Returns the argument `WORDS`, which takes any number of words.

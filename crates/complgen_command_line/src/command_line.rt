@@ -4,16 +4,15 @@ ghost use Rattle.std.specs.Prelude.{◌≡◌, IfOk, codes, false};
 ghost use Rattle.clap.specs.Words.{app_of};
 ghost use Rattle.clap.specs.declared.builder.command.Command.TheViews.{out-Command};
 ghost use Rattle.complgen_command_line.specs.CommandLine.{asking_line, candidates_line, check_line, checking_line};
-ghost use Rattle.complgen_command_line.specs.CommandLine.{import_line, man_line, program_line, scripts_line, shell_line};
+ghost use Rattle.complgen_command_line.specs.CommandLine.{man_line, program_line, scripts_line, shell_line};
 ghost use Rattle.complgen_command_line.specs.CommandLine.{top_line, wanted_line, writing_line};
 
-use crate::arguments::{flag, option, optional, path, tree, words};
+use crate::arguments::{flag, option, optional, tree, words};
 use crate::texts::{
     ABOUT, AFTER_HELP, BIN_HELP, CANDIDATES_ABOUT, CHECK_ABOUT, CHECK_BIN_HELP, CHECK_LINES,
-    IMPORT_ABOUT, IMPORT_NAME_HELP, IMPORT_TEXTS, INDEX_HELP, JSON_HELP, LIST_HELP, MAN_ABOUT,
-    MAN_EXAMPLE, ONTO_HELP, OUT_DIR_HELP, REGISTER_ABOUT, REGISTER_SHELL_HELP, SCRIPT_ABOUT,
-    SCRIPT_FILES, SCRIPT_SHELL_HELP, SCRIPTS_ABOUT, SCRIPTS_FILES, STRICT_HELP, VALUES_HELP,
-    VERSION, WANTED_ABOUT,
+    INDEX_HELP, JSON_HELP, MAN_ABOUT, MAN_EXAMPLE, OUT_DIR_HELP, REGISTER_ABOUT,
+    REGISTER_SHELL_HELP, SCRIPT_ABOUT, SCRIPT_FILES, SCRIPT_SHELL_HELP, SCRIPTS_ABOUT,
+    SCRIPTS_FILES, VALUES_HELP, VERSION, WANTED_ABOUT,
 };
 use clap::Command;
 use std::alloc::{AllocError, Global};
@@ -95,21 +94,6 @@ fn check<'a>(alloc: Global) -> Result<Command<'a>, AllocError>
         .arg(tree(alloc))
 }
 
-// Returns the subcommand `import --name NAME [--list] [--strict] [--onto FILE] PATH`.
-fn import<'a>(alloc: Global) -> Result<Command<'a>, AllocError>
-    ensures shape { IfOk result (λ command. app_of command ≡ import_line) }
-    ensures local { IfOk result (λ command. (out-Command command).has_globals ≡ false) }
-{
-    Command::new(alloc, "import")
-        .about(IMPORT_ABOUT)
-        .after_help(IMPORT_TEXTS)
-        .arg(option(alloc, "name", "NAME", IMPORT_NAME_HELP))?
-        .arg(flag(alloc, "list", LIST_HELP))?
-        .arg(flag(alloc, "strict", STRICT_HELP))?
-        .arg(optional(alloc, "onto", "FILE", ONTO_HELP))?
-        .arg(path(alloc))
-}
-
 // Returns the subcommand `man --bin N TREE`.
 fn man<'a>(alloc: Global) -> Result<Command<'a>, AllocError>
     ensures shape { IfOk result (λ command. app_of command ≡ man_line) }
@@ -174,6 +158,5 @@ pub fn command_line<'a>(alloc: Global) -> Result<Command<'a>, AllocError>
     ensures { IfOk result (λ command. app_of command ≡ program_line) }
 {
     let line = checking(alloc)?;
-    let line = line.subcommand(import(alloc)?)?;
     line.subcommand(man(alloc)?)
 }

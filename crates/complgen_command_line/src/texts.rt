@@ -29,8 +29,7 @@ Examples:
   complgen script --shell fish --bin app app.json
   complgen scripts --bin app --out-dir completions app.json
   complgen candidates --index 1 app.json -- app ''
-  complgen check app.json
-  complgen import --name app help.txt"
+  complgen check app.json"
 );
 
 pub const SCRIPT_ABOUT: &str = "Writes the completion script for one shell";
@@ -46,8 +45,6 @@ pub const WANTED_ABOUT: &str =
     "Writes the words of the command that lists the values for one word, as JSON";
 
 pub const CHECK_ABOUT: &str = "Reports what is wrong with a tree file, and where";
-
-pub const IMPORT_ABOUT: &str = "Writes a tree file from the help texts of a program";
 
 pub const MAN_ABOUT: &str = "Writes the man page of a program";
 
@@ -69,16 +66,6 @@ pub const VALUES_HELP: &str = "The file with the values that the word asks for, 
 pub const JSON_HELP: &str = "Prints JSON for editors and scripts, with one object on each line";
 
 pub const TREE_HELP: &str = "The tree file, a description of the program in JSON";
-
-pub const IMPORT_NAME_HELP: &str = "The name of the program";
-
-pub const LIST_HELP: &str = "Prints the subcommands without a help text instead, one on each line";
-
-pub const STRICT_HELP: &str = "Fails if a line could not be read";
-
-pub const ONTO_HELP: &str = "The tree file to extend. Everything in it stays as it is";
-
-pub const PATH_HELP: &str = "The help text, or the directory with the help texts";
 
 pub const WORDS_HELP: &str =
     "The command line, starting with the program's name; after --, words may begin with -";
@@ -116,21 +103,6 @@ pub const CHECK_LINES: &str = "Prints a line for each finding: LINE:COLUMN: LEVE
   note     for your information
 
 Exit status: 0 if there are only notes, 1 if there is an error or a warning, 2 for bad usage";
-
-/// The end of the help text of `import`.
-pub const IMPORT_TEXTS: &str =
-    "Runs no program. Write the help texts of a program app to files first:
-  app --help > help.txt
-  or, in a directory DIR:
-  app --help > DIR/help.txt
-  app add --help > DIR/add/help.txt, and so on for each subcommand that --list prints
-
-Prints the lines that it could not read on the standard error.
-
-Examples:
-  complgen import --name app help.txt > app.json
-  complgen import --name app --list DIR
-  complgen import --name app --onto app.json DIR > new.json";
 
 /// The end of the help text of `man`.
 pub const MAN_EXAMPLE: &str = "Example:

@@ -6,7 +6,7 @@ ghost use Rattle.clap.specs.Words.{fault_of, first_of, found_of, rows_of, subcom
 ghost use Rattle.clap.specs.Words.{subcommand_rows_of, takes};
 ghost use Rattle.complgen_command_line.specs.CommandLine.{program_line};
 ghost use Rattle.complgen_command_line.specs.Plans.{AsksFor, EntersOne, EntersTree, GivesDirectory, GivesNames};
-ghost use Rattle.complgen_command_line.specs.Plans.{GivesPage, GivesTexts, GivesTree, GivesWords, HasBadIndex, HasDirectory};
+ghost use Rattle.complgen_command_line.specs.Plans.{GivesPage, GivesTree, GivesWords, HasBadIndex, HasDirectory};
 ghost use Rattle.complgen_command_line.specs.Plans.{HasIndex, HasNames, HasReport, HasWords, words_of};
 ghost use Rattle.complgen_command_line.specs.Refusals.{IsBadIndex, Reports};
 ghost use Rattle.complgen_commands.specs.Refusals.{IsOutOfMemory};
@@ -56,7 +56,6 @@ fn plan_of(alloc: Global, matches: &ArgMatches<'_>) -> Result<Plan, Refusal>
     ensures err { IfErr result (Reports [] (subcommand_rows_of matches.now)) }
 {
     match matches.subcommand() {
-        Some(("import", values)) => import(alloc, values),
         Some(("man", values)) => man(alloc, values),
         _ => tree_plan_of(alloc, matches),
     }
@@ -149,25 +148,6 @@ fn candidates(alloc: Global, values: &ArgMatches<'_>) -> Result<Plan, Refusal>
         index,
         tree,
         words,
-    })
-}
-
-// Returns the plan of `import`.
-fn import(alloc: Global, values: &ArgMatches<'_>) -> Result<Plan, Refusal>
-    requires { GivesTexts (rows_of (found_of values.now)) }
-    ensures ok { IfOk result (AsksFor (Some (codes "import", rows_of (found_of values.now)))) }
-    ensures err { IfErr result
-        (Reports [] (Some (codes "import", rows_of (found_of values.now)))) }
-{
-    let name = value(alloc, values, "name")?;
-    let onto = optional(alloc, values, "onto")?;
-    let path = value(alloc, values, "path")?;
-    Ok(Plan::Import {
-        name,
-        list: flag(values, "list"),
-        strict: flag(values, "strict"),
-        onto,
-        path,
     })
 }
 

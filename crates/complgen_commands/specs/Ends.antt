@@ -3,7 +3,7 @@ use Rattle.std.specs.Prelude.{⊤, ℕ, false, List, Option, Result, Ok, Err, le
 use Rattle.cc_base.specs.declared.failures.Failures.{Failures}
 use Rattle.complgen_commands.specs.declared.plans.Plan.{Plan}
 use Rattle.complgen_commands.specs.declared.plans.Plan.TheVariants.{Candidates, CandidatesWith}
-use Rattle.complgen_commands.specs.declared.plans.Plan.TheVariants.{Check, Import, Man, Register, Script}
+use Rattle.complgen_commands.specs.declared.plans.Plan.TheVariants.{Check, Man, Register, Script}
 use Rattle.complgen_commands.specs.declared.plans.Plan.TheVariants.{Scripts, Wanted}
 use Rattle.complgen_commands.specs.declared.refusals.Refusal.{Refusal}
 use Rattle.complgen_commands.specs.Refusals.{IsRefusal, other_plan_line}
@@ -47,8 +47,6 @@ Ends taken failed Finds (CandidatesWith values index tree words) file old new re
 Ends taken failed Finds (Wanted index tree words) file old new result =
     Refuses taken failed old new result
 Ends taken failed Finds (Check bin json tree) file old new result =
-    Refuses taken failed old new result
-Ends taken failed Finds (Import name list strict onto path) file old new result =
     Refuses taken failed old new result
 Ends taken failed Finds (Man bin tree) file old new result =
     Refuses taken failed old new result

@@ -2,10 +2,10 @@
 use Rattle.std.specs.Prelude.{ℕ, List, string_bytes}
 use Rattle.complgen_commands.specs.declared.plans.Plan.{Plan}
 use Rattle.complgen_commands.specs.declared.plans.Plan.TheVariants.{Candidates, CandidatesWith}
-use Rattle.complgen_commands.specs.declared.plans.Plan.TheVariants.{Check, Import, Man, Register, Script}
+use Rattle.complgen_commands.specs.declared.plans.Plan.TheVariants.{Check, Man, Register, Script}
 use Rattle.complgen_commands.specs.declared.plans.Plan.TheVariants.{Scripts, Wanted}
 
--- the path of the tree file, or that of the help texts for `Import`
+-- the path of the tree file
 abbrev pub tree_of : Plan → List ℕ
 tree_of (Script shell bin tree) = string_bytes tree
 tree_of (Register shell bin tree) = string_bytes tree
@@ -13,6 +13,5 @@ tree_of (Candidates index tree words) = string_bytes tree
 tree_of (CandidatesWith values index tree words) = string_bytes tree
 tree_of (Wanted index tree words) = string_bytes tree
 tree_of (Check bin json tree) = string_bytes tree
-tree_of (Import name list strict onto path) = string_bytes path
 tree_of (Man bin tree) = string_bytes tree
 tree_of (Scripts bin out_dir tree) = string_bytes tree

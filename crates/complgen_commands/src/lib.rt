@@ -20,8 +20,6 @@ pub use crate::one_script::script;
 pub use crate::plans::{Plan, run};
 pub use crate::refusals::{Refusal, UNREADABLE, WRITE_FAILED, error_refusal};
 pub use crate::shells::shell_of;
-pub use crate::tree_files::{
-    TreeFile, file_refusal, named_tree, tree, unreadable, unreadable_values,
-};
+pub use crate::tree_files::{TreeFile, named_tree, tree, unreadable, unreadable_values};
 pub use crate::wanted::write_wanted;
 pub use crate::word_at::WordAt;

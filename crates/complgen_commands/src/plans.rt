@@ -50,19 +50,6 @@ pub enum Plan {
         /// The path of the tree file.
         tree: String,
     },
-    /// Write a tree file that describes a program, from its help texts.
-    Import {
-        /// The name of the program.
-        name: String,
-        /// True if the paths of the subcommands without a help text are written instead.
-        list: bool,
-        /// True if a line that cannot be read is an error.
-        strict: bool,
-        /// The path of the tree file to which the rest is added, if there is one.
-        onto: Option<String>,
-        /// The path of the help text, or of the directory with the help texts.
-        path: String,
-    },
     /// Write the man page of a program.
     Man {
         /// The name by which users call the program.
@@ -85,7 +72,7 @@ impl Plan {
     ghost use Rattle.std.specs.Prelude.{◌≡◌};
     ghost use Rattle.complgen_commands.specs.Plans.{tree_of};
 
-    /// Returns the path of the tree file, or the path of the help texts for `Import`.
+    /// Returns the path of the tree file.
     pub fn tree(&self) -> &str
         ensures { result.now ≡ tree_of self.now }
     {
@@ -96,7 +83,6 @@ impl Plan {
             Plan::CandidatesWith { tree, .. } => tree.as_str(),
             Plan::Wanted(_, tree, _) => tree.as_str(),
             Plan::Check { tree, .. } => tree.as_str(),
-            Plan::Import { path, .. } => path.as_str(),
             Plan::Man { tree, .. } => tree.as_str(),
             Plan::Scripts { tree, .. } => tree.as_str(),
         }
@@ -141,7 +127,6 @@ pub fn run<D: Folder, W: Sink>(
         Plan::CandidatesWith { .. }
         | Plan::Wanted(..)
         | Plan::Check { .. }
-        | Plan::Import { .. }
         | Plan::Man { .. }
         | Plan::Scripts { .. } => Err(Refusal::from_static(1, OTHER_PLAN)),
     }

@@ -60,9 +60,9 @@ pub fn unreadable(alloc: Global, path: &str) -> Refusal
     file_refusal(alloc, path, UNREADABLE)
 }
 
-/// Returns what is printed if something is wrong with the file at `path`. The line `text` says what
-/// it is.
-pub fn file_refusal(alloc: Global, path: &str, text: &'static str) -> Refusal
+// Returns what is printed if something is wrong with the file at `path`. The line `text` says what
+// it is.
+fn file_refusal(alloc: Global, path: &str, text: &'static str) -> Refusal
     ensures { IsMade (about_file (on_one_line path.now) text.entry.now) result }
 {
     match on_one_line(alloc, path) {

@@ -194,46 +194,6 @@ pub const OWN_TREE: &str = r#"{
       ]
     },
     {
-      "name": "import",
-      "about": "Writes a tree file from the help texts of a program",
-      "args": [
-        {
-          "id": "name",
-          "long": "name",
-          "value_names": ["NAME"],
-          "help": "The name of the program",
-          "required": true,
-          "value_hint": "CommandName"
-        },
-        {
-          "id": "list",
-          "long": "list",
-          "action": "SetTrue",
-          "help": "Prints the subcommands without a help text instead, one on each line"
-        },
-        {
-          "id": "strict",
-          "long": "strict",
-          "action": "SetTrue",
-          "help": "Fails if a line could not be read"
-        },
-        {
-          "id": "onto",
-          "long": "onto",
-          "value_names": ["FILE"],
-          "help": "The tree file to extend. Everything in it stays as it is",
-          "value_hint": "FilePath"
-        },
-        {
-          "id": "path",
-          "value_names": ["PATH"],
-          "help": "The help text, or the directory with the help texts",
-          "required": true,
-          "value_hint": "AnyPath"
-        }
-      ]
-    },
-    {
       "name": "man",
       "about": "Writes the man page of a program",
       "args": [

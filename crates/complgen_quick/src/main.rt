@@ -73,7 +73,6 @@ fn carry_out_plan<R: Files + Print + AllocGlobal>(
         | Plan::Candidates(..)
         | Plan::CandidatesWith { .. }
         | Plan::Wanted(..)
-        | Plan::Import { .. }
         | Plan::Man { .. }
         | Plan::Scripts { .. } => Err(Refusal::from_static(1, NEEDS_PROOF)),
     }

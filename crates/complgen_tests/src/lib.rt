@@ -9,22 +9,6 @@ mod checks;
 #[cfg(test)]
 mod debug;
 #[cfg(test)]
-mod import_command;
-#[cfg(test)]
-mod import_commands;
-#[cfg(test)]
-mod import_forms;
-#[cfg(test)]
-mod import_names;
-#[cfg(test)]
-mod import_run;
-#[cfg(test)]
-mod import_trees;
-#[cfg(test)]
-mod import_usage;
-#[cfg(test)]
-mod import_values;
-#[cfg(test)]
 mod live;
 #[cfg(test)]
 mod man_page;

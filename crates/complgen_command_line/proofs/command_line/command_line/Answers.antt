@@ -5,9 +5,7 @@ use Rattle.complgen_command_line.proofs.command_line.command_line.Goals as goal
 
 pub returns : goal.returns
 returns c =
-    let import = c.in_ok-import.ensures in
     let last = c.in_ok-man.ensures in
-    let one = c.in_ok-line-2.ensures.shape import.local
-    ∙ ap₂ with_subcommand c.in_ok-line.ensures (ap (λ (a : App). a.top) import.shape) in
-    IfOk-weaker c.subcommand-2.result _ _ (λ line adds. adds.shape last.local
-    ∙ ap₂ with_subcommand one (ap (λ (a : App). a.top) last.shape)) c.subcommand-2.ensures
+    IfOk-weaker c.subcommand.result _ _ (λ line adds. adds.shape last.local
+    ∙ ap₂ with_subcommand c.in_ok-line.ensures (ap (λ (a : App). a.top) last.shape))
+    c.subcommand.ensures

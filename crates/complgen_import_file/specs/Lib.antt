@@ -1,5 +1,0 @@
-pub mod BuiltOptions
-pub mod Characters
-pub mod Holding
-pub mod Imported
-pub mod TreeTokens

@@ -1,5 +1,0 @@
-mod FurtherRows
-mod LongerRows
-pub mod PartsRead
-pub mod PartLaws
-pub mod RegularLaws

@@ -1,2 +1,0 @@
-pub mod Further
-pub mod Regular

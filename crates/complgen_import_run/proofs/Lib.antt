@@ -1,5 +1,0 @@
-mod CheckLemmas
-mod CleanLemmas
-mod EndLemmas
-mod ReportLemmas
-mod StatusLemmas

@@ -1,4 +1,0 @@
-pub mod Ends
-pub mod Outcomes
-pub mod Stops
-pub mod Texts

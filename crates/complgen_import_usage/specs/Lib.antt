@@ -1,4 +1,0 @@
-pub mod Spots
-pub mod UsageLines
-pub mod UsageNames
-pub mod UsageOptions

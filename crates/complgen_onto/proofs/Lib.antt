@@ -1,3 +1,0 @@
-pub mod KeptLemmas
-pub mod Merged
-pub mod Rows

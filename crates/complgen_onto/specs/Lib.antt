@@ -1,4 +1,0 @@
-pub mod Kept
-pub mod Names
-pub mod Onto
-pub mod Written
