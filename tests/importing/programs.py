@@ -330,6 +330,8 @@ def wait_until(happens: Callable[[], bool]) -> None:
 
 # ---- files
 
+# Beside the tree files, a directory records what was written.
+RECORDS = ".complgen-import"
 OWN: Node = {"name": "keep", "about": "by hand", "args": [
     {"id": "both", "long": "both", "help": "By hand", "values_from": ["git", "branch"]},
     {"id": "mine", "long": "mine", "action": "SetTrue"}]}
@@ -375,7 +377,7 @@ def try_unwritable(room: Room) -> None:
     """What cannot be written is named, and nothing else is left there."""
     folder = os.path.join(room.path, "out")
     room.expect("--out-dir: status", 0, room.run("--out-dir", folder, "keep")[0])
-    room.expect("--out-dir: files", ["keep.json"], os.listdir(folder))
+    room.expect("--out-dir: files", [RECORDS, "keep.json"], sorted(os.listdir(folder)))
     status, _, message = room.run("--out-dir", room.log, "keep")
     room.expect("a file as directory", (1, f"complgen-import: {room.log}/keep.json: write failed: File exists\n"),
                 (status, message))
@@ -384,7 +386,7 @@ def try_unwritable(room: Room) -> None:
     status, _, message = room.run("--out-dir", folder, "--force", "full")
     room.expect("a directory as file", (1, f"complgen-import: {folder}/full.json: write failed: Is a directory\n"),
                 (status, message))
-    room.expect("a directory as file: files", ["full.json", "keep.json"], sorted(os.listdir(folder)))
+    room.expect("a directory as file: files", [RECORDS, "full.json", "keep.json"], sorted(os.listdir(folder)))
 
 
 def try_bad_file(room: Room) -> None:

@@ -90,7 +90,7 @@ class Room:
     def environment(self, **variables: str) -> Dict[str, str]:
         """Returns the environment of the importer."""
         return {"PATH": self.bin + ":" + os.environ["PATH"], "HOME": self.home, "XDG_DATA_HOME": self.data,
-                "TMPDIR": self.temporary, "COMPLGEN": self.complgen, "PYTHONPATH": common.TOP,
+                "XDG_DATA_DIRS": self.home, "FPATH": self.home, "TMPDIR": self.temporary, "COMPLGEN": self.complgen, "PYTHONPATH": common.TOP,
                 "PYTHONDONTWRITEBYTECODE": "1", **variables}
 
     def start(self, *words: str) -> "subprocess.Popen[bytes]":
