@@ -66,7 +66,7 @@ class Walker:
     """Walks through the items of a pattern with what is open before each."""
 
     def __init__(self, flags: int) -> None:
-        self.flags = flags & re.IGNORECASE
+        self.flags, self.has_lines = flags & re.IGNORECASE, bool(flags & re.MULTILINE)
 
     def walk(self, items: List[Any], opened: List[Open], may_fail: bool) -> List[Open]:
         """Returns what is open after the items. `may_fail` tells whether something that can fail follows them."""
@@ -87,12 +87,13 @@ class Walker:
     def max_repeat(self, held: Any, opened: List[Open], may_fail: bool) -> List[Open]:
         """A repetition. One of a few times is as many items."""
         least, most, items = held[0], held[1], list(held[2])
-        kept = [] if least else opened
         if most <= FEW:
+            kept = [] if least else opened
             for _ in range(int(most)):
                 opened = self.walk(items, opened, may_fail)
             return kept + opened
         first, every = self.first(items), self.every(items)
+        kept = [after for it in opened if it.is_search for after in it.after(every)] if least else opened
         for it in opened:
             if it.clashes(first, every, may_fail):
                 raise Refused("two repetitions match the same characters" if not it.is_search else
@@ -105,7 +106,12 @@ class Walker:
     min_repeat = max_repeat
 
     def at(self, held: Any, opened: List[Open], may_fail: bool) -> List[Open]:
-        return [it for it in opened if not (it.is_search and str(held) == "AT_BEGINNING")]
+        """A search at a beginning starts once, or once for each line."""
+        if str(held) != "AT_BEGINNING":
+            return opened
+        kept = [it for it in opened if not it.is_search]
+        lines = [after for it in opened if it.is_search for after in it.after(frozenset([ord("\n")]))]
+        return kept + (lines if self.has_lines else [])
 
     def assert_(self, held: Any, opened: List[Open], may_fail: bool) -> List[Open]:
         """What is ahead matches the same text as what follows. What is behind limits where a search starts."""
@@ -223,7 +229,7 @@ def searched_names(tree: ast.AST) -> Iterator[str]:
     """Yields the names of variables and fields whose patterns a module searches for."""
     for node in ast.walk(tree):
         if isinstance(node, ast.Attribute) and node.attr in SEARCHES:
-            yield getattr(node.value, "id", getattr(node.value, "attr", ""))
+            yield from (getattr(it, "id", getattr(it, "attr", "")) for it in ast.walk(node.value))
 
 
 def inline_patterns(tree: ast.AST) -> Iterator[Tuple[str, bool]]:

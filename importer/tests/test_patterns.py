@@ -9,7 +9,7 @@ REFUSED = (
     ("a*a*", False), ("a+a+b", False), ("(a*)*", False), ("(a+)+b", False), ("(?:a|ab*)*b*", False), ("[a-z]*[a-m]+", False),
     ("a*b?a*", False), ("(?:a+b?)+c", False), ("a*aa*", False), (".*,.*", False), ("(?:a*|b)*c", False), (r"\w+\d*", False),
     ("a*(?=a*b)", False), ("(a{1,1000}){1,1000}", False), ("a*(?:b|a+)c", False), (" *(?: +x)?", False),
-    ("a*b", True), (" +(?=x)", True), (r"\[[^\]]*\]", True), ("x?[a-z]+:", True), (r"(?<=a)a*b", True), ("(?:ab)*c", True),
+    ("a*b", True), (" +(?=x)", True), (r"\[[^\]]*\]", True), ("x?[a-z]+:", True), (r"(?<=a)a*b", True), ("(?:ab)*c", True), ("x(?:y)+[xyz]*w", True),
 )
 ACCEPTED = (
     ("a*b*", False), ("a+ba+", False), ("[a-z]+(?:-[a-z]+)*", False), (r"\[[^\[\]]*\]", True), ("a*", True), ("[A-Za-z]+", True),
