@@ -8,7 +8,7 @@ use Rattle.cc_quote.specs.PowershellQuote.{sign_before, powershell_signs}
 use Rattle.cc_quote.specs.Signs.{sign as quoting_sign}
 use Rattle.cc_registrations.specs.Names.{is_identifier_byte, identifier_byte, identifier, elvish_quoted, powershell_quoted}
 use Rattle.cc_registrations.specs.PlainWords.{is_plain_from, is_posix_plain, posix_next_place, posix_plain_word, is_fish_plain, fish_next_place, fish_plain_word}
-use Rattle.cc_registrations.specs.SafeText.{locale_probe, names_line, function_front, function_text, safe_text, safe_name, safe_names, safe_binaries, safe_function, safe_variable, safe_completer}
+use Rattle.cc_registrations.specs.SafeText.{names_line, function_front, function_text, safe_text, safe_name, safe_names, safe_binaries, safe_function, safe_variable, safe_completer}
 use Rattle.cc_registrations.specs.SafeBash as bash
 use Rattle.cc_registrations.specs.SafeBash.{SafeBashReads}
 use Rattle.cc_registrations.specs.SafeZsh as zsh
@@ -29,7 +29,7 @@ unfolding is_identifier_byte identifier_byte
 identifier_row = refl
 
 bash_row : SafeBashReads (codes "V=$x") (codes "my name") odd_bins (codes "/o'p $x | \\ COMPLETER \"a\\")
-unfolding odd_bins after with_front cut_at up_to after_mark between without_blanks word_by word_after is_identifier_byte identifier_byte posix_word_from posix_word_of sign byte_of is_posix_safe is_posix_safe_word posix_quoted bash.function_head bash.call_begins bash.call_ends bash.bash_frame bash.bash_marks locale_probe names_line function_front function_text safe_text safe_name safe_names safe_binaries safe_function safe_variable safe_completer is_plain_from posix_next_place is_posix_plain posix_plain_word
+unfolding odd_bins after with_front cut_at up_to after_mark between without_blanks word_by word_after is_identifier_byte identifier_byte posix_word_from posix_word_of sign byte_of is_posix_safe is_posix_safe_word posix_quoted bash.function_head bash.call_begins bash.call_ends bash.bash_frame bash.bash_marks names_line function_front function_text safe_text safe_name safe_names safe_binaries safe_function safe_variable safe_completer is_plain_from posix_next_place is_posix_plain posix_plain_word
 bash_row = record {
   variable_read = refl;
   name_read = refl;
@@ -38,7 +38,7 @@ bash_row = record {
 }
 
 bash_empty_row : SafeBashReads (codes "V=$x") (codes "my name") [] (codes "/o'p $x | \\ COMPLETER \"a\\")
-unfolding odd_bins after with_front cut_at up_to after_mark between without_blanks word_by word_after is_identifier_byte identifier_byte posix_word_from posix_word_of sign byte_of is_posix_safe is_posix_safe_word posix_quoted bash.function_head bash.call_begins bash.call_ends bash.bash_frame bash.bash_marks locale_probe names_line function_front function_text safe_text safe_name safe_names safe_binaries safe_function safe_variable safe_completer is_plain_from posix_next_place is_posix_plain posix_plain_word
+unfolding odd_bins after with_front cut_at up_to after_mark between without_blanks word_by word_after is_identifier_byte identifier_byte posix_word_from posix_word_of sign byte_of is_posix_safe is_posix_safe_word posix_quoted bash.function_head bash.call_begins bash.call_ends bash.bash_frame bash.bash_marks names_line function_front function_text safe_text safe_name safe_names safe_binaries safe_function safe_variable safe_completer is_plain_from posix_next_place is_posix_plain posix_plain_word
 bash_empty_row = record {
   variable_read = refl;
   name_read = refl;
@@ -47,7 +47,7 @@ bash_empty_row = record {
 }
 
 zsh_row : SafeZshReads (codes "V=$x") (codes "my name") odd_bins (codes "/o'p $x | \\ COMPLETER \"a\\")
-unfolding odd_bins after with_front cut_at up_to after_mark between without_blanks word_by word_after is_identifier_byte identifier_byte posix_word_from posix_word_of sign byte_of is_posix_safe is_posix_safe_word posix_quoted zsh.function_head zsh.call_begins zsh.call_ends zsh.zsh_frame zsh.zsh_marks locale_probe names_line function_front function_text safe_text safe_name safe_names safe_binaries safe_function safe_variable safe_completer is_plain_from posix_next_place is_posix_plain posix_plain_word
+unfolding odd_bins after with_front cut_at up_to after_mark between without_blanks word_by word_after is_identifier_byte identifier_byte posix_word_from posix_word_of sign byte_of is_posix_safe is_posix_safe_word posix_quoted zsh.function_head zsh.call_begins zsh.call_ends zsh.zsh_frame zsh.zsh_marks names_line function_front function_text safe_text safe_name safe_names safe_binaries safe_function safe_variable safe_completer is_plain_from posix_next_place is_posix_plain posix_plain_word
 zsh_row = record {
   variable_read = refl;
   name_read = refl;
@@ -56,7 +56,7 @@ zsh_row = record {
 }
 
 zsh_empty_row : SafeZshReads (codes "V=$x") (codes "my name") [] (codes "/o'p $x | \\ COMPLETER \"a\\")
-unfolding odd_bins after with_front cut_at up_to after_mark between without_blanks word_by word_after is_identifier_byte identifier_byte posix_word_from posix_word_of sign byte_of is_posix_safe is_posix_safe_word posix_quoted zsh.function_head zsh.call_begins zsh.call_ends zsh.zsh_frame zsh.zsh_marks locale_probe names_line function_front function_text safe_text safe_name safe_names safe_binaries safe_function safe_variable safe_completer is_plain_from posix_next_place is_posix_plain posix_plain_word
+unfolding odd_bins after with_front cut_at up_to after_mark between without_blanks word_by word_after is_identifier_byte identifier_byte posix_word_from posix_word_of sign byte_of is_posix_safe is_posix_safe_word posix_quoted zsh.function_head zsh.call_begins zsh.call_ends zsh.zsh_frame zsh.zsh_marks names_line function_front function_text safe_text safe_name safe_names safe_binaries safe_function safe_variable safe_completer is_plain_from posix_next_place is_posix_plain posix_plain_word
 zsh_empty_row = record {
   variable_read = refl;
   name_read = refl;
@@ -125,13 +125,13 @@ some_bins = codes "git" ∷ codes "a'b" ∷ []
 bash_line :
     first_line (bash.safe_bash (codes "V") (codes "my-name") some_bins (codes "c"))
     ≡ Some (codes "complete -o nospace -o bashdefault -F _complgen_my_name -- git 'a'\\''b'")
-unfolding first_line some_bins after with_front cut_at up_to after_mark between without_blanks word_by word_after is_identifier_byte identifier_byte posix_word_from posix_word_of sign byte_of is_posix_safe is_posix_safe_word posix_quoted bash.function_head bash.call_begins bash.call_ends bash.bash_frame bash.bash_marks locale_probe names_line function_front function_text safe_text safe_name safe_names safe_binaries safe_function safe_variable safe_completer is_plain_from posix_next_place is_posix_plain posix_plain_word
+unfolding first_line some_bins after with_front cut_at up_to after_mark between without_blanks word_by word_after is_identifier_byte identifier_byte posix_word_from posix_word_of sign byte_of is_posix_safe is_posix_safe_word posix_quoted bash.function_head bash.call_begins bash.call_ends bash.bash_frame bash.bash_marks names_line function_front function_text safe_text safe_name safe_names safe_binaries safe_function safe_variable safe_completer is_plain_from posix_next_place is_posix_plain posix_plain_word
 bash_line = refl
 
 zsh_line :
     first_line (zsh.safe_zsh (codes "V") (codes "my-name") some_bins (codes "c"))
     ≡ Some (codes "compdef _complgen_my_name git 'a'\\''b'")
-unfolding first_line some_bins after with_front cut_at up_to after_mark between without_blanks word_by word_after is_identifier_byte identifier_byte posix_word_from posix_word_of sign byte_of is_posix_safe is_posix_safe_word posix_quoted zsh.function_head zsh.call_begins zsh.call_ends zsh.zsh_frame zsh.zsh_marks locale_probe names_line function_front function_text safe_text safe_name safe_names safe_binaries safe_function safe_variable safe_completer is_plain_from posix_next_place is_posix_plain posix_plain_word
+unfolding first_line some_bins after with_front cut_at up_to after_mark between without_blanks word_by word_after is_identifier_byte identifier_byte posix_word_from posix_word_of sign byte_of is_posix_safe is_posix_safe_word posix_quoted zsh.function_head zsh.call_begins zsh.call_ends zsh.zsh_frame zsh.zsh_marks names_line function_front function_text safe_text safe_name safe_names safe_binaries safe_function safe_variable safe_completer is_plain_from posix_next_place is_posix_plain posix_plain_word
 zsh_line = refl
 
 fish_line :

@@ -8,7 +8,6 @@ use Rattle.cc_quote.proofs.BeforeBlanks.{bare_first, posix_before_space}
 use Rattle.cc_registrations.specs.Names.{identifier, is_identifier_byte}
 use Rattle.cc_registrations.specs.PlainWords.{is_plain_from, posix_next_place, posix_plain_word}
 use Rattle.cc_registrations.specs.SafeZsh.{zsh_frame, zsh_marks, call_begins, call_ends, function_head, SafeZshReads}
-use Rattle.cc_registrations.specs.SafeText.{locale_probe}
 use Rattle.cc_registrations.proofs.ListedNames.{ReadsWords}
 use Rattle.cc_registrations.proofs.Marks.{ends_identifier, skips_free, skips_identifier}
 use Rattle.cc_registrations.proofs.PlainReadings.{posix_plain_line_feed, posix_plain_space}
@@ -26,7 +25,7 @@ reads_names rest = record {
 }
 
 fits : IsMarked zsh_frame zsh_marks
-unfolding zsh_frame zsh_marks locale_probe function_head call_begins call_ends after_mark up_to after with_front cut_at word_by is_identifier_byte
+unfolding zsh_frame zsh_marks function_head call_begins call_ends after_mark up_to after with_front cut_at word_by is_identifier_byte
 fits =
     let of_names : List ℕ = codes " " in
     let of_variable : List ℕ = codes " | \\\n            " in

@@ -40,7 +40,7 @@ call_ends =
     ++ codes "            or printf '%s\\n' $reply\n"
     ++ codes "            return\n"
     ++ codes "        end\n"
-    ++ codes "        set run command env -- (string split \\v -- $reply)\n"
+    ++ codes "        set run (command --search env) -- (string split \\v -- $reply)\n"
     ++ codes "        set -e run[-1]\n"
     ++ codes "    end\n"
     ++ codes "end\n"

@@ -9,21 +9,6 @@ use Rattle.cc_registrations.specs.declared.safe_text.SafeFrame.{SafeFrame}
 
 -- ---- the text
 
--- bash and zsh find out whether their locale is safe for ASCII only
-unfoldable pub locale_probe : List ℕ
-locale_probe =
-    codes "    # Only ASCII is safe where two bytes can be a letter that UTF-8 does not have: the second may be\n"
-    ++ codes "    # the backslash that escapes.\n"
-    ++ codes "    ascii=$'\\x80\\\\\\x81\\\\\\x82\\\\\\x83\\\\\\x84\\\\\\x85\\\\\\x86\\\\\\x87\\\\\\x88\\\\\\x89\\\\\\x8a\\\\\\x8b\\\\\\x8c\\\\\\x8d\\\\\\x8e\\\\\\x8f\\\\'\n"
-    ++ codes "    ascii+=$'\\x90\\\\\\x91\\\\\\x92\\\\\\x93\\\\\\x94\\\\\\x95\\\\\\x96\\\\\\x97\\\\\\x98\\\\\\x99\\\\\\x9a\\\\\\x9b\\\\\\x9c\\\\\\x9d\\\\\\x9e\\\\\\x9f\\\\'\n"
-    ++ codes "    ascii+=$'\\xa0\\\\\\xa1\\\\\\xa2\\\\\\xa3\\\\\\xa4\\\\\\xa5\\\\\\xa6\\\\\\xa7\\\\\\xa8\\\\\\xa9\\\\\\xaa\\\\\\xab\\\\\\xac\\\\\\xad\\\\\\xae\\\\\\xaf\\\\'\n"
-    ++ codes "    ascii+=$'\\xb0\\\\\\xb1\\\\\\xb2\\\\\\xb3\\\\\\xb4\\\\\\xb5\\\\\\xb6\\\\\\xb7\\\\\\xb8\\\\\\xb9\\\\\\xba\\\\\\xbb\\\\\\xbc\\\\\\xbd\\\\\\xbe\\\\\\xbf\\\\'\n"
-    ++ codes "    ascii+=$'\\xc0\\\\\\xc1\\\\\\xc2\\\\\\xc3\\\\\\xc4\\\\\\xc5\\\\\\xc6\\\\\\xc7\\\\\\xc8\\\\\\xc9\\\\\\xca\\\\\\xcb\\\\\\xcc\\\\\\xcd\\\\\\xce\\\\\\xcf\\\\'\n"
-    ++ codes "    ascii+=$'\\xd0\\\\\\xd1\\\\\\xd2\\\\\\xd3\\\\\\xd4\\\\\\xd5\\\\\\xd6\\\\\\xd7\\\\\\xd8\\\\\\xd9\\\\\\xda\\\\\\xdb\\\\\\xdc\\\\\\xdd\\\\\\xde\\\\\\xdf\\\\'\n"
-    ++ codes "    ascii+=$'\\xe0\\\\\\xe1\\\\\\xe2\\\\\\xe3\\\\\\xe4\\\\\\xe5\\\\\\xe6\\\\\\xe7\\\\\\xe8\\\\\\xe9\\\\\\xea\\\\\\xeb\\\\\\xec\\\\\\xed\\\\\\xee\\\\\\xef\\\\'\n"
-    ++ codes "    ascii+=$'\\xf0\\\\\\xf1\\\\\\xf2\\\\\\xf3\\\\\\xf4\\\\\\xf5\\\\\\xf6\\\\\\xf7\\\\\\xf8\\\\\\xf9\\\\\\xfa\\\\\\xfb\\\\\\xfc\\\\\\xfd\\\\\\xfe\\\\\\xff\\\\\\xc4\\xc4'\n"
-    ++ codes "    [[ ${#ascii} == 258 ]] && ascii='' || ascii=1\n"
-
 -- the first line, which names the programs
 unfoldable pub names_line : SafeFrame → List ℕ → List (List ℕ) → List ℕ
 names_line frame name bins =

@@ -1,7 +1,7 @@
 -- The safe registration for zsh, and the reading of its parts.
 use Rattle.std.specs.Prelude.{⊤, ℕ, List, ◌++◌, codes}
 use Rattle.cc_registrations.specs.PlainWords.{posix_plain_word}
-use Rattle.cc_registrations.specs.SafeText.{ReadsSafely, SafeMarks, locale_probe, safe_text}
+use Rattle.cc_registrations.specs.SafeText.{ReadsSafely, SafeMarks, safe_text}
 use Rattle.cc_registrations.specs.declared.safe_text.SafeFrame.{SafeFrame}
 use Rattle.cc_registrations.specs.declared.words.Quoting.TheVariants.{Posix}
 
@@ -11,12 +11,13 @@ use Rattle.cc_registrations.specs.declared.words.Quoting.TheVariants.{Posix}
 unfoldable pub function_head : List ℕ
 function_head =
     codes "() {\n"
-    ++ codes "    local ascii values reply code completion value home quote=$compstate[quote] found=1\n"
-    ++ codes "    local text=$PREBUFFER$LBUFFER\n"
+    ++ codes "    local values reply code completion value home quote=$compstate[quote] found=1\n"
+    ++ codes "    local ascii=$'\\xc3\\xa9\\xe2\\x82\\xac\\xf0\\x9f\\x98\\x80' text=$PREBUFFER$LBUFFER\n"
     ++ codes "    # zsh does not tell a function that the word is in a here-document, or behind a backtick and a\n"
     ++ codes "    # quote. `histchars` may name a sign that begins a comment.\n"
     ++ codes "    [[ $text != *'<<'*$'\\n'* && ${text//\\\\?/} != *\\`* && $histchars == ??\\# ]] || return\n"
-    ++ locale_probe
+    ++ codes "    # These are three letters in UTF-8 alone. Elsewhere, zsh takes only ASCII as it is.\n"
+    ++ codes "    [[ ${#ascii} == 3 ]] && ascii='' || ascii=1\n"
     ++ codes "    # Items of folders: what is before the first `:` without a backslash ends in `/`.\n"
     ++ codes "    local folder='(\\\\?|[^\\\\:])#/(|:*)'\n"
     ++ codes "    # The words up to the cursor, without the quotes that they were typed with.\n"
@@ -61,7 +62,7 @@ call_ends =
 
 -- unfolds each of these texts
 unfoldable pub fixed_texts : ⊤
-unfolding locale_probe function_head call_begins call_ends
+unfolding function_head call_begins call_ends
 fixed_texts = tt
 
 unfoldable pub zsh_frame : SafeFrame

@@ -34,7 +34,7 @@ const CALL_ENDS: &str = " -- $words | string collect
             or printf '%s\\n' $reply
             return
         end
-        set run command env -- (string split \\v -- $reply)
+        set run (command --search env) -- (string split \\v -- $reply)
         set -e run[-1]
     end
 end

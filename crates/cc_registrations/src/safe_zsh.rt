@@ -10,22 +10,13 @@ use cc_base::{Error, Sink, TextRef};
 use std::alloc::Global;
 
 const FUNCTION_HEAD: &str = "() {
-    local ascii values reply code completion value home quote=$compstate[quote] found=1
-    local text=$PREBUFFER$LBUFFER
+    local values reply code completion value home quote=$compstate[quote] found=1
+    local ascii=$'\\xc3\\xa9\\xe2\\x82\\xac\\xf0\\x9f\\x98\\x80' text=$PREBUFFER$LBUFFER
     # zsh does not tell a function that the word is in a here-document, or behind a backtick and a
     # quote. `histchars` may name a sign that begins a comment.
     [[ $text != *'<<'*$'\\n'* && ${text//\\\\?/} != *\\`* && $histchars == ??\\# ]] || return
-    # Only ASCII is safe where two bytes can be a letter that UTF-8 does not have: the second may be
-    # the backslash that escapes.
-    ascii=$'\\x80\\\\\\x81\\\\\\x82\\\\\\x83\\\\\\x84\\\\\\x85\\\\\\x86\\\\\\x87\\\\\\x88\\\\\\x89\\\\\\x8a\\\\\\x8b\\\\\\x8c\\\\\\x8d\\\\\\x8e\\\\\\x8f\\\\'
-    ascii+=$'\\x90\\\\\\x91\\\\\\x92\\\\\\x93\\\\\\x94\\\\\\x95\\\\\\x96\\\\\\x97\\\\\\x98\\\\\\x99\\\\\\x9a\\\\\\x9b\\\\\\x9c\\\\\\x9d\\\\\\x9e\\\\\\x9f\\\\'
-    ascii+=$'\\xa0\\\\\\xa1\\\\\\xa2\\\\\\xa3\\\\\\xa4\\\\\\xa5\\\\\\xa6\\\\\\xa7\\\\\\xa8\\\\\\xa9\\\\\\xaa\\\\\\xab\\\\\\xac\\\\\\xad\\\\\\xae\\\\\\xaf\\\\'
-    ascii+=$'\\xb0\\\\\\xb1\\\\\\xb2\\\\\\xb3\\\\\\xb4\\\\\\xb5\\\\\\xb6\\\\\\xb7\\\\\\xb8\\\\\\xb9\\\\\\xba\\\\\\xbb\\\\\\xbc\\\\\\xbd\\\\\\xbe\\\\\\xbf\\\\'
-    ascii+=$'\\xc0\\\\\\xc1\\\\\\xc2\\\\\\xc3\\\\\\xc4\\\\\\xc5\\\\\\xc6\\\\\\xc7\\\\\\xc8\\\\\\xc9\\\\\\xca\\\\\\xcb\\\\\\xcc\\\\\\xcd\\\\\\xce\\\\\\xcf\\\\'
-    ascii+=$'\\xd0\\\\\\xd1\\\\\\xd2\\\\\\xd3\\\\\\xd4\\\\\\xd5\\\\\\xd6\\\\\\xd7\\\\\\xd8\\\\\\xd9\\\\\\xda\\\\\\xdb\\\\\\xdc\\\\\\xdd\\\\\\xde\\\\\\xdf\\\\'
-    ascii+=$'\\xe0\\\\\\xe1\\\\\\xe2\\\\\\xe3\\\\\\xe4\\\\\\xe5\\\\\\xe6\\\\\\xe7\\\\\\xe8\\\\\\xe9\\\\\\xea\\\\\\xeb\\\\\\xec\\\\\\xed\\\\\\xee\\\\\\xef\\\\'
-    ascii+=$'\\xf0\\\\\\xf1\\\\\\xf2\\\\\\xf3\\\\\\xf4\\\\\\xf5\\\\\\xf6\\\\\\xf7\\\\\\xf8\\\\\\xf9\\\\\\xfa\\\\\\xfb\\\\\\xfc\\\\\\xfd\\\\\\xfe\\\\\\xff\\\\\\xc4\\xc4'
-    [[ ${#ascii} == 258 ]] && ascii='' || ascii=1
+    # These are three letters in UTF-8 alone. Elsewhere, zsh takes only ASCII as it is.
+    [[ ${#ascii} == 3 ]] && ascii='' || ascii=1
     # Items of folders: what is before the first `:` without a backslash ends in `/`.
     local folder='(\\\\?|[^\\\\:])#/(|:*)'
     # The words up to the cursor, without the quotes that they were typed with.

@@ -3,20 +3,20 @@ use Rattle.std.proofs.Common.{◌≡◌, ◌==◌, ◌&&◌, ◌||◌, ℕ, Bool
 use Rattle.std.proofs.lemmas.Bool.{and_parts, cases_Bool, ne_eqb}
 use Rattle.std.proofs.lemmas.Bool.Decides.{Decides-eqb, nat_tests}
 use Rattle.std.specs.Char.{is_ascii_control}
-use Rattle.std.specs.List.{AllByRecursion}
+use Rattle.std.specs.List.{AllByRecursion, list_all}
 use Rattle.std.specs.Option.{option_and_then}
-use Rattle.cc_base.specs.Bytes.{backslash, line_feed, single_quote}
+use Rattle.cc_base.specs.Bytes.{backslash, line_feed}
 use Rattle.cc_base.specs.Found.{after}
 use Rattle.cc_base.proofs.Cases.{choose, option_cases}
 use Rattle.cc_base.proofs.Members.{AllByRecursion-weaker}
 use Rattle.cc_candidates.specs.declared.candidate.CompletionCandidate.{CompletionCandidate}
 use Rattle.cc_quote.specs.BashDouble.{is_double_marked}
 use Rattle.cc_quote.specs.Escapes.{marked}
-use Rattle.cc_replies.specs.BashWords.{BashWordsRead, OpenQuote, Bare, Single, Double, bare_read, bare_text, bare_word_read, bash_line_word, bash_text, bash_value_read, bash_word_line, double_read, exclamation, holds, holds_rest, home_start, is_bare_byte, is_bare_escaped, is_bare_marked, is_bash_insertable, is_double_kept, single_read, start_text, word_read}
+use Rattle.cc_replies.specs.BashWords.{BashWordsRead, OpenQuote, Bare, Single, Double, bare_read, bare_text, bare_word_read, bash_line_word, bash_text, bash_value_read, bash_word_line, double_read, exclamation, holds, holds_rest, home_start, is_bare_byte, is_bare_escaped, is_bare_marked, is_bash_insertable, is_double_kept, is_single_lost, single_read, start_text, word_read}
 use Rattle.cc_replies.specs.Reply.{lines_from}
 use Rattle.cc_replies.specs.SafeValues.{is_in_locale, is_safe_text, read_in_locale}
 use Rattle.cc_replies.proofs.FirstLines.{IsWithout}
-use Rattle.cc_replies.proofs.ReplyReadings.{marked_without, without}
+use Rattle.cc_replies.proofs.ReplyReadings.{false_not, marked_without, without}
 use Rattle.cc_replies.proofs.SafeReadings.{IsUncontrolled, ReadsLine, feed_first, lines_back, safe_uncontrolled, uncontrolled_without}
 
 -- ---- a text with backslashes
@@ -71,12 +71,13 @@ double_reads text h =
     marked_reads is_double_kept is_double_marked is_double_marked text
     (AllByRecursion-weaker (λ byte. (byte == exclamation) ≡ false) (IsHeld is_double_kept is_double_marked is_double_marked) double_held text h)
 
-single_reads : (text : List ℕ) → IsWithout single_quote text → single_read text ≡ Some text
+single_reads : (text : List ℕ) → list_all (λ byte. not (is_single_lost byte)) text ≡ true → single_read text ≡ Some text
 unfolding single_read
 single_reads [] h = refl
 single_reads (byte ∷ text) h =
-    ap (λ b. choose b None (option_map (λ word. byte ∷ word) (single_read text))) h.0
-    ∙ ap (option_map (λ word. byte ∷ word)) (single_reads text h.1)
+    let parts = and_parts (not (is_single_lost byte)) (list_all (λ byte. not (is_single_lost byte)) text) h in
+    ap (λ b. choose b None (option_map (λ word. byte ∷ word) (single_read text))) (false_not (is_single_lost byte) parts.0)
+    ∙ ap (option_map (λ word. byte ∷ word)) (single_reads text parts.1)
 
 -- ---- a bare word from its start
 
@@ -138,7 +139,7 @@ start_reads word h = elim (option_cases (after home_start word)) [
 
 text_reads : (kept : List ℕ) (quote : OpenQuote) (rest : List ℕ) → IsUncontrolled rest → holds quote rest ≡ true → bash_line_word kept quote (bash_text kept quote rest) ≡ Some rest
 unfolding bash_line_word bash_text bare_text
-text_reads kept Single rest h k = single_reads rest (without single_quote rest k)
+text_reads kept Single rest h k = single_reads rest k
 text_reads kept Double rest h k = double_reads rest (without exclamation rest k)
 text_reads [] Bare rest h k = start_reads rest h
 text_reads (byte ∷ kept) Bare rest h k = bare_reads rest h

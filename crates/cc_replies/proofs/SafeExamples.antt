@@ -78,7 +78,7 @@ bash_replies :
     (bash_words_reply false [] Bare hostile
     ≡ codes "x\\$\\(touch\\ hit\\)\na\\ b\nit\\'s\n\\!bang\n~/x\\ y\n\\~root\n-dash\n")
     × (bash_words_reply false [] Single hostile
-    ≡ codes "x$(touch hit)\na b\n!bang\n~/x y\n~root\n-dash\n")
+    ≡ codes "a b\n!bang\n~/x y\n~root\n-dash\n")
     × (bash_words_reply false [] Double hostile
     ≡ codes "x\\$(touch hit)\na b\nit's\n~/x y\n~root\n-dash\n")
     -- the part that bash keeps is not written again
@@ -103,7 +103,10 @@ bash_reads :
     × (bash_line_word (codes "img:") Bare (codes "~/x") ≡ None)
     × (bash_line_word (codes "img:") Bare (codes "1.2") ≡ Some (codes "1.2"))
     × (bash_line_word [] Bare (codes "ümlaut") ≡ Some (codes "ümlaut"))
-    × (bash_line_word [] Single (codes "x$(touch hit)\\") ≡ Some (codes "x$(touch hit)\\"))
+    × (bash_line_word [] Single (codes "x(touch hit)\\") ≡ Some (codes "x(touch hit)\\"))
+    -- a here-document replaces these, also between `'`
+    × (bash_line_word [] Single (codes "x$(touch hit)") ≡ None)
+    × (bash_line_word [] Single (codes "`hit`") ≡ None)
     × (bash_line_word [] Single (codes "it's") ≡ None)
     × (bash_line_word [] Double (codes "x\\$(touch hit)") ≡ Some (codes "x$(touch hit)"))
     × (bash_line_word [] Double (codes "x$(touch hit)") ≡ None)
@@ -112,7 +115,7 @@ bash_reads :
     × (bash_line_word [] Double (codes "a\\") ≡ None)
     × (bash_line_word [] Double (codes "\\`\\\\\\\"") ≡ Some (codes "`\\\""))
 unfolding bash_line_word bare_word_read bare_read double_read single_read word_read after
-bash_reads = (refl, refl, refl, refl, refl, refl, refl, refl, refl, refl, refl, refl, refl, refl, refl, refl, refl, refl, refl, refl, refl)
+bash_reads = (refl, refl, refl, refl, refl, refl, refl, refl, refl, refl, refl, refl, refl, refl, refl, refl, refl, refl, refl, refl, refl, refl, refl)
 
 -- ---- help texts, and shells that quote by themselves
 

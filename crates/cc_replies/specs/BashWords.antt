@@ -1,7 +1,7 @@
 -- The text that bash inserts into its line, and how bash reads it there.
 use Rattle.std.specs.Prelude.{◌≡◌, ℕ, Bool, true, false, not, ◌&&◌, ◌||◌, ◌==◌, List, [], ◌∷◌, ◌++◌, Option, Some, None, bytes_eq, codes, filter, flat_map, if◌then◌else◌, map, option_map}
 use Rattle.std.specs.Char.{is_ascii, is_ascii_alphanumeric}
-use Rattle.std.specs.List.{list_any}
+use Rattle.std.specs.List.{list_all, list_any}
 use Rattle.std.specs.Option.{option_and_then}
 use Rattle.cc_base.specs.Bytes as ascii
 use Rattle.cc_base.specs.Found.{after}
@@ -80,10 +80,15 @@ is_double_kept byte = not (is_double_marked byte || byte == exclamation)
 unfoldable pub double_read : List ℕ → Option (List ℕ)
 double_read line = word_read is_double_kept is_double_marked false line
 
--- between `'`: any byte except `'`
+-- Between `'`: any byte except `'`, and in a here-document, where quotes have no meaning, except for
+-- what is replaced there. bash does not tell a function that it is in one.
+abbrev pub is_single_lost : ℕ → Bool
+is_single_lost byte =
+    byte == ascii.single_quote || byte == ascii.dollar || byte == ascii.backtick
+
 unfoldable pub single_read : List ℕ → Option (List ℕ)
 single_read [] = Some []
-single_read (byte ∷ line) = elim (byte == ascii.single_quote) [
+single_read (byte ∷ line) = elim (is_single_lost byte) [
   | true ↦ None
   | false ↦ option_map (λ word. byte ∷ word) (single_read line)
 ]
@@ -127,11 +132,11 @@ bash_word_line kept quote value = elim (after kept value) [
   | None ↦ []
 ]
 
--- The text can be written in the open quote: a `'` would end `'`, and between `"` nothing keeps
--- bash from replacing `!`.
+-- The text can be written in the open quote. A `'` would end `'`, and nothing keeps a here-document
+-- from replacing `$` and a backtick there. Between `"` nothing keeps bash from replacing `!`.
 abbrev pub holds : OpenQuote → List ℕ → Bool
 holds Bare rest = true
-holds Single rest = is_without ascii.single_quote rest
+holds Single rest = list_all (λ byte. not (is_single_lost byte)) rest
 holds Double rest = is_without exclamation rest
 
 abbrev pub holds_rest : OpenQuote → Option (List ℕ) → Bool

@@ -83,9 +83,9 @@ safe_zsh_reply ascii_only candidates =
 abbrev pub zsh_kept : Bool → Shown → Option Shown
 zsh_kept ascii_only item = if is_zsh_kept ascii_only item.value then Some item else None
 
--- The item of a line. zsh quotes the value letter by letter. In UTF-8, and if each byte is one
--- letter, no other value comes of that, except where its line takes a letter for a byte. In any
--- other locale, `ascii_only`, this is known of ASCII alone, and no other value is read.
+-- The item of a line. zsh quotes the value letter by letter. In UTF-8 the value stays as it is,
+-- except where the line takes a letter for a byte. In any other locale, `ascii_only`, this is known
+-- of ASCII alone, and no other value is read.
 unfoldable pub zsh_item_read : Bool → List ℕ → Option Shown
 zsh_item_read ascii_only line =
     option_and_then (zsh_kept ascii_only) (shown_from [] (marks line))

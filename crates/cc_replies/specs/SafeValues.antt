@@ -24,9 +24,9 @@ begins_control byte rest = is_ascii_control byte || byte == 194 && ends_control 
 abbrev pub is_safe_text : List ℕ → Bool
 is_safe_text text = not (length text == 0) && not (is_found begins_control text)
 
--- A locale may take two bytes for one letter, and the second of them for no sign of its own: in GBK
--- that is a backslash after a letter's byte. In UTF-8, and if each byte is one letter, there is no
--- such pair. In other locales, `ascii_only`, only a text of ASCII is certain to stay as it is.
+-- In some locales a byte of a letter and the backslash after it are one letter, as in GBK, so the
+-- backslash escapes nothing. In UTF-8 there is no such pair. In the locales for which a shell asks for
+-- `ascii_only`, only a text of ASCII is certain to stay as it is.
 abbrev pub is_in_locale : Bool → List ℕ → Bool
 is_in_locale ascii_only text = not ascii_only || list_all is_ascii text
 

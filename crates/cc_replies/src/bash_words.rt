@@ -1,13 +1,14 @@
 //! The reply to bash: values as they appear in bash's line. bash inserts each of them unchanged.
 
-ghost use Rattle.std.specs.Prelude.{◌≡◌, IfErr};
+ghost use Rattle.std.specs.Prelude.{◌≡◌, IfErr, not};
+ghost use Rattle.std.specs.List.{list_all};
 ghost use Rattle.std.specs.Option.{option_copied};
 ghost use Rattle.cc_base.specs.Found.{after};
 ghost use Rattle.cc_base.specs.Writes.{IsWrite, Writes, as_write};
 ghost use Rattle.cc_quote.specs.Escapes.{backslashed};
 ghost use Rattle.cc_replies.specs.BashWords.{BashWordsRead, bare_text, bash_text};
 ghost use Rattle.cc_replies.specs.BashWords.{bash_words_reply, holds, holds_rest, is_bare_marked};
-ghost use Rattle.cc_replies.specs.BashWords.{is_double, open_quote, start_text};
+ghost use Rattle.cc_replies.specs.BashWords.{is_double, is_single_lost, open_quote, start_text};
 
 use crate::readable::is_without;
 use crate::reply_lines::{ReplyLines, put_each};
@@ -55,8 +56,9 @@ impl OpenQuote {
 /// `kept`, which bash keeps, escaped for the open `quote`.
 ///
 /// Leaves out a value that is empty, has a control character, does not begin with the part that
-/// bash keeps, or cannot be written in the open quote: a `'` after `'`, a `!` after `"`. Leaves out
-/// a value that is not ASCII if bash's locale is safe for `ascii_only`.
+/// bash keeps, or cannot be written in the open quote: with a `'`, a `$` or a backtick after `'`,
+/// with a `!` after `"`. Leaves out a value that is not ASCII if bash's locale is safe for
+/// `ascii_only`.
 ///
 /// # Errors
 ///
@@ -132,9 +134,17 @@ fn holds(quote: OpenQuote, rest: &str) -> bool
 {
     match quote {
         OpenQuote::Bare => true,
-        OpenQuote::Single => is_without(rest, b'\''),
+        OpenQuote::Single => is_kept_in_single(rest.as_bytes()),
         OpenQuote::Double => is_without(rest, b'!'),
     }
+}
+
+// Returns whether the text stays as it is between two `'`, also in a here-document.
+fn is_kept_in_single(text: &[u8]) -> bool
+    ensures { result ≡ list_all (λ byte. not (is_single_lost byte)) text.now }
+{
+    text.iter()
+        .all(|byte| !matches!(*byte, b'\'' | b'$' | b'`'))
 }
 
 // Returns the text after `beginning`, or `None` if the text does not begin with it.
