@@ -93,7 +93,7 @@ size_t lagvtsune_script(const uint8_t *shell, size_t shell_length,
  * alternating:
  *
  * - `COMPLETE` makes the request, and its value names the shell.
- * - `_COMPLGEN_VALUES`, `_COMPLGEN_KEPT` and `_COMPLGEN_QUOTE` have the values that the
+ * - `_COMPLGEN_VALUES`, `_COMPLGEN_ASCII`, `_COMPLGEN_KEPT` and `_COMPLGEN_QUOTE` have the values that the
  *   registration sets. A registration of the original's form sets `_CLAP_COMPLETE_INDEX` and
  *   `_CLAP_IFS` instead.
  * - `COMPLGEN_COMMANDS` turns off the commands of `values_from` if it is `0`.

@@ -169,20 +169,23 @@ replied_between taken failed before after Wants Offers result old new words numb
     (subst (λ b. Replies taken failed result old new before after (WantsThese words number) Offers
     (reply b)) same r)
 
--- the same of a reply to a safe request, whose kept part and quote have other names
+-- the same of a reply to a safe request, whose locale, kept part and quote have other names
 pub replied_safely : {S : Type 0} (taken : S → List ℕ) (failed : S → Failures)
     (before after : Tree) (Wants : List (List ℕ) → ℕ → Type 0)
     (Offers : List (List ℕ) → ℕ → List CompletionCandidate → Type 0)
     (result : Result (Unit {0}) Error) (old new : S) (words : List (List ℕ)) (number : ℕ)
-    (shell : Builtin) (kept known_kept : List ℕ) (quote known_quote : OpenQuote)
-    → kept ≡ known_kept → quote ≡ known_quote → Wants words number
-    → Replies taken failed result old new before after (WantsThese words number) Offers (safe_reply shell kept quote)
-    → Replies taken failed result old new before after Wants Offers (safe_reply shell known_kept known_quote)
-replied_safely taken failed before after Wants Offers result old new words number shell kept
-    known_kept quote known_quote same_kept same_quote wants r =
+    (shell : Builtin) (ascii_only known_only : Bool) (kept known_kept : List ℕ)
+    (quote known_quote : OpenQuote)
+    → ascii_only ≡ known_only → kept ≡ known_kept → quote ≡ known_quote → Wants words number
+    → Replies taken failed result old new before after (WantsThese words number) Offers (safe_reply shell ascii_only kept quote)
+    → Replies taken failed result old new before after Wants Offers (safe_reply shell known_only known_kept known_quote)
+replied_safely taken failed before after Wants Offers result old new words number shell ascii_only
+    known_only kept known_kept quote known_quote same_only same_kept same_quote wants r =
     replied_as_wanted taken failed before after Wants Offers
-    (safe_reply shell known_kept known_quote) result old new words number wants
+    (safe_reply shell known_only known_kept known_quote) result old new words number wants
+    (subst (λ o. Replies taken failed result old new before after (WantsThese words number) Offers
+    (safe_reply shell o known_kept known_quote)) same_only
     (subst (λ k. Replies taken failed result old new before after (WantsThese words number) Offers
-    (safe_reply shell k known_quote)) same_kept
+    (safe_reply shell ascii_only k known_quote)) same_kept
     (subst (λ q. Replies taken failed result old new before after (WantsThese words number) Offers
-    (safe_reply shell kept q)) same_quote r))
+    (safe_reply shell ascii_only kept q)) same_quote r)))

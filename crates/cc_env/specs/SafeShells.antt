@@ -13,8 +13,8 @@ use Rattle.cc_registrations.specs.SafeElvish.{SafeElvishReads, safe_elvish}
 use Rattle.cc_registrations.specs.SafeFish.{SafeFishReads, safe_fish}
 use Rattle.cc_registrations.specs.SafePowershell.{SafePowershellReads, safe_powershell}
 use Rattle.cc_registrations.specs.SafeZsh.{SafeZshReads, safe_zsh}
-use Rattle.cc_replies.specs.BashWords.{BashWordsRead, bash_words_reply}
-use Rattle.cc_replies.specs.Environment.{asks_safely, kept_of, quote_of}
+use Rattle.cc_replies.specs.BashWords.{BashWordsRead, bash_words_reply, is_double}
+use Rattle.cc_replies.specs.Environment.{asks_safely, ascii_only_of, kept_of, quote_of}
 use Rattle.cc_replies.specs.PowershellWords.{PowershellWordsRead, powershell_words_reply}
 use Rattle.cc_replies.specs.SafeReplies.{SafeLinesRead, SafeValuesRead, SafeZshRead}
 use Rattle.cc_replies.specs.SafeReplies.{safe_lines_reply, safe_values_reply, safe_zsh_reply}
@@ -50,21 +50,23 @@ SafeReads Zsh variable name bins completer = SafeZshReads variable name bins com
 
 -- ---- replies
 
--- the reply of some candidates; bash has kept this text of the word, and this quote is open there
-abbrev pub safe_reply : Builtin → List ℕ → OpenQuote → List CompletionCandidate → List ℕ
-safe_reply Bash kept quote found = bash_words_reply kept quote found
-safe_reply Elvish kept quote found = safe_values_reply found
-safe_reply Fish kept quote found = safe_lines_reply found
-safe_reply Powershell kept quote found = powershell_words_reply found
-safe_reply Zsh kept quote found = safe_zsh_reply found
+-- The reply of some candidates. In bash and zsh, the locale may be safe for ASCII only. bash has
+-- kept this text of the word, and this quote is open there. In PowerShell, the quote is `"` if a `"`
+-- reaches programs.
+abbrev pub safe_reply : Builtin → Bool → List ℕ → OpenQuote → List CompletionCandidate → List ℕ
+safe_reply Bash ascii_only kept quote found = bash_words_reply ascii_only kept quote found
+safe_reply Elvish ascii_only kept quote found = safe_values_reply found
+safe_reply Fish ascii_only kept quote found = safe_lines_reply found
+safe_reply Powershell ascii_only kept quote found = powershell_words_reply (is_double quote) found
+safe_reply Zsh ascii_only kept quote found = safe_zsh_reply ascii_only found
 
 -- its reading
-abbrev pub SafeReplyReads : Builtin → List ℕ → OpenQuote → List CompletionCandidate → Type 0
-SafeReplyReads Bash kept quote found = BashWordsRead kept quote found
-SafeReplyReads Elvish kept quote found = SafeValuesRead found
-SafeReplyReads Fish kept quote found = SafeLinesRead found
-SafeReplyReads Powershell kept quote found = PowershellWordsRead found
-SafeReplyReads Zsh kept quote found = SafeZshRead found
+abbrev pub SafeReplyReads : Builtin → Bool → List ℕ → OpenQuote → List CompletionCandidate → Type 0
+SafeReplyReads Bash ascii_only kept quote found = BashWordsRead ascii_only kept quote found
+SafeReplyReads Elvish ascii_only kept quote found = SafeValuesRead found
+SafeReplyReads Fish ascii_only kept quote found = SafeLinesRead found
+SafeReplyReads Powershell ascii_only kept quote found = PowershellWordsRead (is_double quote) found
+SafeReplyReads Zsh ascii_only kept quote found = SafeZshRead ascii_only found
 
 -- ---- requests
 
@@ -76,12 +78,14 @@ wanted_when false shell env words wanted index = (builtin_spec shell).Wants env 
 
 -- the reply, by the same choice
 abbrev pub reply_when : Bool → Builtin → EnvValues → List CompletionCandidate → List ℕ
-reply_when true shell env found = safe_reply shell (kept_of env) (quote_of env) found
+reply_when true shell env found =
+    safe_reply shell (ascii_only_of env) (kept_of env) (quote_of env) found
 reply_when false shell env found = (builtin_spec shell).reply env found
 
 -- the reading of the reply, by the same choice
 abbrev pub ReplyReadsWhen : Bool → Builtin → EnvValues → List CompletionCandidate → Type 0
-ReplyReadsWhen true shell env found = SafeReplyReads shell (kept_of env) (quote_of env) found
+ReplyReadsWhen true shell env found =
+    SafeReplyReads shell (ascii_only_of env) (kept_of env) (quote_of env) found
 ReplyReadsWhen false shell env found = (builtin_spec shell).ReplyReads env found
 
 -- the specification of a safe adapter

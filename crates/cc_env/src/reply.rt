@@ -77,23 +77,27 @@ impl ReplyFormat for Lines {
 pub(crate) struct SafeReply<'s> {
     /// The shell.
     pub(crate) shell: Builtin,
+    /// Whether the shell's locale is safe for nothing but ASCII.
+    pub(crate) ascii_only: bool,
     /// The text that bash has kept of the word.
     pub(crate) kept: &'s str,
-    /// The quote that is open there.
+    /// The quote that is open there; in PowerShell `"` if a `"` reaches programs.
     pub(crate) quote: OpenQuote,
 }
 
 impl ReplyFormat for SafeReply<'_> {
     ghost text = { λ format found.
-        safe_reply format.shell format.kept.now format.quote found };
+        safe_reply format.shell format.ascii_only format.kept.now format.quote found };
 
     fn write<W: Sink>(&self, found: &[CompletionCandidate], sink: &mut W) -> Result<(), Error> {
         match self.shell {
-            Builtin::Bash => write_bash_words(sink, self.kept, self.quote, found),
+            Builtin::Bash => {
+                write_bash_words(sink, self.ascii_only, self.kept, self.quote, found)
+            }
             Builtin::Elvish => write_safe_values(sink, found),
             Builtin::Fish => write_safe_lines(sink, found),
-            Builtin::Powershell => write_powershell_words(sink, found),
-            Builtin::Zsh => write_safe_zsh_items(sink, found),
+            Builtin::Powershell => write_powershell_words(sink, self.quote.is_double(), found),
+            Builtin::Zsh => write_safe_zsh_items(sink, self.ascii_only, found),
         }
     }
 }

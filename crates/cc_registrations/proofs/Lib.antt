@@ -4,6 +4,8 @@ mod Examples
 pub mod FishReadings
 pub mod Identifiers
 pub mod ListedNames
+pub mod Marks
+pub mod PlainReadings
 pub mod PowershellReadings
 pub mod QuotedNames
 pub mod Regrouped
@@ -12,6 +14,7 @@ pub mod SafeElvishReadings
 mod SafeExamples
 pub mod SafeFishReadings
 pub mod SafePowershellReadings
+pub mod SafeTextReadings
 pub mod SafeZshReadings
 pub mod Underscored
 pub mod ZshReadings

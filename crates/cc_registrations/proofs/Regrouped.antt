@@ -1,12 +1,12 @@
 -- The parts of a registration, bracketed from the right.
 use Rattle.std.proofs.Common.{◌≡◌, ℕ, List, ◌++◌, append_assoc}
 
--- the parts for POSIX shells and fish: a line of four, a function of five, the completer and the
+-- the parts for POSIX shells and fish: a line of five, and a function of five, the completer and the
 -- end
-pub regroup_eleven : (a b c d e f g h i j k : List ℕ)
-    → ((((a ++ b) ++ c) ++ d) ++ ((((e ++ f) ++ g) ++ h) ++ i) ++ j) ++ k
-    ≡ a ++ (b ++ (c ++ (d ++ (e ++ (f ++ (g ++ (h ++ (i ++ (j ++ k)))))))))
-regroup_eleven a b c d e f g h i j k = simp append_assoc
+pub regroup_twelve : (a b c d e f g h i j k l : List ℕ)
+    → ((((a ++ b) ++ c) ++ d) ++ e) ++ ((((((f ++ g) ++ h) ++ i) ++ j) ++ k) ++ l)
+    ≡ a ++ (b ++ (c ++ (d ++ (e ++ (f ++ (g ++ (h ++ (i ++ (j ++ (k ++ l))))))))))
+regroup_twelve a b c d e f g h i j k l = simp append_assoc
 
 -- the parts for Elvish
 pub regroup_seven : (a b c d e f g : List ℕ)

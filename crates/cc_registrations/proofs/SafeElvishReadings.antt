@@ -7,11 +7,11 @@ use Rattle.cc_base.specs.Joined.{joined}
 use Rattle.cc_base.proofs.Finding.{past_free, past_lacking}
 use Rattle.cc_quote.specs.ElvishQuote.{elvish_word_of}
 use Rattle.cc_quote.specs.QuotedWord.{line_feeds_as_spaces}
-use Rattle.cc_registrations.specs.Names.{elvish_quoted, identifier, is_identifier_byte, quoted_by}
+use Rattle.cc_registrations.specs.Names.{before_space, elvish_quoted, ending_at, identifier, is_identifier_byte, quoted_by, spaced}
 use Rattle.cc_registrations.specs.SafeElvish.{names_begin, function_head, call_begins, call_ends, registration_front, safe_elvish, safe_elvish_names, safe_elvish_binaries, safe_elvish_function, safe_elvish_variable, safe_elvish_completer, SafeElvishReads}
 use Rattle.cc_registrations.proofs.Identifiers.{identifier_lacks}
 use Rattle.cc_registrations.proofs.ListedNames.{ReadsWords, listed}
-use Rattle.cc_registrations.proofs.QuotedNames.{elvish_before, elvish_quoted_before, elvish_ends_at_bracket, elvish_ends_at_space}
+use Rattle.cc_registrations.proofs.QuotedNames.{elvish_quoted_before, elvish_ends_at_bracket, elvish_ends_at_space}
 use Rattle.cc_registrations.proofs.Regrouped.{regroup_seven}
 
 module _ (variable name : List ℕ) (bins : List (List ℕ)) (completer : List ℕ) where
@@ -44,15 +44,15 @@ module _ (variable name : List ℕ) (bins : List (List ℕ)) (completer : List �
     is_some = omega arith;
   }
 
-  names_found : safe_elvish_names (safe_elvish variable name bins completer) ≡ Some (map line_feeds_as_spaces bins, function)
+  names_found : safe_elvish_names (safe_elvish variable name bins completer) ≡ Some (map line_feeds_as_spaces bins, drop 1 function)
   unfolding safe_elvish_names after_mark after with_front cut_at names_begin function_head
-  names_found = ap safe_elvish_names in_turn ∙ listed reads bins
+  names_found = ap safe_elvish_names in_turn ∙ ap (option_and_then (ending_at (codes "]"))) (listed reads bins)
 
   binaries_found : safe_elvish_binaries (safe_elvish variable name bins completer) ≡ Some (map line_feeds_as_spaces bins)
   unfolding safe_elvish_binaries
   binaries_found = ap (option_map (λ listed. listed.0)) names_found
 
-  function_found : safe_elvish_function (safe_elvish variable name bins completer) ≡ Some function
+  function_found : safe_elvish_function (safe_elvish variable name bins completer) ≡ Some (drop 1 function)
   unfolding safe_elvish_function
   function_found = ap (option_map (λ listed. listed.1)) names_found
 
@@ -60,7 +60,7 @@ module _ (variable name : List ℕ) (bins : List (List ℕ)) (completer : List �
   unfolding safe_elvish_variable between up_to after_mark after with_front cut_at function_head call_begins is_identifier_byte
   variable_found =
       let ending = codes "=elvish " in
-      ap (option_and_then (between (codes " env ") ending)) function_found
+      ap (option_and_then (between (codes " e:env ") ending)) function_found
       ∙ ap (option_map (λ c. c.0)) (past_lacking equals (drop 1 ending) v (call_begins ++ completed) (identifier_lacks equals variable refl))
       ∙ ap Some (append-nil v)
 
@@ -69,11 +69,13 @@ module _ (variable name : List ℕ) (bins : List (List ℕ)) (completer : List �
   completer_found =
       let mark = codes "=$values " in
       let rest = drop 1 call_ends in
-      ap (option_and_then (word_after elvish_word_of mark)) function_found
-      ∙ ap (λ found. option_and_then (word_by elvish_word_of) (option_map (λ c. c.1) found))
-      (past_free mark function_head (v ++ (call_begins ++ completed)) refl
-      ∙ ap (with_front function_head) (past_lacking equals (drop 1 mark) v (call_begins ++ completed) (identifier_lacks equals variable refl)))
-      ∙ ap (option_map (λ read. read.0)) (elvish_before space rest (elvish_ends_at_space rest) completer)
+      let head = drop 1 function_head in
+      let reader = before_space (quoted_by elvish_word_of) in
+      ap (option_and_then (word_after reader mark)) function_found
+      ∙ ap (λ found. option_and_then (word_by reader) (option_map (λ c. c.1) found))
+      (past_free mark head (v ++ (call_begins ++ completed)) refl
+      ∙ ap (with_front head) (past_lacking equals (drop 1 mark) v (call_begins ++ completed) (identifier_lacks equals variable refl)))
+      ∙ ap (λ read. option_map (λ read. read.0) (option_and_then spaced read)) (elvish_quoted_before space rest (elvish_ends_at_space rest) completer)
 
 pub safe_elvish_reads : (variable name : List ℕ) (bins : List (List ℕ)) (completer : List ℕ) → SafeElvishReads variable name bins completer
 safe_elvish_reads variable name bins completer = record {

@@ -1,5 +1,5 @@
 -- Examples of how safe registrations are read.
-use Rattle.std.proofs.Common.{◌≡◌, List, [], ◌∷◌, ℕ, Option, Some, refl, codes}
+use Rattle.std.proofs.Common.{◌≡◌, List, [], ◌∷◌, ℕ, Option, Some, None, map, refl, codes}
 use Rattle.cc_base.specs.Found.{after, with_front, cut_at, up_to, after_mark, between, without_blanks, word_by, word_after}
 use Rattle.cc_quote.specs.FishQuote.{is_fish_safe, fish_sign, fish_quoted}
 use Rattle.cc_quote.specs.PosixQuote.{posix_word_from, posix_word_of, is_posix_safe, is_posix_safe_word, posix_quoted}
@@ -7,6 +7,8 @@ use Rattle.cc_quote.specs.PosixSigns.{sign, byte_of}
 use Rattle.cc_quote.specs.PowershellQuote.{sign_before, powershell_signs}
 use Rattle.cc_quote.specs.Signs.{sign as quoting_sign}
 use Rattle.cc_registrations.specs.Names.{is_identifier_byte, identifier_byte, identifier, elvish_quoted, powershell_quoted}
+use Rattle.cc_registrations.specs.PlainWords.{is_plain_from, is_posix_plain, posix_next_place, posix_plain_word, is_fish_plain, fish_next_place, fish_plain_word}
+use Rattle.cc_registrations.specs.SafeText.{names_line, function_front, function_text, safe_text, safe_name, safe_names, safe_binaries, safe_function, safe_variable, safe_completer}
 use Rattle.cc_registrations.specs.SafeBash as bash
 use Rattle.cc_registrations.specs.SafeBash.{SafeBashReads}
 use Rattle.cc_registrations.specs.SafeZsh as zsh
@@ -27,7 +29,7 @@ unfolding is_identifier_byte identifier_byte
 identifier_row = refl
 
 bash_row : SafeBashReads (codes "V=$x") (codes "my name") odd_bins (codes "/o'p $x | \\ COMPLETER \"a\\")
-unfolding odd_bins after with_front cut_at up_to after_mark between without_blanks word_by word_after is_identifier_byte identifier_byte posix_word_from posix_word_of sign byte_of is_posix_safe is_posix_safe_word posix_quoted bash.names_begin bash.names_follow bash.function_begins bash.function_head bash.call_begins bash.call_ends bash.names_line bash.function_front bash.safe_bash bash.safe_bash_name bash.safe_bash_names bash.safe_bash_binaries bash.safe_bash_function bash.safe_bash_variable bash.safe_bash_completer
+unfolding odd_bins after with_front cut_at up_to after_mark between without_blanks word_by word_after is_identifier_byte identifier_byte posix_word_from posix_word_of sign byte_of is_posix_safe is_posix_safe_word posix_quoted bash.function_head bash.call_begins bash.call_ends bash.bash_frame bash.bash_marks names_line function_front function_text safe_text safe_name safe_names safe_binaries safe_function safe_variable safe_completer is_plain_from posix_next_place is_posix_plain posix_plain_word
 bash_row = record {
   variable_read = refl;
   name_read = refl;
@@ -36,7 +38,7 @@ bash_row = record {
 }
 
 bash_empty_row : SafeBashReads (codes "V=$x") (codes "my name") [] (codes "/o'p $x | \\ COMPLETER \"a\\")
-unfolding odd_bins after with_front cut_at up_to after_mark between without_blanks word_by word_after is_identifier_byte identifier_byte posix_word_from posix_word_of sign byte_of is_posix_safe is_posix_safe_word posix_quoted bash.names_begin bash.names_follow bash.function_begins bash.function_head bash.call_begins bash.call_ends bash.names_line bash.function_front bash.safe_bash bash.safe_bash_name bash.safe_bash_names bash.safe_bash_binaries bash.safe_bash_function bash.safe_bash_variable bash.safe_bash_completer
+unfolding odd_bins after with_front cut_at up_to after_mark between without_blanks word_by word_after is_identifier_byte identifier_byte posix_word_from posix_word_of sign byte_of is_posix_safe is_posix_safe_word posix_quoted bash.function_head bash.call_begins bash.call_ends bash.bash_frame bash.bash_marks names_line function_front function_text safe_text safe_name safe_names safe_binaries safe_function safe_variable safe_completer is_plain_from posix_next_place is_posix_plain posix_plain_word
 bash_empty_row = record {
   variable_read = refl;
   name_read = refl;
@@ -45,7 +47,7 @@ bash_empty_row = record {
 }
 
 zsh_row : SafeZshReads (codes "V=$x") (codes "my name") odd_bins (codes "/o'p $x | \\ COMPLETER \"a\\")
-unfolding odd_bins after with_front cut_at up_to after_mark between without_blanks word_by word_after is_identifier_byte identifier_byte posix_word_from posix_word_of sign byte_of is_posix_safe is_posix_safe_word posix_quoted zsh.names_begin zsh.names_follow zsh.function_begins zsh.function_head zsh.call_begins zsh.call_ends zsh.names_line zsh.function_front zsh.safe_zsh zsh.safe_zsh_name zsh.safe_zsh_names zsh.safe_zsh_binaries zsh.safe_zsh_function zsh.safe_zsh_variable zsh.safe_zsh_completer
+unfolding odd_bins after with_front cut_at up_to after_mark between without_blanks word_by word_after is_identifier_byte identifier_byte posix_word_from posix_word_of sign byte_of is_posix_safe is_posix_safe_word posix_quoted zsh.function_head zsh.call_begins zsh.call_ends zsh.zsh_frame zsh.zsh_marks names_line function_front function_text safe_text safe_name safe_names safe_binaries safe_function safe_variable safe_completer is_plain_from posix_next_place is_posix_plain posix_plain_word
 zsh_row = record {
   variable_read = refl;
   name_read = refl;
@@ -54,7 +56,7 @@ zsh_row = record {
 }
 
 zsh_empty_row : SafeZshReads (codes "V=$x") (codes "my name") [] (codes "/o'p $x | \\ COMPLETER \"a\\")
-unfolding odd_bins after with_front cut_at up_to after_mark between without_blanks word_by word_after is_identifier_byte identifier_byte posix_word_from posix_word_of sign byte_of is_posix_safe is_posix_safe_word posix_quoted zsh.names_begin zsh.names_follow zsh.function_begins zsh.function_head zsh.call_begins zsh.call_ends zsh.names_line zsh.function_front zsh.safe_zsh zsh.safe_zsh_name zsh.safe_zsh_names zsh.safe_zsh_binaries zsh.safe_zsh_function zsh.safe_zsh_variable zsh.safe_zsh_completer
+unfolding odd_bins after with_front cut_at up_to after_mark between without_blanks word_by word_after is_identifier_byte identifier_byte posix_word_from posix_word_of sign byte_of is_posix_safe is_posix_safe_word posix_quoted zsh.function_head zsh.call_begins zsh.call_ends zsh.zsh_frame zsh.zsh_marks names_line function_front function_text safe_text safe_name safe_names safe_binaries safe_function safe_variable safe_completer is_plain_from posix_next_place is_posix_plain posix_plain_word
 zsh_empty_row = record {
   variable_read = refl;
   name_read = refl;
@@ -63,7 +65,7 @@ zsh_empty_row = record {
 }
 
 fish_row : SafeFishReads (codes "V=$x") (codes "my name") odd_bins (codes "/o'p $x | \\ COMPLETER \"a\\")
-unfolding odd_bins after with_front cut_at up_to after_mark between without_blanks word_by word_after is_identifier_byte identifier_byte is_fish_safe fish_sign fish_quoted fish.names_begin fish.names_follow fish.function_begins fish.function_head fish.call_begins fish.call_ends fish.names_line fish.function_front fish.safe_fish fish.safe_fish_name fish.safe_fish_names fish.safe_fish_binaries fish.safe_fish_function fish.safe_fish_variable fish.safe_fish_completer
+unfolding odd_bins after with_front cut_at up_to after_mark between without_blanks word_by word_after is_identifier_byte identifier_byte is_fish_safe fish_sign fish_quoted fish.function_head fish.call_begins fish.call_ends fish.fish_frame fish.fish_marks names_line function_front function_text safe_text safe_name safe_names safe_binaries safe_function safe_variable safe_completer is_plain_from fish_next_place is_fish_plain fish_plain_word
 fish_row = record {
   variable_read = refl;
   name_read = refl;
@@ -72,7 +74,7 @@ fish_row = record {
 }
 
 fish_empty_row : SafeFishReads (codes "V=$x") (codes "my name") [] (codes "/o'p $x | \\ COMPLETER \"a\\")
-unfolding odd_bins after with_front cut_at up_to after_mark between without_blanks word_by word_after is_identifier_byte identifier_byte is_fish_safe fish_sign fish_quoted fish.names_begin fish.names_follow fish.function_begins fish.function_head fish.call_begins fish.call_ends fish.names_line fish.function_front fish.safe_fish fish.safe_fish_name fish.safe_fish_names fish.safe_fish_binaries fish.safe_fish_function fish.safe_fish_variable fish.safe_fish_completer
+unfolding odd_bins after with_front cut_at up_to after_mark between without_blanks word_by word_after is_identifier_byte identifier_byte is_fish_safe fish_sign fish_quoted fish.function_head fish.call_begins fish.call_ends fish.fish_frame fish.fish_marks names_line function_front function_text safe_text safe_name safe_names safe_binaries safe_function safe_variable safe_completer is_plain_from fish_next_place is_fish_plain fish_plain_word
 fish_empty_row = record {
   variable_read = refl;
   name_read = refl;
@@ -123,19 +125,19 @@ some_bins = codes "git" ∷ codes "a'b" ∷ []
 bash_line :
     first_line (bash.safe_bash (codes "V") (codes "my-name") some_bins (codes "c"))
     ≡ Some (codes "complete -o nospace -o bashdefault -F _complgen_my_name -- git 'a'\\''b'")
-unfolding first_line some_bins after with_front cut_at up_to after_mark between without_blanks word_by word_after is_identifier_byte identifier_byte posix_word_from posix_word_of sign byte_of is_posix_safe is_posix_safe_word posix_quoted bash.names_begin bash.names_follow bash.function_begins bash.function_head bash.call_begins bash.call_ends bash.names_line bash.function_front bash.safe_bash bash.safe_bash_name bash.safe_bash_names bash.safe_bash_binaries bash.safe_bash_function bash.safe_bash_variable bash.safe_bash_completer
+unfolding first_line some_bins after with_front cut_at up_to after_mark between without_blanks word_by word_after is_identifier_byte identifier_byte posix_word_from posix_word_of sign byte_of is_posix_safe is_posix_safe_word posix_quoted bash.function_head bash.call_begins bash.call_ends bash.bash_frame bash.bash_marks names_line function_front function_text safe_text safe_name safe_names safe_binaries safe_function safe_variable safe_completer is_plain_from posix_next_place is_posix_plain posix_plain_word
 bash_line = refl
 
 zsh_line :
     first_line (zsh.safe_zsh (codes "V") (codes "my-name") some_bins (codes "c"))
     ≡ Some (codes "compdef _complgen_my_name git 'a'\\''b'")
-unfolding first_line some_bins after with_front cut_at up_to after_mark between without_blanks word_by word_after is_identifier_byte identifier_byte posix_word_from posix_word_of sign byte_of is_posix_safe is_posix_safe_word posix_quoted zsh.names_begin zsh.names_follow zsh.function_begins zsh.function_head zsh.call_begins zsh.call_ends zsh.names_line zsh.function_front zsh.safe_zsh zsh.safe_zsh_name zsh.safe_zsh_names zsh.safe_zsh_binaries zsh.safe_zsh_function zsh.safe_zsh_variable zsh.safe_zsh_completer
+unfolding first_line some_bins after with_front cut_at up_to after_mark between without_blanks word_by word_after is_identifier_byte identifier_byte posix_word_from posix_word_of sign byte_of is_posix_safe is_posix_safe_word posix_quoted zsh.function_head zsh.call_begins zsh.call_ends zsh.zsh_frame zsh.zsh_marks names_line function_front function_text safe_text safe_name safe_names safe_binaries safe_function safe_variable safe_completer is_plain_from posix_next_place is_posix_plain posix_plain_word
 zsh_line = refl
 
 fish_line :
     first_line (fish.safe_fish (codes "V") (codes "my-name") some_bins (codes "c"))
     ≡ Some (codes "complete --keep-order --exclusive --arguments \"(__complgen_my_name)\" --command git --command 'a\\'b'")
-unfolding first_line some_bins after with_front cut_at up_to after_mark between without_blanks word_by word_after is_identifier_byte identifier_byte is_fish_safe fish_sign fish_quoted fish.names_begin fish.names_follow fish.function_begins fish.function_head fish.call_begins fish.call_ends fish.names_line fish.function_front fish.safe_fish fish.safe_fish_name fish.safe_fish_names fish.safe_fish_binaries fish.safe_fish_function fish.safe_fish_variable fish.safe_fish_completer
+unfolding first_line some_bins after with_front cut_at up_to after_mark between without_blanks word_by word_after is_identifier_byte identifier_byte is_fish_safe fish_sign fish_quoted fish.function_head fish.call_begins fish.call_ends fish.fish_frame fish.fish_marks names_line function_front function_text safe_text safe_name safe_names safe_binaries safe_function safe_variable safe_completer is_plain_from fish_next_place is_fish_plain fish_plain_word
 fish_line = refl
 
 elvish_line :
@@ -149,3 +151,16 @@ powershell_line :
     ≡ Some (codes "Register-ArgumentCompleter -Native -CommandName 'git', 'a''b' -ScriptBlock {")
 unfolding first_line some_bins after with_front cut_at up_to after_mark between without_blanks word_by word_after is_identifier_byte identifier_byte powershell_quoted quoting_sign sign_before powershell_signs powershell.names_begin powershell.script_head powershell.variable_kept powershell.call_begins powershell.call_ends powershell.script_ends powershell.registration_head powershell.call powershell.registration_tail powershell.safe_powershell powershell.safe_powershell_names powershell.safe_powershell_binaries powershell.safe_powershell_script powershell.safe_powershell_variable powershell.safe_powershell_completer
 powershell_line = refl
+
+-- ---- words with a byte that does not stand for itself
+
+refused : List (List ℕ)
+refused = codes "a;b" ∷ codes "a$(b)" ∷ codes "`b`" ∷ codes "a|b" ∷ codes "a&" ∷ codes "*" ∷ codes "~a" ∷ codes "'a'$b" ∷ codes "\"$a\"" ∷ codes "a\\ b" ∷ []
+
+posix_refused : map posix_plain_word refused ≡ map (λ _. None) refused
+unfolding refused is_plain_from posix_next_place is_posix_plain posix_plain_word posix_word_from posix_word_of sign byte_of
+posix_refused = refl
+
+fish_refused : map fish_plain_word refused ≡ map (λ _. None) refused
+unfolding refused is_plain_from fish_next_place is_fish_plain fish_plain_word fish_sign
+fish_refused = refl

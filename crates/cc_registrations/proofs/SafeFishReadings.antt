@@ -1,114 +1,55 @@
 -- A safe registration for fish reads back.
-use Rattle.std.proofs.Common.{◌≡◌, ℕ, List, [], ◌∷◌, ◌++◌, Some, map, option_map, drop, codes, refl, ◌∙◌, ap, arith, append-nil}
-use Rattle.std.specs.Option.{option_and_then}
-use Rattle.cc_base.specs.Bytes.{equals, line_feed, space, close_parenthesis}
-use Rattle.cc_base.specs.Found.{after, after_mark, between, cut_at, up_to, with_front, without_blanks, word_after, word_by}
-use Rattle.cc_base.specs.Joined.{joined}
-use Rattle.cc_base.proofs.Finding.{past_free, past_lacking}
-use Rattle.cc_quote.specs.FishQuote.{fish_quoted, fish_sign, fish_word_of}
+use Rattle.std.proofs.Common.{ℕ, List, [], ◌∷◌, ◌++◌, option_map, drop, codes, refl, ◌∙◌, ap, arith}
+use Rattle.cc_base.specs.Bytes.{close_parenthesis, equals, space}
+use Rattle.cc_base.specs.Found.{after, after_mark, cut_at, up_to, with_front, word_by}
+use Rattle.cc_quote.specs.FishQuote.{fish_quoted, fish_sign}
 use Rattle.cc_quote.proofs.BeforeBlanks.{bare_first, fish_before_space}
-use Rattle.cc_registrations.proofs.QuotedNames.{fish_before_line_feed}
-use Rattle.cc_registrations.specs.Names.{identifier, is_identifier_byte, listed_by}
-use Rattle.cc_registrations.specs.SafeFish.{names_begin, names_follow, function_begins, function_head, call_begins, call_ends, names_line, function_front, safe_fish, safe_fish_name, safe_fish_names, safe_fish_binaries, safe_fish_function, safe_fish_variable, safe_fish_completer, SafeFishReads}
-use Rattle.cc_registrations.proofs.Identifiers.{identifier_lacks}
-use Rattle.cc_registrations.proofs.ListedNames.{ReadsWords, listed, map_same}
-use Rattle.cc_registrations.proofs.Regrouped.{regroup_eleven}
+use Rattle.cc_registrations.specs.Names.{identifier, is_identifier_byte}
+use Rattle.cc_registrations.specs.PlainWords.{fish_next_place, fish_plain_word, is_plain_from}
+use Rattle.cc_registrations.specs.SafeFish.{fish_frame, fish_marks, call_begins, call_ends, function_head, SafeFishReads}
+use Rattle.cc_registrations.proofs.ListedNames.{ReadsWords}
+use Rattle.cc_registrations.proofs.Marks.{ends_identifier, skips_free, skips_identifier}
+use Rattle.cc_registrations.proofs.PlainReadings.{fish_plain_line_feed, fish_plain_space}
+use Rattle.cc_registrations.proofs.SafeTextReadings.{IsMarked, reads_safely}
 
-module _ (variable name : List ℕ) (bins : List (List ℕ)) (completer : List ℕ) where
-  abbrev n : List ℕ
-  n = identifier name
+reads_names : (rest : List ℕ) → ReadsWords fish_quoted (λ text. text) fish_plain_word (codes " --command ") 10 rest
+unfolding after fish_plain_word fish_next_place is_plain_from fish_sign
+reads_names rest = record {
+  before_more = λ word more. fish_plain_space word (codes "--command " ++ more);
+  before_end = λ word. fish_plain_line_feed word rest;
+  skips = λ more. refl;
+  no_more = refl;
+  no_word = refl;
+  is_some = omega arith;
+}
 
-  abbrev v : List ℕ
-  v = identifier variable
-
-  abbrev names : List ℕ
-  names = joined (codes " --command ") (map fish_quoted bins)
-
-  -- the text from the completer on
-  abbrev completed : List ℕ
-  completed = fish_quoted completer ++ call_ends
-
-  -- the text from the variable on
-  abbrev called : List ℕ
-  called = v ++ (call_begins ++ completed)
-
-  -- the text after the programs
-  abbrev function : List ℕ
-  function = function_begins ++ (n ++ (function_head ++ called))
-
-  in_turn : safe_fish variable name bins completer ≡ names_begin ++ (n ++ (names_follow ++ (names ++ function)))
-  unfolding safe_fish names_line function_front
-  in_turn = regroup_eleven names_begin n names_follow names function_begins n function_head v call_begins (fish_quoted completer) call_ends
-
-  name_found : safe_fish_name (safe_fish variable name bins completer) ≡ Some n
-  unfolding safe_fish_name between up_to after_mark after with_front cut_at names_begin names_follow is_identifier_byte
-  name_found =
-      ap safe_fish_name in_turn
-      ∙ ap (option_map (λ c. c.0)) (past_lacking close_parenthesis [] n (names_follow ++ (names ++ function)) (identifier_lacks close_parenthesis name refl))
-      ∙ ap Some (append-nil n)
-
-  reads : ReadsWords fish_quoted (λ text. text) fish_word_of (codes " --command ") line_feed (drop 1 function)
-  unfolding after function_begins fish_sign
-  reads = record {
-    before_more = λ word more. (fish_before_space word (codes "--command " ++ more)).1;
-    before_end = λ word. fish_before_line_feed word (drop 1 function);
-    skips = λ more. refl;
-    no_more = refl;
-    no_word = refl;
-    is_some = omega arith;
-  }
-
-  names_found : safe_fish_names (safe_fish variable name bins completer) ≡ Some (bins, function)
-  unfolding safe_fish_names after_mark after with_front cut_at names_begin names_follow function_begins is_identifier_byte
-  names_found =
-      let mark = codes " --command " in
-      ap safe_fish_names in_turn
-      ∙ ap (λ found. option_and_then (listed_by fish_word_of mark) (option_map (λ c. c.1) found))
-      (past_free mark names_begin (n ++ (names_follow ++ (names ++ function))) refl
-      ∙ ap (with_front names_begin) (past_lacking space (drop 1 mark) n (names_follow ++ (names ++ function)) (identifier_lacks space name refl)))
-      ∙ listed reads bins
-      ∙ ap (λ ws. Some (ws, function)) (map_same bins)
-
-  binaries_found : safe_fish_binaries (safe_fish variable name bins completer) ≡ Some bins
-  unfolding safe_fish_binaries
-  binaries_found = ap (option_map (λ listed. listed.0)) names_found
-
-  function_found : safe_fish_function (safe_fish variable name bins completer) ≡ Some function
-  unfolding safe_fish_function
-  function_found = ap (option_map (λ listed. listed.1)) names_found
-
-  variable_found : safe_fish_variable (safe_fish variable name bins completer) ≡ Some v
-  unfolding safe_fish_variable between up_to after_mark after with_front cut_at function_begins function_head call_begins is_identifier_byte
-  variable_found =
-      let mark = codes " | \\\n            " in
-      let ending = codes "=fish " in
-      let up_to_end = option_and_then (up_to ending) in
-      ap (option_and_then (between mark ending)) function_found
-      ∙ ap (λ found. up_to_end (option_map (λ c. c.1) found))
-      (past_free mark function_begins (n ++ (function_head ++ called)) refl
-      ∙ ap (with_front function_begins) (past_lacking space (drop 1 mark) n (function_head ++ called) (identifier_lacks space name refl)))
-      ∙ ap (option_map (λ c. c.0)) (past_lacking equals (drop 1 ending) v (call_begins ++ completed) (identifier_lacks equals variable refl))
-      ∙ ap Some (append-nil v)
-
-  completer_found : safe_fish_completer (safe_fish variable name bins completer) ≡ Some completer
-  unfolding safe_fish_completer word_after after_mark after with_front cut_at word_by without_blanks function_begins function_head call_begins call_ends is_identifier_byte
-  completer_found =
-      let mark = codes "=$values " in
-      let rest = drop 1 call_ends in
-      let read = fish_before_space completer rest in
-      ap (option_and_then (word_after fish_word_of mark)) function_found
-      ∙ ap (λ found. option_and_then (word_by fish_word_of) (option_map (λ c. c.1) found))
-      (past_free mark function_begins (n ++ (function_head ++ called)) refl
-      ∙ ap (with_front function_begins) (past_lacking equals (drop 1 mark) n (function_head ++ called) (identifier_lacks equals name refl))
-      ∙ ap (λ found. with_front function_begins (with_front n found)) (past_free mark function_head called refl)
-      ∙ ap (λ found. with_front function_begins (with_front n (with_front function_head found))) (past_lacking equals (drop 1 mark) v (call_begins ++ completed) (identifier_lacks equals variable refl)))
-      ∙ ap (λ text. option_map (λ read. read.0) (fish_word_of text)) (bare_first (fish_quoted completer ++ space ∷ rest) read.0)
-      ∙ ap (option_map (λ read. read.0)) read.1
+fits : IsMarked fish_frame fish_marks
+unfolding fish_frame fish_marks function_head call_begins call_ends after_mark up_to after with_front cut_at word_by is_identifier_byte
+fits =
+    let of_names : List ℕ = codes " --command " in
+    let of_variable : List ℕ = codes " | \\\n            " in
+    let of_completer : List ℕ = codes "=$values " in
+    let begins : List ℕ = codes "function __complgen_" in
+    record {
+      begins_name = λ rest. refl;
+      ends_name = λ name rest. ends_identifier close_parenthesis [] name (fish_frame.names_follow ++ rest) refl refl;
+      begins_names = λ name rest. skips_identifier space (drop 1 of_names) name (fish_frame.names_follow ++ rest) refl;
+      same_between = refl;
+      reads_names = reads_names;
+      begins_variable = λ name rest.
+          skips_free of_variable begins (identifier name ++ (function_head ++ rest)) refl
+          ∙ skips_identifier space (drop 1 of_variable) name (function_head ++ rest) refl;
+      ends_variable = λ variable rest. ends_identifier equals (drop 1 (codes "=fish ")) variable (call_begins ++ rest) refl refl;
+      begins_completer = λ variable name rest.
+          skips_free of_completer begins (identifier name ++ (function_head ++ (identifier variable ++ (call_begins ++ rest)))) refl
+          ∙ skips_identifier equals (drop 1 of_completer) name (function_head ++ (identifier variable ++ (call_begins ++ rest))) refl
+          ∙ skips_free of_completer function_head (identifier variable ++ (call_begins ++ rest)) refl
+          ∙ skips_identifier equals (drop 1 of_completer) variable (call_begins ++ rest) refl;
+      reads_completer = λ completer.
+          let rest : List ℕ = drop 1 call_ends in
+          ap (λ text. option_map (λ read. read.0) (fish_plain_word text)) (bare_first (fish_quoted completer ++ space ∷ rest) (fish_before_space completer rest).0)
+          ∙ ap (option_map (λ read. read.0)) (fish_plain_space completer rest);
+    }
 
 pub safe_fish_reads : (variable name : List ℕ) (bins : List (List ℕ)) (completer : List ℕ) → SafeFishReads variable name bins completer
-safe_fish_reads variable name bins completer = record {
-  variable_read = variable_found variable name bins completer;
-  name_read = name_found variable name bins completer;
-  completer_read = completer_found variable name bins completer;
-  binaries_read = binaries_found variable name bins completer;
-}
+safe_fish_reads variable name bins completer = reads_safely fits variable name bins completer

@@ -7,11 +7,11 @@ use Rattle.cc_base.specs.Joined.{joined}
 use Rattle.cc_base.proofs.Finding.{past_free, past_lacking}
 use Rattle.cc_quote.specs.PowershellQuote.{powershell_word_of}
 use Rattle.cc_quote.specs.QuotedWord.{line_feeds_as_spaces}
-use Rattle.cc_registrations.specs.Names.{identifier, is_identifier_byte, powershell_quoted, quoted_by}
+use Rattle.cc_registrations.specs.Names.{before_space, ending_at, identifier, is_identifier_byte, powershell_quoted, quoted_by, spaced}
 use Rattle.cc_registrations.specs.SafePowershell.{names_begin, script_head, variable_kept, call_begins, call_ends, registration_head, call, registration_tail, safe_powershell, safe_powershell_names, safe_powershell_binaries, safe_powershell_script, safe_powershell_variable, safe_powershell_completer, SafePowershellReads}
 use Rattle.cc_registrations.proofs.Identifiers.{identifier_lacks}
 use Rattle.cc_registrations.proofs.ListedNames.{ReadsWords, listed}
-use Rattle.cc_registrations.proofs.QuotedNames.{powershell_before, powershell_quoted_before, powershell_ends_at_comma, powershell_ends_at_space}
+use Rattle.cc_registrations.proofs.QuotedNames.{powershell_quoted_before, powershell_ends_at_comma, powershell_ends_at_space}
 use Rattle.cc_registrations.proofs.Regrouped.{regroup_nine}
 
 module _ (variable name : List ℕ) (bins : List (List ℕ)) (completer : List ℕ) where
@@ -48,15 +48,15 @@ module _ (variable name : List ℕ) (bins : List (List ℕ)) (completer : List �
     is_some = omega arith;
   }
 
-  names_found : safe_powershell_names (safe_powershell variable name bins completer) ≡ Some (map line_feeds_as_spaces bins, script)
+  names_found : safe_powershell_names (safe_powershell variable name bins completer) ≡ Some (map line_feeds_as_spaces bins, drop 14 script)
   unfolding safe_powershell_names after_mark after with_front cut_at names_begin script_head
-  names_found = ap safe_powershell_names in_turn ∙ listed reads bins
+  names_found = ap safe_powershell_names in_turn ∙ ap (option_and_then (ending_at (codes " -ScriptBlock "))) (listed reads bins)
 
   binaries_found : safe_powershell_binaries (safe_powershell variable name bins completer) ≡ Some (map line_feeds_as_spaces bins)
   unfolding safe_powershell_binaries
   binaries_found = ap (option_map (λ listed. listed.0)) names_found
 
-  script_found : safe_powershell_script (safe_powershell variable name bins completer) ≡ Some script
+  script_found : safe_powershell_script (safe_powershell variable name bins completer) ≡ Some (drop 14 script)
   unfolding safe_powershell_script
   script_found = ap (option_map (λ listed. listed.1)) names_found
 
@@ -72,13 +72,15 @@ module _ (variable name : List ℕ) (bins : List (List ℕ)) (completer : List �
   completer_found =
       let mark = codes "| &" in
       let rest = drop 1 (registration_tail variable) in
-      ap (option_and_then (word_after powershell_word_of mark)) script_found
-      ∙ ap (λ found. option_and_then (word_by powershell_word_of) (option_map (λ c. c.1) found))
-      (past_free mark script_head (v ++ (variable_kept ++ called)) refl
-      ∙ ap (with_front script_head) (past_lacking 124 (drop 1 mark) v (variable_kept ++ called) (identifier_lacks 124 variable refl))
-      ∙ ap (λ found. with_front script_head (with_front v found)) (past_free mark variable_kept called refl)
-      ∙ ap (λ found. with_front script_head (with_front v (with_front variable_kept found))) (past_lacking 124 (drop 1 mark) v (call_begins ++ completed) (identifier_lacks 124 variable refl)))
-      ∙ ap (option_map (λ read. read.0)) (powershell_before space rest (powershell_ends_at_space rest) completer)
+      let head = drop 14 script_head in
+      let reader = before_space (quoted_by powershell_word_of) in
+      ap (option_and_then (word_after reader mark)) script_found
+      ∙ ap (λ found. option_and_then (word_by reader) (option_map (λ c. c.1) found))
+      (past_free mark head (v ++ (variable_kept ++ called)) refl
+      ∙ ap (with_front head) (past_lacking 124 (drop 1 mark) v (variable_kept ++ called) (identifier_lacks 124 variable refl))
+      ∙ ap (λ found. with_front head (with_front v found)) (past_free mark variable_kept called refl)
+      ∙ ap (λ found. with_front head (with_front v (with_front variable_kept found))) (past_lacking 124 (drop 1 mark) v (call_begins ++ completed) (identifier_lacks 124 variable refl)))
+      ∙ ap (λ read. option_map (λ read. read.0) (option_and_then spaced read)) (powershell_quoted_before space rest (powershell_ends_at_space rest) completer)
 
 pub safe_powershell_reads : (variable name : List ℕ) (bins : List (List ℕ)) (completer : List ℕ) → SafePowershellReads variable name bins completer
 safe_powershell_reads variable name bins completer = record {

@@ -2,10 +2,13 @@ pub mod BashRegistration
 pub mod ElvishRegistration
 pub mod FishRegistration
 pub mod Names
+pub mod PlainWords
 pub mod PowershellRegistration
+pub mod Quoted
 pub mod SafeBash
 pub mod SafeElvish
 pub mod SafeFish
 pub mod SafePowershell
+pub mod SafeText
 pub mod SafeZsh
 pub mod ZshRegistration

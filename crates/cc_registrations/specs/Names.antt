@@ -1,6 +1,7 @@
 -- Names in a registration.
 use Rattle.std.specs.Prelude.{ℕ, suc, zero, Bool, ◌||◌, ◌==◌, if◌then◌else◌, List, [], ◌∷◌, ◌++◌, map, length, Option, Some, None, option_map, codes}
 use Rattle.std.specs.Char.{is_ascii_alphanumeric}
+use Rattle.std.specs.Option.{option_and_then}
 use Rattle.cc_base.specs.Bytes.{dash, single_quote, underscore}
 use Rattle.cc_base.specs.Found.{after}
 use Rattle.cc_quote.specs.ElvishQuote.{elvish_escaped}
@@ -55,6 +56,18 @@ words_by reader between (suc most) text = elim (reader text) [
 abbrev pub listed_by : (List ℕ → Option (List ℕ × List ℕ)) → List ℕ → List ℕ
     → Option (List (List ℕ) × List ℕ)
 listed_by reader between text = words_by reader between (length text) text
+
+-- some words that end at a mark, and the text after the mark
+abbrev pub ending_at : List ℕ → List (List ℕ) × List ℕ → Option (List (List ℕ) × List ℕ)
+ending_at mark listed = option_map (λ rest. (listed.0, rest)) (after mark listed.1)
+
+-- a word and the rest, if the rest begins with a space
+abbrev pub spaced : List ℕ × List ℕ → Option (List ℕ × List ℕ)
+spaced read = elim (after (codes " ") read.1) [ Some _ ↦ Some read | None ↦ None ]
+
+-- the word with which a text begins, if a space follows it
+abbrev pub before_space : (List ℕ → Option (List ℕ × List ℕ)) → List ℕ → Option (List ℕ × List ℕ)
+before_space reader text = option_and_then spaced (reader text)
 
 -- the word with which a text begins, if it begins with `'`
 abbrev pub quoted_by : (List ℕ → Option (List ℕ × List ℕ)) → List ℕ → Option (List ℕ × List ℕ)

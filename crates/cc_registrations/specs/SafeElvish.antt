@@ -5,7 +5,7 @@ use Rattle.cc_base.specs.Found.{after_mark, between, word_after}
 use Rattle.cc_base.specs.Joined.{joined}
 use Rattle.cc_quote.specs.ElvishQuote.{elvish_word_of}
 use Rattle.cc_quote.specs.QuotedWord.{line_feeds_as_spaces}
-use Rattle.cc_registrations.specs.Names.{elvish_quoted, identifier, listed_by, quoted_by}
+use Rattle.cc_registrations.specs.Names.{before_space, elvish_quoted, ending_at, identifier, listed_by, quoted_by}
 
 -- ---- the text
 
@@ -20,7 +20,7 @@ function_head =
     ++ codes "    set edit:completion:arg-completer[$complgen-name] = {|@words|\n"
     ++ codes "        use str\n"
     ++ codes "        fn request {|values|\n"
-    ++ codes "            env "
+    ++ codes "            e:env "
 
 -- the text between the variable and the completer
 unfoldable pub call_begins : List ℕ
@@ -42,7 +42,7 @@ call_ends =
     ++ codes "            print $reply\n"
     ++ codes "        } elif (== $code 3) {\n"
     ++ codes "            var run = [(str:split \"\\v\" $reply)][..-1]\n"
-    ++ codes "            try { env -- $@run </dev/null 2>/dev/null } catch { } | request stdin\n"
+    ++ codes "            try { e:env -- $@run </dev/null 2>/dev/null } catch { } | request stdin\n"
     ++ codes "        }\n"
     ++ codes "    }\n"
     ++ codes "}\n"
@@ -65,10 +65,11 @@ safe_elvish variable name bins completer =
 
 -- ---- how it is read
 
--- the programs, which are quoted words after `[`, and the text after them
+-- the programs, which are quoted words after `[` and up to `]`, and the text after that
 unfoldable pub safe_elvish_names : List ℕ → Option (List (List ℕ) × List ℕ)
 safe_elvish_names text =
-    option_and_then (listed_by (quoted_by elvish_word_of) (codes " ")) (after_mark (codes "[") text)
+    option_and_then (ending_at (codes "]"))
+    (option_and_then (listed_by (quoted_by elvish_word_of) (codes " ")) (after_mark (codes "[") text))
 
 -- the programs
 unfoldable pub safe_elvish_binaries : List ℕ → Option (List (List ℕ))
@@ -78,15 +79,15 @@ safe_elvish_binaries text = option_map (λ listed. listed.0) (safe_elvish_names 
 unfoldable pub safe_elvish_function : List ℕ → Option (List ℕ)
 safe_elvish_function text = option_map (λ listed. listed.1) (safe_elvish_names text)
 
--- the variable: in the function, what `env` sets to `elvish`
+-- the variable: in the function, what `e:env` sets to `elvish`
 unfoldable pub safe_elvish_variable : List ℕ → Option (List ℕ)
 safe_elvish_variable text =
-    option_and_then (between (codes " env ") (codes "=elvish ")) (safe_elvish_function text)
+    option_and_then (between (codes " e:env ") (codes "=elvish ")) (safe_elvish_function text)
 
--- the completer: in the function, the word after the last variable that is set
+-- the completer: in the function, the quoted word after the last variable that is set
 unfoldable pub safe_elvish_completer : List ℕ → Option (List ℕ)
 safe_elvish_completer text =
-    option_and_then (word_after elvish_word_of (codes "=$values "))
+    option_and_then (word_after (before_space (quoted_by elvish_word_of)) (codes "=$values "))
     (safe_elvish_function text)
 
 -- The registration reads back: the variable as an identifier, the programs and the completer with a

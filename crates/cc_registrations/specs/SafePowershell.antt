@@ -5,7 +5,7 @@ use Rattle.cc_base.specs.Found.{after_mark, between, word_after}
 use Rattle.cc_base.specs.Joined.{joined}
 use Rattle.cc_quote.specs.PowershellQuote.{powershell_word_of}
 use Rattle.cc_quote.specs.QuotedWord.{line_feeds_as_spaces}
-use Rattle.cc_registrations.specs.Names.{identifier, listed_by, powershell_quoted, quoted_by}
+use Rattle.cc_registrations.specs.Names.{before_space, ending_at, identifier, listed_by, powershell_quoted, quoted_by}
 
 -- ---- the text
 
@@ -34,14 +34,15 @@ script_head =
     ++ codes "    })\n"
     ++ codes "    if ($end -lt $cursorPosition) { $words += '' }\n"
     ++ codes "\n"
-    ++ codes "    # Asks for candidates; where complgen asks back, with what the words that it names print.\n"
+    ++ codes "    # Asks for candidates; where complgen asks back, with what the words that it names print. A `\"`\n"
+    ++ codes "    # reaches programs only if PowerShell escapes it.\n"
     ++ codes "    $PSNativeCommandUseErrorActionPreference = $false\n"
     ++ codes "    $before = @($env:"
 
 -- the text between the first two occurrences of the variable
 unfoldable pub variable_kept : List ℕ
 variable_kept =
-    codes ", $env:_COMPLGEN_VALUES)\n"
+    codes ", $env:_COMPLGEN_VALUES, $env:_COMPLGEN_QUOTE)\n"
     ++ codes "    function Request($values) {\n"
     ++ codes "        begin { $lines = [System.Collections.Generic.List[string]]::new() }\n"
     ++ codes "        process { $lines.Add(\"$_\") }\n"
@@ -53,6 +54,8 @@ unfoldable pub call_begins : List ℕ
 call_begins =
     codes " = 'powershell'\n"
     ++ codes "            $env:_COMPLGEN_VALUES = $values\n"
+    ++ codes "            $env:_COMPLGEN_QUOTE = if ($PSVersionTable.PSVersion -ge '7.3' -and\n"
+    ++ codes "                $PSNativeCommandArgumentPassing -ne 'Legacy') { '\"' } else { '' }\n"
     ++ codes "            try { $lines | & "
 
 -- the text between the completer and the third occurrence of the variable
@@ -64,7 +67,7 @@ call_ends =
 -- the text after the variable
 unfoldable pub script_ends : List ℕ
 script_ends =
-    codes ", $env:_COMPLGEN_VALUES = $before }\n"
+    codes ", $env:_COMPLGEN_VALUES, $env:_COMPLGEN_QUOTE = $before }\n"
     ++ codes "        }\n"
     ++ codes "    }\n"
     ++ codes "    $reply = @($null | Request 'ask')\n"
@@ -110,11 +113,13 @@ safe_powershell variable name bins completer =
 
 -- ---- how it is read
 
--- the programs, which are quoted words after `-CommandName`, and the text after them
+-- the programs, which are quoted words after `-CommandName` and up to `-ScriptBlock`, and the text
+-- after that
 unfoldable pub safe_powershell_names : List ℕ → Option (List (List ℕ) × List ℕ)
 safe_powershell_names text =
-    option_and_then (listed_by (quoted_by powershell_word_of) (codes ", "))
-    (after_mark (codes "-CommandName ") text)
+    option_and_then (ending_at (codes " -ScriptBlock "))
+    (option_and_then (listed_by (quoted_by powershell_word_of) (codes ", "))
+    (after_mark (codes "-CommandName ") text))
 
 -- the programs
 unfoldable pub safe_powershell_binaries : List ℕ → Option (List (List ℕ))
@@ -129,10 +134,11 @@ unfoldable pub safe_powershell_variable : List ℕ → Option (List ℕ)
 safe_powershell_variable text =
     option_and_then (between (codes "$env:") (codes ",")) (safe_powershell_script text)
 
--- the completer: in the script, the word after the first `| &`
+-- the completer: in the script, the quoted word after the first `| &`
 unfoldable pub safe_powershell_completer : List ℕ → Option (List ℕ)
 safe_powershell_completer text =
-    option_and_then (word_after powershell_word_of (codes "| &")) (safe_powershell_script text)
+    option_and_then (word_after (before_space (quoted_by powershell_word_of)) (codes "| &"))
+    (safe_powershell_script text)
 
 -- The registration reads back: the variable as an identifier, the programs and the completer with a
 -- space for each line feed. This holds for any of them.

@@ -26,6 +26,7 @@ mod safe_bash;
 mod safe_elvish;
 mod safe_fish;
 mod safe_powershell;
+mod safe_text;
 mod safe_zsh;
 mod words;
 mod zsh;

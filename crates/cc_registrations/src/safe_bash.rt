@@ -1,25 +1,32 @@
 //! The safe registration for bash.
 
-ghost use Rattle.std.specs.Prelude.{map};
+ghost use Rattle.std.specs.Prelude.{◌≡◌, map};
 ghost use Rattle.cc_base.specs.Writes.{Writes};
-ghost use Rattle.cc_registrations.specs.SafeBash.{SafeBashReads, function_front, names_line};
-ghost use Rattle.cc_registrations.specs.SafeBash.{safe_bash};
+ghost use Rattle.cc_registrations.specs.SafeBash.{SafeBashReads, bash_frame, safe_bash};
 
-use crate::names::put_identifier;
-use crate::words::{put_posix_names, put_posix_quoted};
-use cc_base::{Error, Sink, put_piece};
+use crate::safe_text::{SafeFrame, SafeNames, write_safe};
+use crate::words::Quoting;
+use cc_base::{Error, Sink, TextRef};
 use std::alloc::Global;
 
-const NAMES_BEGIN: &str = "complete -o nospace -o bashdefault -F _complgen_";
-
-const NAMES_FOLLOW: &str = " -- ";
-
-const FUNCTION_BEGINS: &str = "
-_complgen_";
-
 const FUNCTION_HEAD: &str = "() {
-    local code home='~/' index kept open quote reply run=(:) sign values word words=()
+    COMPREPLY=()
+    # bash would change a value under `set -k`, if another sign than `!` stands for the history, and
+    # after a line feed, which may begin a here-document.
+    [[ $- != *k* && ($- != *H* || ${histchars-!} == !*) && $COMP_LINE != *$'\\n'* ]] || return
+    local ascii code home='~/' index keeps kept open plain quote reply run=(:) sign values word words=()
     local glob=$- IFS=$'\\n' line=${COMP_LINE:0:COMP_POINT}
+    # Only ASCII is safe where two bytes can be a letter that UTF-8 does not have: the second may be
+    # the backslash that escapes.
+    ascii=$'\\x80\\\\\\x81\\\\\\x82\\\\\\x83\\\\\\x84\\\\\\x85\\\\\\x86\\\\\\x87\\\\\\x88\\\\\\x89\\\\\\x8a\\\\\\x8b\\\\\\x8c\\\\\\x8d\\\\\\x8e\\\\\\x8f\\\\'
+    ascii+=$'\\x90\\\\\\x91\\\\\\x92\\\\\\x93\\\\\\x94\\\\\\x95\\\\\\x96\\\\\\x97\\\\\\x98\\\\\\x99\\\\\\x9a\\\\\\x9b\\\\\\x9c\\\\\\x9d\\\\\\x9e\\\\\\x9f\\\\'
+    ascii+=$'\\xa0\\\\\\xa1\\\\\\xa2\\\\\\xa3\\\\\\xa4\\\\\\xa5\\\\\\xa6\\\\\\xa7\\\\\\xa8\\\\\\xa9\\\\\\xaa\\\\\\xab\\\\\\xac\\\\\\xad\\\\\\xae\\\\\\xaf\\\\'
+    ascii+=$'\\xb0\\\\\\xb1\\\\\\xb2\\\\\\xb3\\\\\\xb4\\\\\\xb5\\\\\\xb6\\\\\\xb7\\\\\\xb8\\\\\\xb9\\\\\\xba\\\\\\xbb\\\\\\xbc\\\\\\xbd\\\\\\xbe\\\\\\xbf\\\\'
+    ascii+=$'\\xc0\\\\\\xc1\\\\\\xc2\\\\\\xc3\\\\\\xc4\\\\\\xc5\\\\\\xc6\\\\\\xc7\\\\\\xc8\\\\\\xc9\\\\\\xca\\\\\\xcb\\\\\\xcc\\\\\\xcd\\\\\\xce\\\\\\xcf\\\\'
+    ascii+=$'\\xd0\\\\\\xd1\\\\\\xd2\\\\\\xd3\\\\\\xd4\\\\\\xd5\\\\\\xd6\\\\\\xd7\\\\\\xd8\\\\\\xd9\\\\\\xda\\\\\\xdb\\\\\\xdc\\\\\\xdd\\\\\\xde\\\\\\xdf\\\\'
+    ascii+=$'\\xe0\\\\\\xe1\\\\\\xe2\\\\\\xe3\\\\\\xe4\\\\\\xe5\\\\\\xe6\\\\\\xe7\\\\\\xe8\\\\\\xe9\\\\\\xea\\\\\\xeb\\\\\\xec\\\\\\xed\\\\\\xee\\\\\\xef\\\\'
+    ascii+=$'\\xf0\\\\\\xf1\\\\\\xf2\\\\\\xf3\\\\\\xf4\\\\\\xf5\\\\\\xf6\\\\\\xf7\\\\\\xf8\\\\\\xf9\\\\\\xfa\\\\\\xfb\\\\\\xfc\\\\\\xfd\\\\\\xfe\\\\\\xff\\\\\\xc4\\xc4'
+    [[ ${#ascii} == 258 ]] && ascii='' || ascii=1
     compopt -o nosort 2>/dev/null
     # The words up to the cursor. bash cuts them at `:`, `=` and `@` too, not only at blanks.
     for word in \"${COMP_WORDS[@]:0:COMP_CWORD+1}\"; do
@@ -33,9 +40,10 @@ const FUNCTION_HEAD: &str = "() {
         line=${line#\"$word\"}
     done
     # Without their quotes. bash replaces `$2`, and keeps what is before it: maybe an open quote.
+    # Nothing is offered if it would expand that.
     for index in \"${!words[@]}\"; do
-        line=${words[index]} word='' kept='' quote='' open=''
-        while [[ ${#line} != \"${#2}\" ]] || kept=$word quote=$open; [[ -n $line ]]; do
+        line=${words[index]} word='' kept='' quote='' open='' plain=1 keeps=''
+        while [[ ${#line} != \"${#2}\" ]] || kept=$word quote=$open keeps=$plain; [[ -n $line ]]; do
             sign=${line:0:1} line=${line:1}
             case $open$sign in
                 \\' | \\\") open=$sign ;;
@@ -44,11 +52,16 @@ const FUNCTION_HEAD: &str = "() {
                     [[ -n $open && $line != [\\\"\\$\\`\\\\]* ]] || sign=${line:0:1} line=${line:1}
                     word+=$sign
                     ;;
+                []\\!\\#\\$\\&\\(\\)\\*\\;\\<\\>\\?\\[\\^\\`\\{\\|\\}\\~] | \\\"[\\$\\`\\!])
+                    [[ -z $word && $sign$line == \"$home\"* ]] || plain=''
+                    word+=$sign
+                    ;;
                 *) word+=$sign ;;
             esac
         done
         words[index]=$word
     done
+    [[ -n $keeps ]] || return
     # Asks for candidates, written as the line takes them; where complgen asks back, with what the
     # words that it names print.
     for values in ask stdin; do
@@ -59,17 +72,17 @@ const CALL_BEGINS: &str = "=bash \\
             _COMPLGEN_VALUES=$values \\
             _COMPLGEN_KEPT=$kept \\
             _COMPLGEN_QUOTE=$quote \\
+            _COMPLGEN_ASCII=$ascii \\
             ";
 
 const CALL_ENDS: &str = " -- \"${words[@]}\") && code=0 || code=$?
         [[ $code == 3 ]] || break
-        run=(env --)
+        run=(command env --)
         while [[ $reply == *$'\\v'* ]]; do
             run+=(\"${reply%%$'\\v'*}\")
             reply=${reply#*$'\\v'}
         done
     done
-    COMPREPLY=()
     [[ $code == 0 ]] || return
     # Its lines, of which none is a pattern.
     set -f
@@ -83,6 +96,21 @@ const CALL_ENDS: &str = " -- \"${words[@]}\") && code=0 || code=$?
     [[ ${COMPREPLY-} =~ [=/:]$ ]] || compopt +o nospace 2>/dev/null
 }
 ";
+
+fn frame() -> SafeFrame<'static>
+    ensures { result ≡ bash_frame }
+{
+    SafeFrame {
+        quoting: Quoting::Posix,
+        names_begin: TextRef::new("complete -o nospace -o bashdefault -F _complgen_"),
+        names_follow: TextRef::new(" -- "),
+        names_between: TextRef::new(" "),
+        function_begins: TextRef::new("_complgen_"),
+        function_head: TextRef::new(FUNCTION_HEAD),
+        call_begins: TextRef::new(CALL_BEGINS),
+        call_ends: TextRef::new(CALL_ENDS),
+    }
+}
 
 /// Writes the safe registration for bash, with which the shell asks `completer` for candidates of
 /// the programs `bins`. `variable` requests completions, and `name` is part of the function's name.
@@ -105,50 +133,6 @@ pub fn write_safe_bash<W: Sink>(
     ensures read_back { SafeBashReads variable.now name.now (map (λ bin. bin.now) bins.now)
         completer.now }
 {
-    write_text(alloc, sink, variable, name, bins, completer)
-}
-
-fn write_text<W: Sink>(
-    alloc: Global,
-    sink: &mut W,
-    variable: &str,
-    name: &str,
-    bins: &[&str],
-    completer: &str,
-) -> Result<(), Error>
-    ensures { Writes W.taken W.failed result sink.old sink.new
-        (safe_bash variable.now name.now (map (λ bin. bin.now) bins.now) completer.now) }
-{
-    write_names_line(alloc, sink, name, bins)?;
-    write_front(sink, variable, name)?;
-    put_posix_quoted(alloc, sink, completer)?;
-    Ok(put_piece(sink, CALL_ENDS)?)
-}
-
-// Writes the first line, which names the programs.
-fn write_names_line<W: Sink>(
-    alloc: Global,
-    sink: &mut W,
-    name: &str,
-    bins: &[&str],
-) -> Result<(), Error>
-    ensures { Writes W.taken W.failed result sink.old sink.new
-        (names_line name.now (map (λ bin. bin.now) bins.now)) }
-{
-    put_piece(sink, NAMES_BEGIN)?;
-    put_identifier(sink, name)?;
-    put_piece(sink, NAMES_FOLLOW)?;
-    put_posix_names(alloc, sink, bins)
-}
-
-// Writes the function up to the completer.
-fn write_front<W: Sink>(sink: &mut W, variable: &str, name: &str) -> Result<(), Error>
-    ensures { Writes W.taken W.failed result sink.old sink.new
-        (function_front variable.now name.now) }
-{
-    put_piece(sink, FUNCTION_BEGINS)?;
-    put_identifier(sink, name)?;
-    put_piece(sink, FUNCTION_HEAD)?;
-    put_identifier(sink, variable)?;
-    Ok(put_piece(sink, CALL_BEGINS)?)
+    let names = SafeNames::new(variable, name, completer);
+    write_safe(alloc, sink, &frame(), &names, bins)
 }

@@ -6,7 +6,7 @@ ghost use Rattle.cc_registrations.specs.SafeElvish.{SafeElvishReads, registratio
 ghost use Rattle.cc_registrations.specs.SafeElvish.{safe_elvish};
 
 use crate::names::put_identifier;
-use crate::words::{put_elvish_names, put_elvish_quoted};
+use crate::words::{Quoting, put_names, put_quoted};
 use cc_base::{Error, Sink, put_piece};
 use std::alloc::Global;
 
@@ -16,7 +16,7 @@ const FUNCTION_HEAD: &str = "] {
     set edit:completion:arg-completer[$complgen-name] = {|@words|
         use str
         fn request {|values|
-            env ";
+            e:env ";
 
 const CALL_BEGINS: &str = "=elvish _COMPLGEN_VALUES=$values ";
 
@@ -33,7 +33,7 @@ const CALL_ENDS: &str = " -- $@words
             print $reply
         } elif (== $code 3) {
             var run = [(str:split \"\\v\" $reply)][..-1]
-            try { env -- $@run </dev/null 2>/dev/null } catch { } | request stdin
+            try { e:env -- $@run </dev/null 2>/dev/null } catch { } | request stdin
         }
     }
 }
@@ -73,18 +73,23 @@ fn write_text<W: Sink>(
     ensures { Writes W.taken W.failed result sink.old sink.new
         (safe_elvish variable.now name.now (map (λ bin. bin.now) bins.now) completer.now) }
 {
-    write_front(sink, variable, bins)?;
-    put_elvish_quoted(sink, completer)?;
+    write_front(alloc, sink, variable, bins)?;
+    put_quoted(alloc, sink, Quoting::Elvish, completer)?;
     Ok(put_piece(sink, CALL_ENDS)?)
 }
 
 // Writes the text before the completer.
-fn write_front<W: Sink>(sink: &mut W, variable: &str, bins: &[&str]) -> Result<(), Error>
+fn write_front<W: Sink>(
+    alloc: Global,
+    sink: &mut W,
+    variable: &str,
+    bins: &[&str],
+) -> Result<(), Error>
     ensures { Writes W.taken W.failed result sink.old sink.new
         (registration_front variable.now (map (λ bin. bin.now) bins.now)) }
 {
     put_piece(sink, NAMES_BEGIN)?;
-    put_elvish_names(sink, bins)?;
+    put_names(alloc, sink, Quoting::Elvish, " ", bins)?;
     put_piece(sink, FUNCTION_HEAD)?;
     put_identifier(sink, variable)?;
     Ok(put_piece(sink, CALL_BEGINS)?)

@@ -1,21 +1,13 @@
 //! The safe registration for fish.
 
-ghost use Rattle.std.specs.Prelude.{map};
+ghost use Rattle.std.specs.Prelude.{◌≡◌, map};
 ghost use Rattle.cc_base.specs.Writes.{Writes};
-ghost use Rattle.cc_registrations.specs.SafeFish.{SafeFishReads, function_front, names_line};
-ghost use Rattle.cc_registrations.specs.SafeFish.{safe_fish};
+ghost use Rattle.cc_registrations.specs.SafeFish.{SafeFishReads, fish_frame, safe_fish};
 
-use crate::names::put_identifier;
-use crate::words::{put_fish_names, put_fish_quoted};
-use cc_base::{Error, Sink, put_piece};
+use crate::safe_text::{SafeFrame, SafeNames, write_safe};
+use crate::words::Quoting;
+use cc_base::{Error, Sink, TextRef};
 use std::alloc::Global;
-
-const NAMES_BEGIN: &str = "complete --keep-order --exclusive --arguments \"(__complgen_";
-
-const NAMES_FOLLOW: &str = ")\" --command ";
-
-const FUNCTION_BEGINS: &str = "
-function __complgen_";
 
 const FUNCTION_HEAD: &str = "
     # The words up to the cursor, without the quotes that they were typed with.
@@ -42,11 +34,26 @@ const CALL_ENDS: &str = " -- $words | string collect
             or printf '%s\\n' $reply
             return
         end
-        set run env -- (string split \\v -- $reply)
+        set run (command --search env) -- (string split \\v -- $reply)
         set -e run[-1]
     end
 end
 ";
+
+fn frame() -> SafeFrame<'static>
+    ensures { result ≡ fish_frame }
+{
+    SafeFrame {
+        quoting: Quoting::Fish,
+        names_begin: TextRef::new("complete --keep-order --exclusive --arguments \"(__complgen_"),
+        names_follow: TextRef::new(")\" --command "),
+        names_between: TextRef::new(" --command "),
+        function_begins: TextRef::new("function __complgen_"),
+        function_head: TextRef::new(FUNCTION_HEAD),
+        call_begins: TextRef::new(CALL_BEGINS),
+        call_ends: TextRef::new(CALL_ENDS),
+    }
+}
 
 /// Writes the safe registration for fish, with which the shell asks `completer` for candidates of
 /// the programs `bins`. `variable` requests completions, and `name` is part of the function's name.
@@ -69,50 +76,6 @@ pub fn write_safe_fish<W: Sink>(
     ensures read_back { SafeFishReads variable.now name.now (map (λ bin. bin.now) bins.now)
         completer.now }
 {
-    write_text(alloc, sink, variable, name, bins, completer)
-}
-
-fn write_text<W: Sink>(
-    alloc: Global,
-    sink: &mut W,
-    variable: &str,
-    name: &str,
-    bins: &[&str],
-    completer: &str,
-) -> Result<(), Error>
-    ensures { Writes W.taken W.failed result sink.old sink.new
-        (safe_fish variable.now name.now (map (λ bin. bin.now) bins.now) completer.now) }
-{
-    write_names_line(alloc, sink, name, bins)?;
-    write_front(sink, variable, name)?;
-    put_fish_quoted(alloc, sink, completer)?;
-    Ok(put_piece(sink, CALL_ENDS)?)
-}
-
-// Writes the first line, which names the programs.
-fn write_names_line<W: Sink>(
-    alloc: Global,
-    sink: &mut W,
-    name: &str,
-    bins: &[&str],
-) -> Result<(), Error>
-    ensures { Writes W.taken W.failed result sink.old sink.new
-        (names_line name.now (map (λ bin. bin.now) bins.now)) }
-{
-    put_piece(sink, NAMES_BEGIN)?;
-    put_identifier(sink, name)?;
-    put_piece(sink, NAMES_FOLLOW)?;
-    put_fish_names(alloc, sink, bins)
-}
-
-// Writes the function up to the completer.
-fn write_front<W: Sink>(sink: &mut W, variable: &str, name: &str) -> Result<(), Error>
-    ensures { Writes W.taken W.failed result sink.old sink.new
-        (function_front variable.now name.now) }
-{
-    put_piece(sink, FUNCTION_BEGINS)?;
-    put_identifier(sink, name)?;
-    put_piece(sink, FUNCTION_HEAD)?;
-    put_identifier(sink, variable)?;
-    Ok(put_piece(sink, CALL_BEGINS)?)
+    let names = SafeNames::new(variable, name, completer);
+    write_safe(alloc, sink, &frame(), &names, bins)
 }

@@ -7,7 +7,7 @@ ghost use Rattle.cc_registrations.specs.SafePowershell.{registration_head, regis
 ghost use Rattle.cc_registrations.specs.SafePowershell.{safe_powershell};
 
 use crate::names::put_identifier;
-use crate::words::{put_powershell_names, put_powershell_quoted};
+use crate::words::{Quoting, put_names, put_quoted};
 use cc_base::{Error, Sink, put_piece};
 use std::alloc::Global;
 
@@ -31,11 +31,12 @@ const SCRIPT_HEAD: &str = " -ScriptBlock {
     })
     if ($end -lt $cursorPosition) { $words += '' }
 
-    # Asks for candidates; where complgen asks back, with what the words that it names print.
+    # Asks for candidates; where complgen asks back, with what the words that it names print. A `\"`
+    # reaches programs only if PowerShell escapes it.
     $PSNativeCommandUseErrorActionPreference = $false
     $before = @($env:";
 
-const VARIABLE_KEPT: &str = ", $env:_COMPLGEN_VALUES)
+const VARIABLE_KEPT: &str = ", $env:_COMPLGEN_VALUES, $env:_COMPLGEN_QUOTE)
     function Request($values) {
         begin { $lines = [System.Collections.Generic.List[string]]::new() }
         process { $lines.Add(\"$_\") }
@@ -44,12 +45,14 @@ const VARIABLE_KEPT: &str = ", $env:_COMPLGEN_VALUES)
 
 const CALL_BEGINS: &str = " = 'powershell'
             $env:_COMPLGEN_VALUES = $values
+            $env:_COMPLGEN_QUOTE = if ($PSVersionTable.PSVersion -ge '7.3' -and
+                $PSNativeCommandArgumentPassing -ne 'Legacy') { '\"' } else { '' }
             try { $lines | & ";
 
 const CALL_ENDS: &str = " -- @words 2>$null }
             finally { $env:";
 
-const SCRIPT_ENDS: &str = ", $env:_COMPLGEN_VALUES = $before }
+const SCRIPT_ENDS: &str = ", $env:_COMPLGEN_VALUES, $env:_COMPLGEN_QUOTE = $before }
         }
     }
     $reply = @($null | Request 'ask')
@@ -106,19 +109,19 @@ fn write_text<W: Sink>(
     ensures { Writes W.taken W.failed result sink.old sink.new
         (safe_powershell variable.now name.now (map (λ bin. bin.now) bins.now) completer.now) }
 {
-    write_head(sink, bins)?;
+    write_head(alloc, sink, bins)?;
     write_call(sink, variable)?;
-    put_powershell_quoted(sink, completer)?;
+    put_quoted(alloc, sink, Quoting::Powershell, completer)?;
     Ok(write_tail(sink, variable)?)
 }
 
 // Writes the text before the first occurrence of the variable.
-fn write_head<W: Sink>(sink: &mut W, bins: &[&str]) -> Result<(), Error>
+fn write_head<W: Sink>(alloc: Global, sink: &mut W, bins: &[&str]) -> Result<(), Error>
     ensures { Writes W.taken W.failed result sink.old sink.new
         (registration_head (map (λ bin. bin.now) bins.now)) }
 {
     put_piece(sink, NAMES_BEGIN)?;
-    put_powershell_names(sink, bins)?;
+    put_names(alloc, sink, Quoting::Powershell, ", ", bins)?;
     Ok(put_piece(sink, SCRIPT_HEAD)?)
 }
 

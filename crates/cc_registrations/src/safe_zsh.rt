@@ -1,24 +1,22 @@
 //! The safe registration for zsh.
 
-ghost use Rattle.std.specs.Prelude.{map};
+ghost use Rattle.std.specs.Prelude.{◌≡◌, map};
 ghost use Rattle.cc_base.specs.Writes.{Writes};
-ghost use Rattle.cc_registrations.specs.SafeZsh.{SafeZshReads, function_front, names_line};
-ghost use Rattle.cc_registrations.specs.SafeZsh.{safe_zsh};
+ghost use Rattle.cc_registrations.specs.SafeZsh.{SafeZshReads, zsh_frame, safe_zsh};
 
-use crate::names::put_identifier;
-use crate::words::{put_posix_names, put_posix_quoted};
-use cc_base::{Error, Sink, put_piece};
+use crate::safe_text::{SafeFrame, SafeNames, write_safe};
+use crate::words::Quoting;
+use cc_base::{Error, Sink, TextRef};
 use std::alloc::Global;
-
-const NAMES_BEGIN: &str = "compdef _complgen_";
-
-const NAMES_FOLLOW: &str = " ";
-
-const FUNCTION_BEGINS: &str = "
-_complgen_";
 
 const FUNCTION_HEAD: &str = "() {
     local values reply code completion value home quote=$compstate[quote] found=1
+    local ascii=$'\\xc3\\xa9\\xe2\\x82\\xac\\xf0\\x9f\\x98\\x80' text=$PREBUFFER$LBUFFER
+    # zsh does not tell a function that the word is in a here-document, or behind a backtick and a
+    # quote. `histchars` may name a sign that begins a comment.
+    [[ $text != *'<<'*$'\\n'* && ${text//\\\\?/} != *\\`* && $histchars == ??\\# ]] || return
+    # These are three letters in UTF-8 alone. Elsewhere, zsh takes only ASCII as it is.
+    [[ ${#ascii} == 3 ]] && ascii='' || ascii=1
     # Items of folders: what is before the first `:` without a backslash ends in `/`.
     local folder='(\\\\?|[^\\\\:])#/(|:*)'
     # The words up to the cursor, without the quotes that they were typed with.
@@ -31,11 +29,12 @@ const FUNCTION_HEAD: &str = "() {
 
 const CALL_BEGINS: &str = "=zsh \\
             _COMPLGEN_VALUES=$values \\
+            _COMPLGEN_ASCII=$ascii \\
             ";
 
 const CALL_ENDS: &str = " -- \"${typed[@]}\" 2>/dev/null) && code=0 || code=$?
         [[ $code == 3 ]] || break
-        run=(env -- \"${(@ps:\\v:)${reply%$'\\v'}}\")
+        run=(command env -- \"${(@ps:\\v:)${reply%$'\\v'}}\")
     done
     [[ $code == 0 && -n $reply ]] || return
     # `~/` leads home only where it was typed, and so stays as it is.
@@ -54,6 +53,21 @@ const CALL_ENDS: &str = " -- \"${typed[@]}\" 2>/dev/null) && code=0 || code=$?
     return found
 }
 ";
+
+fn frame() -> SafeFrame<'static>
+    ensures { result ≡ zsh_frame }
+{
+    SafeFrame {
+        quoting: Quoting::Posix,
+        names_begin: TextRef::new("compdef _complgen_"),
+        names_follow: TextRef::new(" "),
+        names_between: TextRef::new(" "),
+        function_begins: TextRef::new("_complgen_"),
+        function_head: TextRef::new(FUNCTION_HEAD),
+        call_begins: TextRef::new(CALL_BEGINS),
+        call_ends: TextRef::new(CALL_ENDS),
+    }
+}
 
 /// Writes the safe registration for zsh, with which the shell asks `completer` for candidates of
 /// the programs `bins`. `variable` requests completions, and `name` is part of the function's name.
@@ -76,50 +90,6 @@ pub fn write_safe_zsh<W: Sink>(
     ensures read_back { SafeZshReads variable.now name.now (map (λ bin. bin.now) bins.now)
         completer.now }
 {
-    write_text(alloc, sink, variable, name, bins, completer)
-}
-
-fn write_text<W: Sink>(
-    alloc: Global,
-    sink: &mut W,
-    variable: &str,
-    name: &str,
-    bins: &[&str],
-    completer: &str,
-) -> Result<(), Error>
-    ensures { Writes W.taken W.failed result sink.old sink.new
-        (safe_zsh variable.now name.now (map (λ bin. bin.now) bins.now) completer.now) }
-{
-    write_names_line(alloc, sink, name, bins)?;
-    write_front(sink, variable, name)?;
-    put_posix_quoted(alloc, sink, completer)?;
-    Ok(put_piece(sink, CALL_ENDS)?)
-}
-
-// Writes the first line, which names the programs.
-fn write_names_line<W: Sink>(
-    alloc: Global,
-    sink: &mut W,
-    name: &str,
-    bins: &[&str],
-) -> Result<(), Error>
-    ensures { Writes W.taken W.failed result sink.old sink.new
-        (names_line name.now (map (λ bin. bin.now) bins.now)) }
-{
-    put_piece(sink, NAMES_BEGIN)?;
-    put_identifier(sink, name)?;
-    put_piece(sink, NAMES_FOLLOW)?;
-    put_posix_names(alloc, sink, bins)
-}
-
-// Writes the function up to the completer.
-fn write_front<W: Sink>(sink: &mut W, variable: &str, name: &str) -> Result<(), Error>
-    ensures { Writes W.taken W.failed result sink.old sink.new
-        (function_front variable.now name.now) }
-{
-    put_piece(sink, FUNCTION_BEGINS)?;
-    put_identifier(sink, name)?;
-    put_piece(sink, FUNCTION_HEAD)?;
-    put_identifier(sink, variable)?;
-    Ok(put_piece(sink, CALL_BEGINS)?)
+    let names = SafeNames::new(variable, name, completer);
+    write_safe(alloc, sink, &frame(), &names, bins)
 }

@@ -1,21 +1,22 @@
 -- The text that bash reads from the lines of its reply.
-use Rattle.std.proofs.Common.{◌≡◌, ◌==◌, ◌||◌, ℕ, Bool, true, false, cond, not, List, [], ◌∷◌, ◌++◌, Option, Some, None, option_map, codes, inl, inr, refl, sym, ◌∙◌, ap, ap₂, subst, arith}
+use Rattle.std.proofs.Common.{◌≡◌, ◌==◌, ◌&&◌, ◌||◌, ℕ, Bool, true, false, cond, not, List, [], ◌∷◌, ◌++◌, Option, Some, None, option_map, codes, inl, inr, refl, sym, ◌∙◌, ap, ap₂, subst, arith}
 use Rattle.std.proofs.lemmas.Bool.{and_parts, cases_Bool, ne_eqb}
 use Rattle.std.proofs.lemmas.Bool.Decides.{Decides-eqb, nat_tests}
 use Rattle.std.specs.Char.{is_ascii_control}
-use Rattle.std.specs.List.{AllByRecursion}
-use Rattle.cc_base.specs.Bytes.{backslash, line_feed, single_quote}
+use Rattle.std.specs.List.{AllByRecursion, list_all}
+use Rattle.std.specs.Option.{option_and_then}
+use Rattle.cc_base.specs.Bytes.{backslash, line_feed}
 use Rattle.cc_base.specs.Found.{after}
 use Rattle.cc_base.proofs.Cases.{choose, option_cases}
 use Rattle.cc_base.proofs.Members.{AllByRecursion-weaker}
 use Rattle.cc_candidates.specs.declared.candidate.CompletionCandidate.{CompletionCandidate}
 use Rattle.cc_quote.specs.BashDouble.{is_double_marked}
 use Rattle.cc_quote.specs.Escapes.{marked}
-use Rattle.cc_replies.specs.BashWords.{BashWordsRead, OpenQuote, Bare, Single, Double, bare_read, bare_text, bare_word_read, bash_line_word, bash_text, bash_word_line, double_read, exclamation, holds, holds_rest, home_start, is_bare_byte, is_bare_escaped, is_bare_marked, is_bash_insertable, is_double_kept, single_read, start_text, word_read}
+use Rattle.cc_replies.specs.BashWords.{BashWordsRead, OpenQuote, Bare, Single, Double, bare_read, bare_text, bare_word_read, bash_line_word, bash_text, bash_value_read, bash_word_line, double_read, exclamation, holds, holds_rest, home_start, is_bare_byte, is_bare_escaped, is_bare_marked, is_bash_insertable, is_double_kept, is_single_lost, single_read, start_text, word_read}
 use Rattle.cc_replies.specs.Reply.{lines_from}
-use Rattle.cc_replies.specs.SafeValues.{is_safe_text}
+use Rattle.cc_replies.specs.SafeValues.{is_in_locale, is_safe_text, read_in_locale}
 use Rattle.cc_replies.proofs.FirstLines.{IsWithout}
-use Rattle.cc_replies.proofs.ReplyReadings.{marked_without, without}
+use Rattle.cc_replies.proofs.ReplyReadings.{false_not, marked_without, without}
 use Rattle.cc_replies.proofs.SafeReadings.{IsUncontrolled, ReadsLine, feed_first, lines_back, safe_uncontrolled, uncontrolled_without}
 
 -- ---- a text with backslashes
@@ -70,12 +71,13 @@ double_reads text h =
     marked_reads is_double_kept is_double_marked is_double_marked text
     (AllByRecursion-weaker (λ byte. (byte == exclamation) ≡ false) (IsHeld is_double_kept is_double_marked is_double_marked) double_held text h)
 
-single_reads : (text : List ℕ) → IsWithout single_quote text → single_read text ≡ Some text
+single_reads : (text : List ℕ) → list_all (λ byte. not (is_single_lost byte)) text ≡ true → single_read text ≡ Some text
 unfolding single_read
 single_reads [] h = refl
 single_reads (byte ∷ text) h =
-    ap (λ b. choose b None (option_map (λ word. byte ∷ word) (single_read text))) h.0
-    ∙ ap (option_map (λ word. byte ∷ word)) (single_reads text h.1)
+    let parts = and_parts (not (is_single_lost byte)) (list_all (λ byte. not (is_single_lost byte)) text) h in
+    ap (λ b. choose b None (option_map (λ word. byte ∷ word) (single_read text))) (false_not (is_single_lost byte) parts.0)
+    ∙ ap (option_map (λ word. byte ∷ word)) (single_reads text parts.1)
 
 -- ---- a bare word from its start
 
@@ -137,7 +139,7 @@ start_reads word h = elim (option_cases (after home_start word)) [
 
 text_reads : (kept : List ℕ) (quote : OpenQuote) (rest : List ℕ) → IsUncontrolled rest → holds quote rest ≡ true → bash_line_word kept quote (bash_text kept quote rest) ≡ Some rest
 unfolding bash_line_word bash_text bare_text
-text_reads kept Single rest h k = single_reads rest (without single_quote rest k)
+text_reads kept Single rest h k = single_reads rest k
 text_reads kept Double rest h k = double_reads rest (without exclamation rest k)
 text_reads [] Bare rest h k = start_reads rest h
 text_reads (byte ∷ kept) Bare rest h k = bare_reads rest h
@@ -163,31 +165,32 @@ text_without (byte ∷ kept) Bare rest h = marked_without line_feed is_bare_mark
 
 -- ---- the law
 
-abbrev reads_word : List ℕ → OpenQuote → List ℕ → Option (List ℕ)
-reads_word kept quote line = option_map (λ rest. kept ++ rest) (bash_line_word kept quote line)
-
-word_reads : (kept : List ℕ) (quote : OpenQuote) (value : List ℕ) → is_bash_insertable kept quote value ≡ true → ReadsLine (IsWithout line_feed) (reads_word kept quote) (bash_word_line kept quote value) (Some value)
-unfolding bash_word_line
-word_reads kept quote value e =
-    let parts = and_parts (is_safe_text value) (holds_rest quote (after kept value)) e in
+word_reads : (ascii_only : Bool) (kept : List ℕ) (quote : OpenQuote) (value : List ℕ) → is_bash_insertable ascii_only kept quote value ≡ true
+    → ReadsLine (IsWithout line_feed) (bash_value_read ascii_only kept quote) (bash_word_line kept quote value) (Some value)
+unfolding bash_word_line bash_value_read
+word_reads ascii_only kept quote value e =
+    let both = and_parts (is_safe_text value && is_in_locale ascii_only value) (holds_rest quote (after kept value)) e in
+    let safe = and_parts (is_safe_text value) (is_in_locale ascii_only value) both.0 in
     elim (option_cases (after kept value)) [
       | inl found ↦
           let rest : List ℕ = found.0 in
           let whole : value ≡ kept ++ rest = follows kept value rest found.1 in
-          let clean : IsUncontrolled rest = all_right (λ byte. is_ascii_control byte ≡ false) kept rest (subst (λ t. IsUncontrolled t) whole (safe_uncontrolled value parts.0)) in
+          let clean : IsUncontrolled rest = all_right (λ byte. is_ascii_control byte ≡ false) kept rest (subst (λ t. IsUncontrolled t) whole (safe_uncontrolled value safe.0)) in
           record {
             body = bash_text kept quote rest;
             whole = ap (λ found. elim found [ Some rest ↦ bash_text kept quote rest ++ codes "\n" | None ↦ [] ]) found.1;
             one_line = text_without kept quote rest clean;
             reads =
-                ap (option_map (λ rest. kept ++ rest)) (text_reads kept quote rest clean (sym (ap (holds_rest quote) found.1) ∙ parts.1))
-                ∙ ap Some (sym whole);
+                ap (λ read. option_and_then (read_in_locale ascii_only) (option_map (λ rest. kept ++ rest) read)) (text_reads kept quote rest clean (sym (ap (holds_rest quote) found.1) ∙ both.1))
+                ∙ ap (read_in_locale ascii_only) (sym whole)
+                ∙ ap (λ b. cond b (Some value) None) safe.1;
           }
-      | inr none ↦ let both : false ≡ true = sym (ap (holds_rest quote) none) ∙ parts.1 in cc
+      | inr none ↦ let both : false ≡ true = sym (ap (holds_rest quote) none) ∙ both.1 in cc
     ]
 
-pub words_read_back : (kept : List ℕ) (quote : OpenQuote) (candidates : List CompletionCandidate) → BashWordsRead kept quote candidates
+pub words_read_back : (ascii_only : Bool) (kept : List ℕ) (quote : OpenQuote) (candidates : List CompletionCandidate) → BashWordsRead ascii_only kept quote candidates
 unfolding BashWordsRead lines_from
-words_read_back kept quote candidates =
-    lines_back (IsWithout line_feed) (lines_from []) refl feed_first (reads_word kept quote) (λ candidate. Some candidate.value) (λ candidate. is_bash_insertable kept quote candidate.value)
-    (λ candidate. bash_word_line kept quote candidate.value) (λ candidate e. word_reads kept quote candidate.value e) candidates
+words_read_back ascii_only kept quote candidates =
+    lines_back (IsWithout line_feed) (lines_from []) refl feed_first (bash_value_read ascii_only kept quote) (λ candidate. Some candidate.value)
+    (λ candidate. is_bash_insertable ascii_only kept quote candidate.value)
+    (λ candidate. bash_word_line kept quote candidate.value) (λ candidate e. word_reads ascii_only kept quote candidate.value e) candidates

@@ -1,7 +1,8 @@
 -- The text that PowerShell reads from the lines of its reply.
-use Rattle.std.proofs.Common.{◌≡◌, ◌==◌, ℕ, Bool, true, false, cond, not, List, [], ◌∷◌, ◌++◌, Option, Some, None, option_map, codes, refl, sym, ◌∙◌, ap, append_assoc, append-nil, arith}
+use Rattle.std.proofs.Common.{◌≡◌, ◌==◌, ◌&&◌, ℕ, Bool, true, false, cond, not, List, [], ◌∷◌, ◌++◌, Option, Some, None, option_map, codes, refl, sym, ◌∙◌, ap, append_assoc, append-nil, arith}
 use Rattle.std.proofs.lemmas.Bool.{and_parts, ne_eqb}
 use Rattle.std.specs.List.{list_all}
+use Rattle.std.specs.Option.{option_and_then}
 use Rattle.std.specs.Prelude.{length}
 use Rattle.cc_base.specs.Bytes.{line_feed, single_quote, space, tab}
 use Rattle.cc_base.specs.Found.{after, cut_at, ended, with_front}
@@ -13,7 +14,7 @@ use Rattle.cc_quote.specs.PowershellQuote.{begins_right_quote, powershell_escape
 use Rattle.cc_quote.specs.QuotedWord.{line_feeds_as_spaces}
 use Rattle.cc_quote.proofs.PowershellWords.{powershell_reads_back}
 use Rattle.cc_replies.specs.PowershellEntries.{entry_of, entry_shown, has_byte, output_lines, tooltip_of}
-use Rattle.cc_replies.specs.PowershellWords.{PowershellWordsRead, begins_other_quote, is_powershell_bare, is_powershell_byte, is_powershell_insertable, is_split_parameter, powershell_line, powershell_line_read, powershell_typed, powershell_word, quoted_whole, typed_as, typed_entry, word_entry}
+use Rattle.cc_replies.specs.PowershellWords.{PowershellWordsRead, begins_other_quote, is_powershell_bare, is_powershell_byte, is_powershell_insertable, is_received, is_split_parameter, powershell_line, powershell_line_read, powershell_typed, powershell_word, quoted_whole, received, typed_as, typed_entry, word_entry}
 use Rattle.cc_replies.specs.Reply.{Shown, carriage_return, line_shown, shown_line}
 use Rattle.cc_replies.specs.SafeValues.{begins_control, is_found, is_safe_text, safe_help, safe_shown}
 use Rattle.cc_replies.proofs.EntryReadings.{IsOutputLine, entry_made, output_first}
@@ -93,23 +94,27 @@ tooltip_byte value (Some []) h = h
 tooltip_byte value (Some (byte ∷ help)) h = some_byte byte help
 
 -- a word, a tab, and the entry to list
-typed_line : (word value listed : List ℕ) (item : Shown) → IsWithout tab word → powershell_typed word ≡ Some value → line_shown listed ≡ item → has_byte item.value ≡ true
-    → powershell_line_read (word ++ tab ∷ listed) ≡ Some (record { inserted = value; listed = item.value; tooltip = tooltip_of item.value item.help })
+typed_line : (passes_quotes : Bool) (word value listed : List ℕ) (item : Shown) → IsWithout tab word → powershell_typed word ≡ Some value → is_received passes_quotes value ≡ true
+    → line_shown listed ≡ item → has_byte item.value ≡ true
+    → powershell_line_read passes_quotes (word ++ tab ∷ listed) ≡ Some (record { inserted = value; listed = item.value; tooltip = tooltip_of item.value item.help })
 unfolding powershell_line_read word_entry typed_entry after cut_at with_front
-typed_line word value listed item h e f k =
-    ap word_entry (past_lacking tab [] word (tab ∷ listed) (lacks tab word h))
-    ∙ ap (λ word. word_entry (Some (word, listed))) (append-nil word)
-    ∙ ap (λ item. typed_entry (powershell_typed word) (entry_of word item.value (tooltip_of item.value item.help))) f
-    ∙ ap (λ typed. typed_entry typed (entry_of word item.value (tooltip_of item.value item.help))) e
+typed_line passes_quotes word value listed item h e r f k =
+    let entry : Shown → _ = λ item. entry_of word item.value (tooltip_of item.value item.help) in
+    ap (word_entry passes_quotes) (past_lacking tab [] word (tab ∷ listed) (lacks tab word h))
+    ∙ ap (λ word. word_entry passes_quotes (Some (word, listed))) (append-nil word)
+    ∙ ap (λ item. typed_entry (option_and_then (received passes_quotes) (powershell_typed word)) (entry item)) f
+    ∙ ap (λ typed. typed_entry (option_and_then (received passes_quotes) typed) (entry item)) e
+    ∙ ap (λ b. typed_entry (cond b (Some value) None) (entry item)) r
     ∙ ap (option_map (typed_as value))
     (entry_made word item.value (tooltip_of item.value item.help) (word_byte word value e) k (tooltip_byte item.value item.help k))
 
-line_reads : (candidate : CompletionCandidate) → is_powershell_insertable candidate.value ≡ true
-    → ReadsLine IsOutputLine powershell_line_read (powershell_line (safe_shown candidate)) (Some (entry_shown (safe_shown candidate)))
+line_reads : (passes_quotes : Bool) (candidate : CompletionCandidate) → is_powershell_insertable passes_quotes candidate.value ≡ true
+    → ReadsLine IsOutputLine (powershell_line_read passes_quotes) (powershell_line (safe_shown candidate)) (Some (entry_shown (safe_shown candidate)))
 unfolding powershell_line shown_line
-line_reads candidate e =
+line_reads passes_quotes candidate e =
     let value : List ℕ = candidate.value in
-    let parts = and_parts (is_safe_text value) (not (is_found begins_other_quote value)) e in
+    let both = and_parts (is_safe_text value && not (is_found begins_other_quote value)) (is_received passes_quotes value) e in
+    let parts = and_parts (is_safe_text value) (not (is_found begins_other_quote value)) both.0 in
     let has : has_byte value ≡ true = (and_parts (not (length value == 0)) (not (is_found begins_control value)) parts.0).0 in
     let word : List ℕ = powershell_word value in
     let listed : List ℕ = line_body (safe_shown candidate) in
@@ -127,14 +132,14 @@ line_reads candidate e =
             (word_without carriage_return refl refl value no_return) (refl, safe_line_without carriage_return refl refl candidate parts.0),
       );
       reads =
-          typed_line word value listed (safe_shown candidate) (word_without tab refl refl value (safe_without tab refl value parts.0))
-          (word_typed value no_feed (false_not (is_found begins_other_quote value) parts.1))
+          typed_line passes_quotes word value listed (safe_shown candidate) (word_without tab refl refl value (safe_without tab refl value parts.0))
+          (word_typed value no_feed (false_not (is_found begins_other_quote value) parts.1)) both.1
           (body_read value (safe_help candidate.help) (safe_without tab refl value parts.0)) has;
     }
 
-pub words_read_back : (candidates : List CompletionCandidate) → PowershellWordsRead candidates
+pub words_read_back : (passes_quotes : Bool) (candidates : List CompletionCandidate) → PowershellWordsRead passes_quotes candidates
 unfolding PowershellWordsRead output_lines ended
-words_read_back candidates =
-    lines_back IsOutputLine (output_lines false []) refl output_first powershell_line_read (λ candidate. Some (entry_shown (safe_shown candidate)))
-    (λ candidate. is_powershell_insertable candidate.value)
-    (λ candidate. powershell_line (safe_shown candidate)) line_reads candidates
+words_read_back passes_quotes candidates =
+    lines_back IsOutputLine (output_lines false []) refl output_first (powershell_line_read passes_quotes) (λ candidate. Some (entry_shown (safe_shown candidate)))
+    (λ candidate. is_powershell_insertable passes_quotes candidate.value)
+    (λ candidate. powershell_line (safe_shown candidate)) (line_reads passes_quotes) candidates

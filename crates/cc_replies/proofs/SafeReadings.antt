@@ -4,14 +4,14 @@ use Rattle.std.proofs.lemmas.Bool.{and_parts, ne_eqb, or_parts}
 use Rattle.std.proofs.lemmas.List.{map-id}
 use Rattle.std.specs.Char.{is_ascii_control}
 use Rattle.std.specs.List.{AllByRecursion}
+use Rattle.std.specs.Option.{option_and_then}
 use Rattle.std.specs.Prelude.{length}
 use Rattle.cc_base.specs.Bytes.{line_feed, tab}
 use Rattle.cc_base.proofs.Members.{AllByRecursion-append, AllByRecursion-weaker}
 use Rattle.cc_candidates.specs.declared.candidate.CompletionCandidate.{CompletionCandidate}
-use Rattle.cc_quote.specs.ZshQuote.{marks}
 use Rattle.cc_quote.specs.ZshReply.{is_reply_value_marked, zsh_replied_value}
-use Rattle.cc_replies.specs.Reply.{Shown, colon_help, first_line, line_shown, lines_from, lines_read, shown_from, shown_line, tab_help, zsh_item}
-use Rattle.cc_replies.specs.SafeReplies.{SafeLinesRead, SafeValuesRead, SafeZshRead, is_fish_insertable, is_tilde_plain, safe_line, safe_zsh_line, value_line}
+use Rattle.cc_replies.specs.Reply.{Shown, colon_help, first_line, line_shown, lines_from, lines_read, shown_line, tab_help, zsh_item}
+use Rattle.cc_replies.specs.SafeReplies.{SafeLinesRead, SafeValuesRead, SafeZshRead, is_fish_insertable, is_tilde_plain, is_zsh_insertable, is_zsh_kept, safe_line, safe_zsh_line, value_line, zsh_item_read, zsh_kept}
 use Rattle.cc_replies.specs.SafeValues.{begins_control, ends_control, is_found, is_safe_text, safe_help, safe_shown}
 use Rattle.cc_replies.proofs.EntryReadings.{tab_help_without}
 use Rattle.cc_replies.proofs.FirstLines.{IsWithout}
@@ -128,14 +128,22 @@ zsh_item_without item h k =
     AllByRecursion-append (λ byte. (byte == line_feed) ≡ false) (zsh_replied_value item.value) (colon_help item.help)
     (marked_without line_feed is_reply_value_marked item.value refl h) (colon_help_without line_feed item.help refl refl k)
 
-pub zsh_read_back : (candidates : List CompletionCandidate) → SafeZshRead candidates
-unfolding SafeZshRead lines_from
-zsh_read_back candidates =
-    lines_back (IsWithout line_feed) (lines_from []) refl feed_first (λ line. shown_from [] (marks line)) (λ candidate. Some (safe_shown candidate)) (λ candidate. is_safe_text candidate.value) safe_zsh_line
-    (λ candidate e. record {
+zsh_line_reads : (ascii_only : Bool) (candidate : CompletionCandidate) → is_zsh_insertable ascii_only candidate.value ≡ true
+    → ReadsLine (IsWithout line_feed) (zsh_item_read ascii_only) (safe_zsh_line candidate) (Some (safe_shown candidate))
+unfolding zsh_item_read
+zsh_line_reads ascii_only candidate e =
+    let parts = and_parts (is_safe_text candidate.value) (is_zsh_kept ascii_only candidate.value) e in
+    record {
       body = zsh_item (safe_shown candidate);
       whole = refl;
-      one_line = zsh_item_without (safe_shown candidate) (safe_without line_feed refl candidate.value e) (safe_help_without line_feed refl candidate.help);
-      reads = item_read (safe_shown candidate);
-    })
-    candidates
+      one_line = zsh_item_without (safe_shown candidate) (safe_without line_feed refl candidate.value parts.0) (safe_help_without line_feed refl candidate.help);
+      reads =
+          ap (option_and_then (zsh_kept ascii_only)) (item_read (safe_shown candidate))
+          ∙ ap (λ b. cond b (Some (safe_shown candidate)) None) parts.1;
+    }
+
+pub zsh_read_back : (ascii_only : Bool) (candidates : List CompletionCandidate) → SafeZshRead ascii_only candidates
+unfolding SafeZshRead lines_from
+zsh_read_back ascii_only candidates =
+    lines_back (IsWithout line_feed) (lines_from []) refl feed_first (zsh_item_read ascii_only) (λ candidate. Some (safe_shown candidate))
+    (λ candidate. is_zsh_insertable ascii_only candidate.value) safe_zsh_line (zsh_line_reads ascii_only) candidates

@@ -1,14 +1,15 @@
 -- The text that bash inserts into its line, and how bash reads it there.
 use Rattle.std.specs.Prelude.{◌≡◌, ℕ, Bool, true, false, not, ◌&&◌, ◌||◌, ◌==◌, List, [], ◌∷◌, ◌++◌, Option, Some, None, bytes_eq, codes, filter, flat_map, if◌then◌else◌, map, option_map}
 use Rattle.std.specs.Char.{is_ascii, is_ascii_alphanumeric}
-use Rattle.std.specs.List.{list_any}
+use Rattle.std.specs.List.{list_all, list_any}
+use Rattle.std.specs.Option.{option_and_then}
 use Rattle.cc_base.specs.Bytes as ascii
 use Rattle.cc_base.specs.Found.{after}
 use Rattle.cc_candidates.specs.declared.candidate.CompletionCandidate.{CompletionCandidate}
 use Rattle.cc_quote.specs.BashDouble.{is_double_marked, bash_doubled}
 use Rattle.cc_quote.specs.Escapes.{marked}
 use Rattle.cc_replies.specs.Reply.{is_without, lines_from}
-use Rattle.cc_replies.specs.SafeValues.{is_safe_text}
+use Rattle.cc_replies.specs.SafeValues.{is_in_locale, is_safe_text, read_in_locale}
 pub use Rattle.cc_replies.specs.declared.bash_words.OpenQuote.{OpenQuote}
 pub use Rattle.cc_replies.specs.declared.bash_words.OpenQuote.TheVariants.{Bare, Single, Double}
 
@@ -21,6 +22,11 @@ abbrev pub open_quote : List ℕ → OpenQuote
 open_quote text =
     if bytes_eq text (codes "'") then Single
     else (if bytes_eq text (codes "\"") then Double else Bare)
+
+-- it is `"`
+abbrev pub is_double : OpenQuote → Bool
+is_double Double = true
+is_double _ = false
 
 -- the home directory, at the start of a word
 abbrev pub home_start : List ℕ
@@ -74,10 +80,15 @@ is_double_kept byte = not (is_double_marked byte || byte == exclamation)
 unfoldable pub double_read : List ℕ → Option (List ℕ)
 double_read line = word_read is_double_kept is_double_marked false line
 
--- between `'`: any byte except `'`
+-- Between `'`: any byte except `'`, and in a here-document, where quotes have no meaning, except for
+-- what is replaced there. bash does not tell a function that it is in one.
+abbrev pub is_single_lost : ℕ → Bool
+is_single_lost byte =
+    byte == ascii.single_quote || byte == ascii.dollar || byte == ascii.backtick
+
 unfoldable pub single_read : List ℕ → Option (List ℕ)
 single_read [] = Some []
-single_read (byte ∷ line) = elim (byte == ascii.single_quote) [
+single_read (byte ∷ line) = elim (is_single_lost byte) [
   | true ↦ None
   | false ↦ option_map (λ word. byte ∷ word) (single_read line)
 ]
@@ -121,34 +132,43 @@ bash_word_line kept quote value = elim (after kept value) [
   | None ↦ []
 ]
 
--- The text can be written in the open quote: a `'` would end `'`, and between `"` nothing keeps
--- bash from replacing `!`.
+-- The text can be written in the open quote. A `'` would end `'`, and nothing keeps a here-document
+-- from replacing `$` and a backtick there. Between `"` nothing keeps bash from replacing `!`.
 abbrev pub holds : OpenQuote → List ℕ → Bool
 holds Bare rest = true
-holds Single rest = is_without ascii.single_quote rest
+holds Single rest = list_all (λ byte. not (is_single_lost byte)) rest
 holds Double rest = is_without exclamation rest
 
 abbrev pub holds_rest : OpenQuote → Option (List ℕ) → Bool
 holds_rest quote None = false
 holds_rest quote (Some rest) = holds quote rest
 
--- The value has a byte and no control character, and begins with the part that bash keeps. The text
--- after that part can be written in the open quote.
-abbrev pub is_bash_insertable : List ℕ → OpenQuote → List ℕ → Bool
-is_bash_insertable kept quote value = is_safe_text value && holds_rest quote (after kept value)
+-- The value has a byte and no control character, bash's locale takes it as it is, and it begins with
+-- the part that bash keeps. The text after that part can be written in the open quote.
+abbrev pub is_bash_insertable : Bool → List ℕ → OpenQuote → List ℕ → Bool
+is_bash_insertable ascii_only kept quote value =
+    is_safe_text value && is_in_locale ascii_only value && holds_rest quote (after kept value)
 
 -- a line for each such value
-abbrev pub bash_words_reply : List ℕ → OpenQuote → List CompletionCandidate → List ℕ
-bash_words_reply kept quote candidates =
+abbrev pub bash_words_reply : Bool → List ℕ → OpenQuote → List CompletionCandidate → List ℕ
+bash_words_reply ascii_only kept quote candidates =
     flat_map (λ candidate. bash_word_line kept quote candidate.value)
-    (filter (λ candidate. is_bash_insertable kept quote candidate.value) candidates)
+    (filter (λ candidate. is_bash_insertable ascii_only kept quote candidate.value) candidates)
 
 -- ---- the law
 
--- the part that bash keeps and the text that it reads from each line are together each such value
-unfoldable pub BashWordsRead : List ℕ → OpenQuote → List CompletionCandidate → Type 0
-BashWordsRead kept quote candidates =
-    map (λ line. option_map (λ rest. kept ++ rest) (bash_line_word kept quote line))
-    (lines_from [] (bash_words_reply kept quote candidates))
+-- The value that bash reads from a line: the part that it keeps, and the text after that part. The
+-- reader goes from byte to byte, as bash does in UTF-8 and if each byte is one letter. In any other
+-- locale, `ascii_only`, this is known of ASCII alone, and no other value is read.
+unfoldable pub bash_value_read : Bool → List ℕ → OpenQuote → List ℕ → Option (List ℕ)
+bash_value_read ascii_only kept quote line =
+    option_and_then (read_in_locale ascii_only)
+    (option_map (λ rest. kept ++ rest) (bash_line_word kept quote line))
+
+-- bash reads each such value
+unfoldable pub BashWordsRead : Bool → List ℕ → OpenQuote → List CompletionCandidate → Type 0
+BashWordsRead ascii_only kept quote candidates =
+    map (bash_value_read ascii_only kept quote)
+    (lines_from [] (bash_words_reply ascii_only kept quote candidates))
     ≡ map (λ candidate. Some candidate.value)
-    (filter (λ candidate. is_bash_insertable kept quote candidate.value) candidates)
+    (filter (λ candidate. is_bash_insertable ascii_only kept quote candidate.value) candidates)

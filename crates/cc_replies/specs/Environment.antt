@@ -1,6 +1,6 @@
 -- Environment variables, the index of a word, and the separator of a reply.
 use Rattle.std.specs.Prelude.{◌≡◌, ◌<◌, ◌^◌, ℕ, List, Option, Some, None}
-use Rattle.std.specs.Prelude.{Bool, codes, find, is_some, option_map, unwrap_or}
+use Rattle.std.specs.Prelude.{Bool, false, not, ◌==◌, codes, find, is_some, length, option_map, unwrap_or}
 use Rattle.std.specs.String.{string_bytes}
 use Rattle.std.specs.Str.{bytes_eq}
 use Rattle.std.specs.Str.Parse.{IsNumeral, digits_value, without_leading_plus}
@@ -44,6 +44,14 @@ separator_of env = unwrap_or (value_of (codes "_CLAP_IFS") env) (codes "\n")
 -- the request comes from one of them
 abbrev pub asks_safely : EnvValues → Bool
 asks_safely env = is_some (value_of (codes "_COMPLGEN_VALUES") env)
+
+-- the shell's locale is safe for nothing but ASCII, as bash and zsh say by a text that is not empty
+abbrev pub has_byte : Option (List ℕ) → Bool
+has_byte None = false
+has_byte (Some text) = not (length text == 0)
+
+abbrev pub ascii_only_of : EnvValues → Bool
+ascii_only_of env = has_byte (value_of (codes "_COMPLGEN_ASCII") env)
 
 -- the part of the word that bash keeps
 abbrev pub kept_of : EnvValues → List ℕ

@@ -1,14 +1,15 @@
 -- The reply to PowerShell: the text that it inserts into its line, and how it reads that text
 -- there.
-use Rattle.std.specs.Prelude.{◌≡◌, ℕ, Bool, true, false, not, ◌&&◌, ◌||◌, ◌==◌, List, [], ◌∷◌, ◌++◌, Option, Some, None, codes, filter, flat_map, map, option_map}
+use Rattle.std.specs.Prelude.{◌≡◌, ℕ, Bool, true, false, not, ◌&&◌, ◌||◌, ◌==◌, if◌then◌else◌, List, [], ◌∷◌, ◌++◌, Option, Some, None, bytes_eq, codes, filter, flat_map, map, option_map}
 use Rattle.std.specs.Char.{is_ascii_alphanumeric}
 use Rattle.std.specs.List.{list_all, list_any}
-use Rattle.cc_base.specs.Bytes.{colon, dash, right_quote_first, right_quote_second, single_quote, tab}
+use Rattle.std.specs.Option.{option_and_then}
+use Rattle.cc_base.specs.Bytes.{colon, dash, double_quote, right_quote_first, right_quote_second, single_quote, tab}
 use Rattle.cc_base.specs.Found.{cut_at}
 use Rattle.cc_candidates.specs.declared.candidate.CompletionCandidate.{CompletionCandidate}
 use Rattle.cc_quote.specs.PowershellQuote.{powershell_escaped, powershell_word_of}
 use Rattle.cc_replies.specs.PowershellEntries.{Entry, entry_of, entry_shown, output_lines, tooltip_of}
-use Rattle.cc_replies.specs.Reply.{Shown, line_shown, shown_line}
+use Rattle.cc_replies.specs.Reply.{Shown, is_without, line_shown, shown_line}
 use Rattle.cc_replies.specs.SafeValues.{is_found, is_safe_text, safe_shown}
 
 -- ---- PowerShell's reader of words
@@ -62,6 +63,19 @@ powershell_typed (byte ∷ word) = elim (byte == single_quote) [
   ]
 ]
 
+-- ---- what programs receive
+
+-- Programs receive the word as it is. PowerShell drops `--%`, also a quoted one. Some of its versions
+-- and settings do not escape a `"` in the command line that they make for a program; the others
+-- are those with `passes_quotes`.
+abbrev pub is_received : Bool → List ℕ → Bool
+is_received passes_quotes word =
+    not (bytes_eq word (codes "--%")) && (passes_quotes || is_without double_quote word)
+
+-- such a word
+abbrev pub received : Bool → List ℕ → Option (List ℕ)
+received passes_quotes word = if is_received passes_quotes word then Some word else None
+
 -- ---- the safe registration's reader of lines
 
 -- an entry whose word is read as this text
@@ -74,18 +88,18 @@ typed_entry None entry = None
 typed_entry (Some typed) entry = option_map (typed_as typed) entry
 
 -- a word to insert, and the rest of its line: the value to list, and the tooltip
-unfoldable pub word_entry : Option (List ℕ × List ℕ) → Option Entry
-word_entry None = None
-word_entry (Some (word, rest)) =
-    typed_entry (powershell_typed word)
+unfoldable pub word_entry : Bool → Option (List ℕ × List ℕ) → Option Entry
+word_entry passes_quotes None = None
+word_entry passes_quotes (Some (word, rest)) =
+    typed_entry (option_and_then (received passes_quotes) (powershell_typed word))
     (entry_of word (line_shown rest).value
     (tooltip_of (line_shown rest).value (line_shown rest).help))
 
 -- The entry of a line, which the registration splits into at most three pieces at its tabs. If the
 -- third is missing or empty, the second is the tooltip. `None` is a line that is refused, and one
--- whose word PowerShell would not read as a word.
-unfoldable pub powershell_line_read : List ℕ → Option Entry
-powershell_line_read line = word_entry (cut_at (tab ∷ []) line)
+-- whose word PowerShell would not read as a word, or not pass to a program.
+unfoldable pub powershell_line_read : Bool → List ℕ → Option Entry
+powershell_line_read passes_quotes line = word_entry passes_quotes (cut_at (tab ∷ []) line)
 
 -- ---- the text that is written
 
@@ -100,22 +114,25 @@ powershell_word value = elim (is_powershell_bare value) [
 unfoldable pub powershell_line : Shown → List ℕ
 powershell_line item = powershell_word item.value ++ codes "\t" ++ shown_line item
 
--- the value has a byte, no control character, and none of the three quotes
-abbrev pub is_powershell_insertable : List ℕ → Bool
-is_powershell_insertable value = is_safe_text value && not (is_found begins_other_quote value)
+-- the value has a byte, no control character, and none of the three quotes, and programs receive it
+abbrev pub is_powershell_insertable : Bool → List ℕ → Bool
+is_powershell_insertable passes_quotes value =
+    is_safe_text value && not (is_found begins_other_quote value)
+    && is_received passes_quotes value
 
 -- a line for each candidate with such a value
-abbrev pub powershell_words_reply : List CompletionCandidate → List ℕ
-powershell_words_reply candidates =
+abbrev pub powershell_words_reply : Bool → List CompletionCandidate → List ℕ
+powershell_words_reply passes_quotes candidates =
     flat_map (λ candidate. powershell_line (safe_shown candidate))
-    (filter (λ candidate. is_powershell_insertable candidate.value) candidates)
+    (filter (λ candidate. is_powershell_insertable passes_quotes candidate.value) candidates)
 
 -- ---- the law
 
 -- PowerShell inserts the value of each such candidate, and lists the value with the help that is
 -- shown; no line is refused
-unfoldable pub PowershellWordsRead : List CompletionCandidate → Type 0
-PowershellWordsRead candidates =
-    map powershell_line_read (output_lines false [] (powershell_words_reply candidates))
+unfoldable pub PowershellWordsRead : Bool → List CompletionCandidate → Type 0
+PowershellWordsRead passes_quotes candidates =
+    map (powershell_line_read passes_quotes)
+    (output_lines false [] (powershell_words_reply passes_quotes candidates))
     ≡ map (λ candidate. Some (entry_shown (safe_shown candidate)))
-    (filter (λ candidate. is_powershell_insertable candidate.value) candidates)
+    (filter (λ candidate. is_powershell_insertable passes_quotes candidate.value) candidates)

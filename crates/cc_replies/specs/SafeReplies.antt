@@ -1,10 +1,12 @@
 -- The replies to shells that quote what they insert: lines without anything that the shell would
 -- interpret.
-use Rattle.std.specs.Prelude.{◌≡◌, ℕ, Bool, true, false, not, ◌&&◌, ◌||◌, ◌==◌, List, [], ◌∷◌, ◌++◌, Some, codes, filter, flat_map, map}
+use Rattle.std.specs.Prelude.{◌≡◌, ℕ, Bool, true, false, not, ◌&&◌, ◌||◌, ◌==◌, if◌then◌else◌, List, [], ◌∷◌, ◌++◌, Option, Some, None, codes, filter, flat_map, map}
+use Rattle.std.specs.Int.{is_in_range}
+use Rattle.std.specs.Option.{option_and_then}
 use Rattle.cc_candidates.specs.declared.candidate.CompletionCandidate.{CompletionCandidate}
 use Rattle.cc_quote.specs.ZshQuote.{marks}
-use Rattle.cc_replies.specs.Reply.{lines_from, lines_read, shown_from, shown_line, zsh_item}
-use Rattle.cc_replies.specs.SafeValues.{is_safe_text, safe_shown}
+use Rattle.cc_replies.specs.Reply.{Shown, lines_from, lines_read, shown_from, shown_line, zsh_item}
+use Rattle.cc_replies.specs.SafeValues.{is_found, is_in_locale, is_safe_text, safe_shown}
 
 -- ---- Elvish: values
 
@@ -53,16 +55,44 @@ SafeLinesRead candidates =
 
 -- ---- zsh: values, each with its help text after a colon
 
+-- one of the characters U+E000 to U+E0FF begins here, which zsh's line takes for a byte from 0 to
+-- 255: in UTF-8, they begin with 238 and a byte from 128 to 131
+abbrev pub ends_raw : List ℕ → Bool
+ends_raw [] = false
+ends_raw (byte ∷ rest) = is_in_range 128 131 byte
+
+abbrev pub begins_raw : ℕ → List ℕ → Bool
+begins_raw byte rest = byte == 238 && ends_raw rest
+
+-- zsh inserts the value as it is: its locale takes it as it is, and so does its line
+abbrev pub is_zsh_kept : Bool → List ℕ → Bool
+is_zsh_kept ascii_only value = is_in_locale ascii_only value && not (is_found begins_raw value)
+
+abbrev pub is_zsh_insertable : Bool → List ℕ → Bool
+is_zsh_insertable ascii_only value = is_safe_text value && is_zsh_kept ascii_only value
+
 abbrev pub safe_zsh_line : CompletionCandidate → List ℕ
 safe_zsh_line candidate = zsh_item (safe_shown candidate) ++ codes "\n"
 
-abbrev pub safe_zsh_reply : List CompletionCandidate → List ℕ
-safe_zsh_reply candidates =
-    flat_map safe_zsh_line (filter (λ candidate. is_safe_text candidate.value) candidates)
+abbrev pub safe_zsh_reply : Bool → List CompletionCandidate → List ℕ
+safe_zsh_reply ascii_only candidates =
+    flat_map safe_zsh_line
+    (filter (λ candidate. is_zsh_insertable ascii_only candidate.value) candidates)
+
+-- an item, if zsh inserts its value as it is
+abbrev pub zsh_kept : Bool → Shown → Option Shown
+zsh_kept ascii_only item = if is_zsh_kept ascii_only item.value then Some item else None
+
+-- The item of a line. zsh quotes the value letter by letter. In UTF-8 the value stays as it is,
+-- except where the line takes a letter for a byte. In any other locale, `ascii_only`, this is known
+-- of ASCII alone, and no other value is read.
+unfoldable pub zsh_item_read : Bool → List ℕ → Option Shown
+zsh_item_read ascii_only line =
+    option_and_then (zsh_kept ascii_only) (shown_from [] (marks line))
 
 -- each of its lines is read back as such a value and its help text
-unfoldable pub SafeZshRead : List CompletionCandidate → Type 0
-SafeZshRead candidates =
-    map (λ line. shown_from [] (marks line)) (lines_from [] (safe_zsh_reply candidates))
+unfoldable pub SafeZshRead : Bool → List CompletionCandidate → Type 0
+SafeZshRead ascii_only candidates =
+    map (zsh_item_read ascii_only) (lines_from [] (safe_zsh_reply ascii_only candidates))
     ≡ map (λ candidate. Some (safe_shown candidate))
-    (filter (λ candidate. is_safe_text candidate.value) candidates)
+    (filter (λ candidate. is_zsh_insertable ascii_only candidate.value) candidates)

@@ -1,17 +1,19 @@
 //! The reply to bash: values as they appear in bash's line. bash inserts each of them unchanged.
 
-ghost use Rattle.std.specs.Prelude.{◌≡◌, IfErr};
+ghost use Rattle.std.specs.Prelude.{◌≡◌, IfErr, not};
+ghost use Rattle.std.specs.List.{list_all};
 ghost use Rattle.std.specs.Option.{option_copied};
 ghost use Rattle.cc_base.specs.Found.{after};
 ghost use Rattle.cc_base.specs.Writes.{IsWrite, Writes, as_write};
 ghost use Rattle.cc_quote.specs.Escapes.{backslashed};
-ghost use Rattle.cc_replies.specs.BashWords.{BashWordsRead, bare_text, bash_text, bash_word_line};
+ghost use Rattle.cc_replies.specs.BashWords.{BashWordsRead, bare_text, bash_text};
 ghost use Rattle.cc_replies.specs.BashWords.{bash_words_reply, holds, holds_rest, is_bare_marked};
-ghost use Rattle.cc_replies.specs.BashWords.{is_bash_insertable, open_quote, start_text};
+ghost use Rattle.cc_replies.specs.BashWords.{is_double, is_single_lost, open_quote, start_text};
 
 use crate::readable::is_without;
-use crate::safe::is_safe_text;
-use cc_base::{Error, Sink, put_piece};
+use crate::reply_lines::{ReplyLines, put_each};
+use crate::safe::{is_in_locale, is_safe_text};
+use cc_base::{Error, Sink, TextRef, put_piece};
 use cc_candidates::CompletionCandidate;
 use cc_quote::{BashDouble, ByteEscape, put_escaped};
 use std::io::ErrorKind;
@@ -38,13 +40,25 @@ impl OpenQuote {
             _ => OpenQuote::Bare,
         }
     }
+
+    /// Returns whether the quote is `"`.
+    pub fn is_double(self) -> bool
+        ensures { result ≡ is_double self }
+    {
+        match self {
+            OpenQuote::Double => true,
+            _ => false,
+        }
+    }
 }
 
 /// Writes a line for each value that bash can insert. The line contains the value without the part
 /// `kept`, which bash keeps, escaped for the open `quote`.
 ///
 /// Leaves out a value that is empty, has a control character, does not begin with the part that
-/// bash keeps, or cannot be written in the open quote: a `'` after `'`, a `!` after `"`.
+/// bash keeps, or cannot be written in the open quote: with a `'`, a `$` or a backtick after `'`,
+/// with a `!` after `"`. Leaves out a value that is not ASCII if bash's locale is safe for
+/// `ascii_only`.
 ///
 /// # Errors
 ///
@@ -52,40 +66,58 @@ impl OpenQuote {
 #[tactic(auto, using(crate::proofs::BashReadings::words_read_back))]
 pub fn write_bash_words<W: Sink>(
     sink: &mut W,
+    ascii_only: bool,
     kept: &str,
     quote: OpenQuote,
     candidates: &[CompletionCandidate],
 ) -> Result<(), Error>
     ensures written { Writes W.taken W.failed result sink.old sink.new
-        (bash_words_reply kept.now quote candidates.now) }
+        (bash_words_reply ascii_only kept.now quote candidates.now) }
     ensures write_only { IfErr result IsWrite }
-    ensures read_back { BashWordsRead kept.now quote candidates.now }
+    ensures read_back { BashWordsRead ascii_only kept.now quote candidates.now }
 {
-    Ok(put_bash_words(sink, kept, quote, candidates)?)
+    let words = BashWords {
+        ascii_only,
+        kept: TextRef::new(kept),
+        quote,
+    };
+    Ok(put_each(sink, &words, candidates)?)
 }
 
-fn put_bash_words<W: Sink>(
-    sink: &mut W,
-    kept: &str,
+// The lines of values as bash reads them after the part `kept`, in the open quote.
+#[derive(Drop)]
+struct BashWords<'a> {
+    ascii_only: bool,
+    kept: TextRef<'a>,
     quote: OpenQuote,
-    candidates: &[CompletionCandidate],
-) -> Result<(), ErrorKind>
-    ensures { Writes W.taken W.failed (as_write result) sink.old sink.new
-        (bash_words_reply kept.now quote candidates.now) }
-{
-    for candidate in candidates {
-        if !is_bash_insertable(kept, quote, candidate.get_value()) {
-            continue;
-        }
-        put_bash_word(sink, kept, quote, candidate.get_value())?;
-    }
-    Ok(())
 }
 
-fn is_bash_insertable(kept: &str, quote: OpenQuote, value: &str) -> bool
-    ensures { result ≡ is_bash_insertable kept.now quote value.now }
-{
-    is_safe_text(value) && holds_rest(quote, rest_after(kept, value))
+impl ReplyLines for BashWords<'_> {
+    ghost use Rattle.cc_replies.specs.BashWords.{bash_word_line, is_bash_insertable};
+
+    ghost inserts = { λ words. is_bash_insertable words.ascii_only words.kept words.quote };
+
+    ghost line = { λ words candidate. bash_word_line words.kept words.quote candidate.value };
+
+    fn can_insert(&self, value: &str) -> bool {
+        is_safe_text(value)
+            && is_in_locale(self.ascii_only, value)
+            && holds_rest(self.quote, rest_after(self.kept.as_str(), value))
+    }
+
+    #[tactic(auto, unfolding(crate::specs::BashWords::bash_word_line))]
+    fn put_line<W: Sink>(
+        &self,
+        sink: &mut W,
+        candidate: &CompletionCandidate,
+    ) -> Result<(), ErrorKind> {
+        let kept = self.kept.as_str();
+        let Some(rest) = rest_after(kept, candidate.get_value()) else {
+            return Ok(());
+        };
+        put_bash_text(sink, kept, self.quote, rest)?;
+        put_piece(sink, "\n")
+    }
 }
 
 fn holds_rest(quote: OpenQuote, rest: Option<&str>) -> bool
@@ -102,9 +134,17 @@ fn holds(quote: OpenQuote, rest: &str) -> bool
 {
     match quote {
         OpenQuote::Bare => true,
-        OpenQuote::Single => is_without(rest, b'\''),
+        OpenQuote::Single => is_kept_in_single(rest.as_bytes()),
         OpenQuote::Double => is_without(rest, b'!'),
     }
+}
+
+// Returns whether the text stays as it is between two `'`, also in a here-document.
+fn is_kept_in_single(text: &[u8]) -> bool
+    ensures { result ≡ list_all (λ byte. not (is_single_lost byte)) text.now }
+{
+    text.iter()
+        .all(|byte| !matches!(*byte, b'\'' | b'$' | b'`'))
 }
 
 // Returns the text after `beginning`, or `None` if the text does not begin with it.
@@ -112,23 +152,6 @@ fn rest_after<'a>(beginning: &str, text: &'a str) -> Option<&'a str>
     ensures { option_copied result ≡ after beginning.now text.now }
 {
     text.strip_prefix(beginning)
-}
-
-#[tactic(auto, unfolding(crate::specs::BashWords::bash_word_line))]
-fn put_bash_word<W: Sink>(
-    sink: &mut W,
-    kept: &str,
-    quote: OpenQuote,
-    value: &str,
-) -> Result<(), ErrorKind>
-    ensures { Writes W.taken W.failed (as_write result) sink.old sink.new
-        (bash_word_line kept.now quote value.now) }
-{
-    let Some(rest) = rest_after(kept, value) else {
-        return Ok(());
-    };
-    put_bash_text(sink, kept, quote, rest)?;
-    put_piece(sink, "\n")
 }
 
 #[tactic(auto, unfolding(crate::specs::BashWords::bash_text))]

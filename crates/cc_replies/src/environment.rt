@@ -5,8 +5,9 @@ ghost use Rattle.std.specs.Option.{option_copied};
 ghost use Rattle.std.specs.Prelude.{option_map, find};
 ghost use Rattle.std.specs.Str.{bytes_eq};
 ghost use Rattle.std.specs.String.{string_bytes};
-ghost use Rattle.cc_replies.specs.Environment.{asks_safely, index_name, kept_of, quote_of};
-ghost use Rattle.cc_replies.specs.Environment.{separator_of, value_of, IsIndex, IsNumberOf};
+ghost use Rattle.cc_replies.specs.Environment.{asks_safely, ascii_only_of, index_name, kept_of};
+ghost use Rattle.cc_replies.specs.Environment.{quote_of, separator_of, value_of};
+ghost use Rattle.cc_replies.specs.Environment.{IsIndex, IsNumberOf};
 
 use crate::bash_words::OpenQuote;
 use cc_base::Items;
@@ -72,6 +73,17 @@ impl EnvValues {
         self.get("_COMPLGEN_VALUES").is_some()
     }
 
+    /// Returns whether the locale of bash or zsh is safe for nothing but ASCII: whether
+    /// `_COMPLGEN_ASCII` is set to a text that is not empty.
+    pub fn ascii_only(&self) -> bool
+        ensures { result ≡ ascii_only_of self.now }
+    {
+        match self.get("_COMPLGEN_ASCII") {
+            Some(text) => !text.is_empty(),
+            None => false,
+        }
+    }
+
     /// Returns the part of the word that bash keeps: the value of `_COMPLGEN_KEPT`, or else an
     /// empty text.
     pub fn kept(&self) -> &str
@@ -81,7 +93,8 @@ impl EnvValues {
     }
 
     /// Returns the quote that is open in bash's line, by the value of `_COMPLGEN_QUOTE`. If the
-    /// variable is not set, no quote is open.
+    /// variable is not set, no quote is open. PowerShell sets it to `"` if it passes a `"` to
+    /// programs as it is.
     pub fn open_quote(&self) -> OpenQuote
         ensures { result ≡ quote_of self.now }
     {

@@ -20,6 +20,7 @@ mod lines;
 mod powershell_words;
 mod readable;
 mod reply;
+mod reply_lines;
 mod safe;
 mod safe_replies;
 mod system;

@@ -6,12 +6,12 @@ ghost use Rattle.std.specs.List.{list_all, list_any};
 ghost use Rattle.cc_base.specs.Writes.{IsWrite, Writes, as_write};
 ghost use Rattle.cc_replies.specs.PowershellWords.{PowershellWordsRead, begins_other_quote};
 ghost use Rattle.cc_replies.specs.PowershellWords.{is_powershell_bare, is_powershell_byte};
-ghost use Rattle.cc_replies.specs.PowershellWords.{is_powershell_insertable, is_split_parameter};
-ghost use Rattle.cc_replies.specs.PowershellWords.{is_splitting};
-ghost use Rattle.cc_replies.specs.PowershellWords.{powershell_line, powershell_word};
-ghost use Rattle.cc_replies.specs.PowershellWords.{powershell_words_reply};
-ghost use Rattle.cc_replies.specs.SafeValues.{is_found, safe_shown};
+ghost use Rattle.cc_replies.specs.PowershellWords.{is_received, is_split_parameter, is_splitting};
+ghost use Rattle.cc_replies.specs.PowershellWords.{powershell_word, powershell_words_reply};
+ghost use Rattle.cc_replies.specs.SafeValues.{is_found};
 
+use crate::readable::is_without;
+use crate::reply_lines::{ReplyLines, put_each};
 use crate::safe::is_safe_text;
 use crate::safe_replies::put_safe_line;
 use cc_base::{Error, Sink, put_piece};
@@ -24,7 +24,8 @@ use std::io::ErrorKind;
 /// tab and that line follow.
 ///
 /// Leaves out a value that is empty, has a control character, or contains U+2018, U+201A or U+201B,
-/// which PowerShell treats as quotes.
+/// which PowerShell treats as quotes. Leaves out `--%`, and a value with a `"` unless PowerShell
+/// `passes_quotes` to programs.
 ///
 /// # Errors
 ///
@@ -32,43 +33,46 @@ use std::io::ErrorKind;
 #[tactic(auto, using(crate::proofs::PowershellReadings::words_read_back))]
 pub fn write_powershell_words<W: Sink>(
     sink: &mut W,
+    passes_quotes: bool,
     candidates: &[CompletionCandidate],
 ) -> Result<(), Error>
     ensures written { Writes W.taken W.failed result sink.old sink.new
-        (powershell_words_reply candidates.now) }
+        (powershell_words_reply passes_quotes candidates.now) }
     ensures write_only { IfErr result IsWrite }
-    ensures read_back { PowershellWordsRead candidates.now }
+    ensures read_back { PowershellWordsRead passes_quotes candidates.now }
 {
-    Ok(put_powershell_words(sink, candidates)?)
+    Ok(put_each(sink, &PowershellWords { passes_quotes }, candidates)?)
 }
 
-fn put_powershell_words<W: Sink>(
-    sink: &mut W,
-    candidates: &[CompletionCandidate],
-) -> Result<(), ErrorKind>
-    ensures { Writes W.taken W.failed (as_write result) sink.old sink.new
-        (powershell_words_reply candidates.now) }
-{
-    for candidate in candidates {
-        if !is_powershell_insertable(candidate.get_value()) {
-            continue;
-        }
-        put_powershell_line(sink, candidate)?;
+#[derive(Drop)]
+struct PowershellWords {
+    passes_quotes: bool,
+}
+
+impl ReplyLines for PowershellWords {
+    ghost use Rattle.cc_replies.specs.PowershellWords.{is_powershell_insertable, powershell_line};
+    ghost use Rattle.cc_replies.specs.SafeValues.{safe_shown};
+
+    ghost inserts = { λ words. is_powershell_insertable words.passes_quotes };
+
+    ghost line = { λ _ candidate. powershell_line (safe_shown candidate) };
+
+    fn can_insert(&self, value: &str) -> bool {
+        is_safe_text(value)
+            && !has_other_quote(value.as_bytes())
+            && is_received(self.passes_quotes, value)
     }
-    Ok(())
-}
 
-#[tactic(auto, unfolding(crate::specs::PowershellWords::powershell_line))]
-fn put_powershell_line<W: Sink>(
-    sink: &mut W,
-    candidate: &CompletionCandidate,
-) -> Result<(), ErrorKind>
-    ensures { Writes W.taken W.failed (as_write result) sink.old sink.new
-        (powershell_line (safe_shown candidate.now)) }
-{
-    put_powershell_word(sink, candidate.get_value())?;
-    put_piece(sink, "\t")?;
-    put_safe_line(sink, candidate)
+    #[tactic(auto, unfolding(crate::specs::PowershellWords::powershell_line))]
+    fn put_line<W: Sink>(
+        &self,
+        sink: &mut W,
+        candidate: &CompletionCandidate,
+    ) -> Result<(), ErrorKind> {
+        put_powershell_word(sink, candidate.get_value())?;
+        put_piece(sink, "\t")?;
+        put_safe_line(sink, candidate)
+    }
 }
 
 #[tactic(auto, unfolding(crate::specs::PowershellWords::powershell_word))]
@@ -84,10 +88,11 @@ fn put_powershell_word<W: Sink>(sink: &mut W, value: &str) -> Result<(), ErrorKi
     put_piece(sink, "'")
 }
 
-fn is_powershell_insertable(value: &str) -> bool
-    ensures { result ≡ is_powershell_insertable value.now }
+// Returns whether programs receive the value as it is.
+fn is_received(passes_quotes: bool, value: &str) -> bool
+    ensures { result ≡ is_received passes_quotes value.now }
 {
-    is_safe_text(value) && !has_other_quote(value.as_bytes())
+    value != "--%" && (passes_quotes || is_without(value, b'"'))
 }
 
 fn has_other_quote(text: &[u8]) -> bool

@@ -4,8 +4,8 @@ ghost use Rattle.std.specs.Prelude.{◌≡◌, IfErr, option_map};
 ghost use Rattle.std.specs.Option.{option_copied};
 ghost use Rattle.cc_base.specs.Writes.{IsWrite, Writes, as_write};
 ghost use Rattle.cc_replies.specs.PowershellEntries.{EntriesRead};
-ghost use Rattle.cc_replies.specs.Reply.{LinesRead, ValuesRead, ZshReplyRead, candidate_line};
-ghost use Rattle.cc_replies.specs.Reply.{colon_help, first_line, lines_reply, shown, tab_help};
+ghost use Rattle.cc_replies.specs.Reply.{LinesRead, ValuesRead, ZshReplyRead, colon_help};
+ghost use Rattle.cc_replies.specs.Reply.{first_line, lines_reply, shown_line, tab_help};
 ghost use Rattle.cc_replies.specs.Reply.{values_reply, without_return, zsh_item, zsh_reply};
 
 use cc_base::{Error, Sink, put_piece, put_separator};
@@ -96,30 +96,35 @@ fn put_zsh_items<W: Sink>(
     let mut begun = false;
     for candidate in candidates {
         put_separator(sink, between, &mut begun)?;
-        put_zsh_item(sink, candidate)?;
+        put_zsh_item(sink, candidate.get_value(), help_line(candidate.get_help()))?;
     }
     Ok(())
 }
 
+/// Writes a value as zsh reads it, with its help text after a colon.
 #[tactic(auto, unfolding(crate::specs::Reply::zsh_item))]
-fn put_zsh_item<W: Sink>(sink: &mut W, candidate: &CompletionCandidate) -> Result<(), ErrorKind>
+pub(crate) fn put_zsh_item<W: Sink>(
+    sink: &mut W,
+    value: &str,
+    help: Option<&str>,
+) -> Result<(), ErrorKind>
     ensures { Writes W.taken W.failed (as_write result) sink.old sink.new
-        (zsh_item (shown candidate.now)) }
+        (zsh_item (record { value = value.now; help = option_copied help.entry })) }
 {
-    put_escaped(sink, &ZshReplyValue, candidate.get_value())?;
-    put_colon_help(sink, candidate.get_help())
+    put_escaped(sink, &ZshReplyValue, value)?;
+    put_colon_help(sink, help)
 }
 
 #[tactic(auto, unfolding(crate::specs::Reply::colon_help))]
 fn put_colon_help<W: Sink>(sink: &mut W, help: Option<&str>) -> Result<(), ErrorKind>
     ensures { Writes W.taken W.failed (as_write result) sink.old sink.new
-        (colon_help (option_map first_line (option_copied help.entry))) }
+        (colon_help (option_copied help.entry)) }
 {
     let Some(help) = help else {
         return Ok(());
     };
     put_piece(sink, ":")?;
-    put_escaped(sink, &ZshReplyHelp, first_line(help))
+    put_escaped(sink, &ZshReplyHelp, help)
 }
 
 fn put_lines<W: Sink>(sink: &mut W, candidates: &[CompletionCandidate]) -> Result<(), ErrorKind>
@@ -127,31 +132,43 @@ fn put_lines<W: Sink>(sink: &mut W, candidates: &[CompletionCandidate]) -> Resul
         (lines_reply candidates.now) }
 {
     for candidate in candidates {
-        put_line(sink, candidate)?;
+        put_shown_line(sink, candidate.get_value(), help_line(candidate.get_help()))?;
     }
     Ok(())
 }
 
+/// Writes a line with a value, and with its help text after a tab.
 #[tactic(auto, unfolding(crate::specs::Reply::shown_line))]
-fn put_line<W: Sink>(sink: &mut W, candidate: &CompletionCandidate) -> Result<(), ErrorKind>
+pub(crate) fn put_shown_line<W: Sink>(
+    sink: &mut W,
+    value: &str,
+    help: Option<&str>,
+) -> Result<(), ErrorKind>
     ensures { Writes W.taken W.failed (as_write result) sink.old sink.new
-        (candidate_line candidate.now) }
+        (shown_line (record { value = value.now; help = option_copied help.entry })) }
 {
-    put_piece(sink, candidate.get_value())?;
-    put_tab_help(sink, candidate.get_help())?;
+    put_piece(sink, value)?;
+    put_tab_help(sink, help)?;
     put_piece(sink, "\n")
 }
 
 #[tactic(auto, unfolding(crate::specs::Reply::tab_help))]
 fn put_tab_help<W: Sink>(sink: &mut W, help: Option<&str>) -> Result<(), ErrorKind>
     ensures { Writes W.taken W.failed (as_write result) sink.old sink.new
-        (tab_help (option_map first_line (option_copied help.entry))) }
+        (tab_help (option_copied help.entry)) }
 {
     let Some(help) = help else {
         return Ok(());
     };
     put_piece(sink, "\t")?;
-    put_piece(sink, first_line(help))
+    put_piece(sink, help)
+}
+
+// Returns the first line of the help text.
+fn help_line(help: Option<&str>) -> Option<&str>
+    ensures { option_copied result ≡ option_map first_line (option_copied help.entry) }
+{
+    Some(first_line(help?))
 }
 
 // Returns the text before the first line feed, and without a carriage return directly before that.

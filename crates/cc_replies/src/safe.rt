@@ -3,7 +3,10 @@
 
 ghost use Rattle.std.specs.Prelude.{◌≡◌, ◌<◌, drop, length, slice_index, ◌+◌};
 ghost use Rattle.std.specs.Option.{option_copied};
-ghost use Rattle.cc_replies.specs.SafeValues.{begins_control, is_found, is_safe_text, safe_help};
+ghost use Rattle.std.specs.Char.{is_ascii};
+ghost use Rattle.std.specs.List.{list_all};
+ghost use Rattle.cc_replies.specs.SafeValues.{begins_control, is_found, is_in_locale};
+ghost use Rattle.cc_replies.specs.SafeValues.{is_safe_text, safe_help};
 
 use crate::reply::first_line;
 
@@ -13,6 +16,20 @@ pub(crate) fn is_safe_text(text: &str) -> bool
     ensures { result ≡ is_safe_text text.now }
 {
     !text.is_empty() && !has_control(text.as_bytes())
+}
+
+/// Returns whether a shell takes the text as it is: whether it is ASCII, if the shell's locale is
+/// safe for nothing else.
+pub(crate) fn is_in_locale(ascii_only: bool, text: &str) -> bool
+    ensures { result ≡ is_in_locale ascii_only text.now }
+{
+    !ascii_only || is_ascii(text.as_bytes())
+}
+
+fn is_ascii(bytes: &[u8]) -> bool
+    ensures { result ≡ list_all is_ascii bytes.now }
+{
+    bytes.iter().all(|byte| byte.is_ascii())
 }
 
 /// Returns the first line of the help text, unless that line is empty or has a control character.

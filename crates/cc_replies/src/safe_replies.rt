@@ -1,19 +1,18 @@
 //! Replies to shells that quote what they insert: lines without control characters.
 
-ghost use Rattle.std.specs.Prelude.{◌≡◌, IfErr};
-ghost use Rattle.std.specs.Option.{option_copied};
+ghost use Rattle.std.specs.Prelude.{◌≡◌, ◌<◌, ◌+◌, IfErr, drop, length, slice_index};
 ghost use Rattle.cc_base.specs.Writes.{IsWrite, Writes, as_write};
-ghost use Rattle.cc_replies.specs.Reply.{colon_help, tab_help};
 ghost use Rattle.cc_replies.specs.SafeReplies.{SafeLinesRead, SafeValuesRead, SafeZshRead};
-ghost use Rattle.cc_replies.specs.SafeReplies.{is_fish_insertable, is_tilde_plain};
+ghost use Rattle.cc_replies.specs.SafeReplies.{begins_raw, is_tilde_plain};
 ghost use Rattle.cc_replies.specs.SafeReplies.{safe_line, safe_lines_reply, safe_values_reply};
-ghost use Rattle.cc_replies.specs.SafeReplies.{safe_zsh_line, safe_zsh_reply, value_line};
-ghost use Rattle.cc_replies.specs.SafeValues.{safe_help};
+ghost use Rattle.cc_replies.specs.SafeReplies.{safe_zsh_reply};
+ghost use Rattle.cc_replies.specs.SafeValues.{is_found};
 
-use crate::safe::{is_safe_text, safe_help};
+use crate::reply::{put_shown_line, put_zsh_item};
+use crate::reply_lines::{ReplyLines, put_each};
+use crate::safe::{is_in_locale, is_safe_text, safe_help};
 use cc_base::{Error, Sink, put_piece};
 use cc_candidates::CompletionCandidate;
-use cc_quote::{ZshReplyHelp, ZshReplyValue, put_escaped};
 use std::io::ErrorKind;
 
 /// Writes the reply to Elvish: a line for each value.
@@ -33,7 +32,7 @@ pub fn write_safe_values<W: Sink>(
     ensures write_only { IfErr result IsWrite }
     ensures read_back { SafeValuesRead candidates.now }
 {
-    Ok(put_safe_values(sink, candidates)?)
+    Ok(put_each(sink, &SafeValues, candidates)?)
 }
 
 /// Writes the reply to fish: a line for each value, with the first line of its help text after a
@@ -55,13 +54,15 @@ pub fn write_safe_lines<W: Sink>(
     ensures write_only { IfErr result IsWrite }
     ensures read_back { SafeLinesRead candidates.now }
 {
-    Ok(put_safe_lines(sink, candidates)?)
+    Ok(put_each(sink, &SafeLines, candidates)?)
 }
 
 /// Writes the reply to zsh: a line for each value, with the first line of its help text after a
 /// colon.
 ///
 /// Leaves out a value, or the first line of a help text, that is empty or has a control character.
+/// Leaves out a value that has one of the characters U+E000 to U+E0FF, which zsh's line takes for
+/// other bytes. Leaves out a value that is not ASCII if zsh's locale is safe for `ascii_only`.
 ///
 /// # Errors
 ///
@@ -69,60 +70,65 @@ pub fn write_safe_lines<W: Sink>(
 #[tactic(auto, using(crate::proofs::SafeReadings::zsh_read_back))]
 pub fn write_safe_zsh_items<W: Sink>(
     sink: &mut W,
+    ascii_only: bool,
     candidates: &[CompletionCandidate],
 ) -> Result<(), Error>
     ensures written { Writes W.taken W.failed result sink.old sink.new
-        (safe_zsh_reply candidates.now) }
+        (safe_zsh_reply ascii_only candidates.now) }
     ensures write_only { IfErr result IsWrite }
-    ensures read_back { SafeZshRead candidates.now }
+    ensures read_back { SafeZshRead ascii_only candidates.now }
 {
-    Ok(put_safe_zsh_items(sink, candidates)?)
+    Ok(put_each(sink, &SafeZshItems { ascii_only }, candidates)?)
 }
 
-fn put_safe_values<W: Sink>(
-    sink: &mut W,
-    candidates: &[CompletionCandidate],
-) -> Result<(), ErrorKind>
-    ensures { Writes W.taken W.failed (as_write result) sink.old sink.new
-        (safe_values_reply candidates.now) }
-{
-    for candidate in candidates {
-        if !is_safe_text(candidate.get_value()) {
-            continue;
-        }
-        put_value_line(sink, candidate)?;
+// A line for each value.
+#[derive(Drop)]
+struct SafeValues;
+
+impl ReplyLines for SafeValues {
+    ghost use Rattle.cc_replies.specs.SafeReplies.{value_line};
+    ghost use Rattle.cc_replies.specs.SafeValues.{is_safe_text};
+
+    ghost inserts = { λ _. is_safe_text };
+
+    ghost line = { λ _. value_line };
+
+    fn can_insert(&self, value: &str) -> bool {
+        is_safe_text(value)
     }
-    Ok(())
-}
 
-fn put_value_line<W: Sink>(sink: &mut W, candidate: &CompletionCandidate) -> Result<(), ErrorKind>
-    ensures { Writes W.taken W.failed (as_write result) sink.old sink.new
-        (value_line candidate.now) }
-{
-    put_piece(sink, candidate.get_value())?;
-    put_piece(sink, "\n")
-}
-
-fn put_safe_lines<W: Sink>(
-    sink: &mut W,
-    candidates: &[CompletionCandidate],
-) -> Result<(), ErrorKind>
-    ensures { Writes W.taken W.failed (as_write result) sink.old sink.new
-        (safe_lines_reply candidates.now) }
-{
-    for candidate in candidates {
-        if !is_fish_insertable(candidate.get_value()) {
-            continue;
-        }
-        put_safe_line(sink, candidate)?;
+    fn put_line<W: Sink>(
+        &self,
+        sink: &mut W,
+        candidate: &CompletionCandidate,
+    ) -> Result<(), ErrorKind> {
+        put_piece(sink, candidate.get_value())?;
+        put_piece(sink, "\n")
     }
-    Ok(())
 }
 
-fn is_fish_insertable(value: &str) -> bool
-    ensures { result ≡ is_fish_insertable value.now }
-{
-    is_safe_text(value) && is_tilde_plain(value.as_bytes())
+// A line for each value, with its help text after a tab.
+#[derive(Drop)]
+struct SafeLines;
+
+impl ReplyLines for SafeLines {
+    ghost use Rattle.cc_replies.specs.SafeReplies.{is_fish_insertable, safe_line};
+
+    ghost inserts = { λ _. is_fish_insertable };
+
+    ghost line = { λ _. safe_line };
+
+    fn can_insert(&self, value: &str) -> bool {
+        is_safe_text(value) && is_tilde_plain(value.as_bytes())
+    }
+
+    fn put_line<W: Sink>(
+        &self,
+        sink: &mut W,
+        candidate: &CompletionCandidate,
+    ) -> Result<(), ErrorKind> {
+        put_safe_line(sink, candidate)
+    }
 }
 
 // Returns whether the value begins with no `~`, or with `~/`. fish reads `~name` as the home
@@ -137,7 +143,6 @@ fn is_tilde_plain(value: &[u8]) -> bool
     }
 }
 
-#[tactic(auto, unfolding(crate::specs::Reply::shown_line))]
 pub(crate) fn put_safe_line<W: Sink>(
     sink: &mut W,
     candidate: &CompletionCandidate,
@@ -145,60 +150,62 @@ pub(crate) fn put_safe_line<W: Sink>(
     ensures { Writes W.taken W.failed (as_write result) sink.old sink.new
         (safe_line candidate.now) }
 {
-    put_piece(sink, candidate.get_value())?;
-    put_safe_tab_help(sink, candidate.get_help())?;
-    put_piece(sink, "\n")
+    put_shown_line(sink, candidate.get_value(), safe_help(candidate.get_help()))
 }
 
-#[tactic(auto, unfolding(crate::specs::Reply::tab_help))]
-fn put_safe_tab_help<W: Sink>(sink: &mut W, help: Option<&str>) -> Result<(), ErrorKind>
-    ensures { Writes W.taken W.failed (as_write result) sink.old sink.new
-        (tab_help (safe_help (option_copied help.entry))) }
-{
-    let Some(help) = safe_help(help) else {
-        return Ok(());
-    };
-    put_piece(sink, "\t")?;
-    put_piece(sink, help)
+// A line for each value, with its help text after a colon.
+#[derive(Drop)]
+struct SafeZshItems {
+    ascii_only: bool,
 }
 
-fn put_safe_zsh_items<W: Sink>(
-    sink: &mut W,
-    candidates: &[CompletionCandidate],
-) -> Result<(), ErrorKind>
-    ensures { Writes W.taken W.failed (as_write result) sink.old sink.new
-        (safe_zsh_reply candidates.now) }
-{
-    for candidate in candidates {
-        if !is_safe_text(candidate.get_value()) {
-            continue;
-        }
-        put_safe_zsh_line(sink, candidate)?;
+impl ReplyLines for SafeZshItems {
+    ghost use Rattle.cc_replies.specs.SafeReplies.{is_zsh_insertable, safe_zsh_line};
+
+    ghost inserts = { λ items. is_zsh_insertable items.ascii_only };
+
+    ghost line = { λ _. safe_zsh_line };
+
+    fn can_insert(&self, value: &str) -> bool {
+        is_safe_text(value) && self.keeps(value)
     }
-    Ok(())
+
+    fn put_line<W: Sink>(
+        &self,
+        sink: &mut W,
+        candidate: &CompletionCandidate,
+    ) -> Result<(), ErrorKind> {
+        put_zsh_item(sink, candidate.get_value(), safe_help(candidate.get_help()))?;
+        put_piece(sink, "\n")
+    }
 }
 
-#[tactic(auto, unfolding(crate::specs::Reply::zsh_item))]
-fn put_safe_zsh_line<W: Sink>(
-    sink: &mut W,
-    candidate: &CompletionCandidate,
-) -> Result<(), ErrorKind>
-    ensures { Writes W.taken W.failed (as_write result) sink.old sink.new
-        (safe_zsh_line candidate.now) }
-{
-    put_escaped(sink, &ZshReplyValue, candidate.get_value())?;
-    put_safe_colon_help(sink, candidate.get_help())?;
-    put_piece(sink, "\n")
+impl SafeZshItems {
+    ghost use Rattle.cc_replies.specs.SafeReplies.{is_zsh_kept};
+
+    // Returns whether zsh inserts the value as it is.
+    fn keeps(&self, value: &str) -> bool
+        ensures { result ≡ is_zsh_kept self.now.ascii_only value.now }
+    {
+        is_in_locale(self.ascii_only, value) && !has_raw(value.as_bytes())
+    }
 }
 
-#[tactic(auto, unfolding(crate::specs::Reply::colon_help))]
-fn put_safe_colon_help<W: Sink>(sink: &mut W, help: Option<&str>) -> Result<(), ErrorKind>
-    ensures { Writes W.taken W.failed (as_write result) sink.old sink.new
-        (colon_help (safe_help (option_copied help.entry))) }
+// Returns whether the text has one of the characters U+E000 to U+E0FF.
+fn has_raw(text: &[u8]) -> bool
+    ensures { result ≡ is_found begins_raw text.now }
 {
-    let Some(help) = safe_help(help) else {
-        return Ok(());
-    };
-    put_piece(sink, ":")?;
-    put_escaped(sink, &ZshReplyHelp, help)
+    for at in 0..text.len() {
+        if begins_raw_at(text, at) {
+            return true;
+        }
+    }
+    false
+}
+
+fn begins_raw_at(text: &[u8], at: usize) -> bool
+    requires { at < length text.now }
+    ensures { result ≡ begins_raw (slice_index text.now at) (drop (at + 1) text.now) }
+{
+    matches!(&text[at..], [0xEE, 0x80..=0x83, ..])
 }

@@ -23,8 +23,10 @@ pub(crate) const REQUEST: &str = "COMPLETE";
 pub(crate) const INDEX: &str = "_CLAP_COMPLETE_INDEX";
 pub(crate) const SEPARATOR: &str = "_CLAP_IFS";
 
-/// Variables that a safe registration sets for bash.
-const SET_FOR_BASH: [&str; 2] = ["_COMPLGEN_KEPT", "_COMPLGEN_QUOTE"];
+/// Variables that safe registrations set, besides the one below: whether the locale of bash or zsh
+/// is safe for ASCII only, and what bash keeps of the word; `"` in PowerShell, if a `"` reaches
+/// programs.
+const SET_BY_SHELLS: [&str; 3] = ["_COMPLGEN_ASCII", "_COMPLGEN_KEPT", "_COMPLGEN_QUOTE"];
 
 /// The variable by which a safe registration says whether it can run a command, or has run one.
 const VALUES: &str = "_COMPLGEN_VALUES";
@@ -95,7 +97,7 @@ pub(crate) fn safe_answer(shell: &str, request: Request<'_>) -> io::Result<(u8, 
     let sources = request.sources;
     let mut asked = Asked::of(request, None, false);
     asked.set(REQUEST, shell.as_bytes());
-    for name in SET_FOR_BASH {
+    for name in SET_BY_SHELLS {
         asked.set_from_environment(name);
     }
     let first = match commands {

@@ -28,12 +28,12 @@ impl SafeShell {
     fn around_variable(self) -> &'static [(&'static str, &'static str)] {
         match self.0 {
             Builtin::Bash => &[("            ", "=bash \\\n            _COMPLGEN_VALUES=")],
-            Builtin::Elvish => &[("            env ", "=elvish _COMPLGEN_VALUES=")],
+            Builtin::Elvish => &[("            e:env ", "=elvish _COMPLGEN_VALUES=")],
             Builtin::Fish => &[("            ", "=fish _COMPLGEN_VALUES=")],
             Builtin::Powershell => &[
-                ("@($env:", ", $env:_COMPLGEN_VALUES)\n"),
+                ("@($env:", ", $env:_COMPLGEN_VALUES, "),
                 ("            $env:", " = 'powershell'\n"),
-                ("finally { $env:", ", $env:_COMPLGEN_VALUES = $before }\n"),
+                ("finally { $env:", ", $env:_COMPLGEN_VALUES, "),
             ],
             Builtin::Zsh => &[("            ", "=zsh \\\n            _COMPLGEN_VALUES=")],
         }

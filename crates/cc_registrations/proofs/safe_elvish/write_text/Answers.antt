@@ -4,4 +4,4 @@ use Rattle.cc_registrations.proofs.safe_elvish.write_text.Goals as goal
 
 pub returns : goal.returns
 unfolding fixed_texts safe_elvish
-returns g c = writes_then _ _ (writes_then _ _ c.in_ok-write_front.ensures c.in_ok-put_elvish_quoted.ensures) c.in_ok-put_piece.ensures.written
+returns g c = writes_then _ _ (writes_then _ _ c.in_ok-write_front.ensures c.in_ok-put_quoted.ensures) c.in_ok-put_piece.ensures.written

@@ -1,7 +1,0 @@
-use Rattle.cc_base.proofs.WrittenTexts.{writes_then}
-use Rattle.cc_registrations.specs.SafeZsh.{fixed_texts, function_front}
-use Rattle.cc_registrations.proofs.safe_zsh.write_front.Goals as goal
-
-pub returns : goal.returns
-unfolding fixed_texts function_front
-returns g c = writes_then _ _ (writes_then _ _ (writes_then _ _ (writes_then _ _ c.in_ok-put_piece.ensures.written c.in_ok-put_identifier.ensures) c.in_ok-put_piece-2.ensures.written) c.in_ok-put_identifier-2.ensures) c.in_ok-put_piece-3.ensures.written
