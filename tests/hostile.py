@@ -300,6 +300,7 @@ def asking(chance):
         "_CLAP_COMPLETE_COMP_TYPE": chance.choice(["9", "63", ""]),
         "_CLAP_COMPLETE_SPACE": chance.choice(["true", "false", ""]),
         "_COMPLGEN_VALUES": chance.choice(["ask", "stdin", "", "x"]),
+        "_COMPLGEN_ASCII": chance.choice(["", "1", "x"]),
         "_COMPLGEN_KEPT": chance.choice(["", "", "--color=", "a b", "'", "\\", "é", "\n"]),
         "_COMPLGEN_QUOTE": chance.choice(["", "'", '"', "`", "''", "é"]),
     }

@@ -36,3 +36,8 @@ unfolding up_to
 ends_identifier first mark name rest h follows =
     ap (option_map (λ c. c.0)) (past_lacking first mark (identifier name) rest (identifier_lacks first name h))
     ∙ whole_front (identifier name) (cut_at (first ∷ mark) rest) follows
+
+-- both, one after the other
+pub skips_named : (first : ℕ) (mark text name rest : List ℕ) → is_free (first ∷ mark) text (identifier name ++ rest) ≡ true → is_identifier_byte first ≡ false
+    → after_mark (first ∷ mark) (text ++ (identifier name ++ rest)) ≡ after_mark (first ∷ mark) rest
+skips_named first mark text name rest free h = skips_free (first ∷ mark) text (identifier name ++ rest) free ∙ skips_identifier first mark name rest h

@@ -1,17 +1,20 @@
 -- A quoted word of bash, zsh or fish has only bytes outside quotes that stand for themselves.
-use Rattle.std.proofs.Common.{◌≡◌, ◌==◌, ℕ, Bool, true, false, cond, List, [], ◌∷◌, ◌++◌, Option, Some, None, codes, inl, inr, refl, ◌∙◌, ap, arith, append_assoc}
+use Rattle.std.proofs.Common.{◌≡◌, ◌==◌, ℕ, Bool, true, false, cond, List, [], ◌∷◌, ◌++◌, Option, Some, None, option_map, codes, inl, inr, refl, ◌∙◌, ap, arith, append_assoc}
 use Rattle.std.specs.List.{list_all}
 use Rattle.std.proofs.lemmas.Bool.{and_parts, cases_Bool}
 use Rattle.std.proofs.lemmas.Bool.Decides.{nat_tests}
 use Rattle.cc_base.specs.Bytes.{is_blank, line_feed, single_quote, space}
+use Rattle.cc_base.specs.Found.{after, word_by}
 use Rattle.cc_quote.specs.Escapes.{marked_byte}
-use Rattle.cc_quote.specs.FishQuote.{fish_quoted, fish_word_of, is_fish_safe, is_single_marked, single_escaped, single_quoted}
-use Rattle.cc_quote.specs.PosixQuote.{is_posix_safe, is_posix_safe_word, posix_escaped, posix_quoted, posix_word_of}
-use Rattle.cc_quote.proofs.BeforeBlanks.{fish_before_space, posix_before_line_feed, posix_before_space}
+use Rattle.cc_quote.specs.FishQuote.{fish_quoted, fish_sign, fish_word_of, is_fish_safe, is_single_marked, single_escaped, single_quoted}
+use Rattle.cc_quote.specs.PosixQuote.{is_posix_safe, is_posix_safe_word, posix_escaped, posix_quoted, posix_word_from, posix_word_of}
+use Rattle.cc_quote.specs.PosixSigns.{byte_of, sign}
+use Rattle.cc_quote.proofs.BeforeBlanks.{bare_first, fish_before_space, posix_before_line_feed, posix_before_space}
 use Rattle.cc_quote.proofs.FishWords.{IsSafe, safe_bytes}
 use Rattle.cc_quote.proofs.PosixWords.{posix_escaped_byte}
 use Rattle.cc_registrations.specs.PlainWords.{Place, fish_next_place, fish_plain_word, is_fish_plain, is_plain_from, is_posix_plain, posix_next_place, posix_plain_word, read_if}
 use Rattle.cc_registrations.specs.PlainWords.Place.{outside, quoted}
+use Rattle.cc_registrations.proofs.ListedNames.{ReadsWords}
 use Rattle.cc_registrations.proofs.QuotedNames.{fish_before_line_feed}
 
 module _ (next : Place → ℕ → Option Place) where
@@ -101,6 +104,25 @@ posix_plain_line_feed text rest =
     ap (λ b. read_if b (posix_word_of (posix_quoted text ++ line_feed ∷ rest))) (posix_quoted_plain line_feed rest refl text)
     ∙ (posix_before_line_feed text rest).1
 
+-- a list of such words, up to the end of a line
+pub posix_listed : (rest : List ℕ) → ReadsWords posix_quoted (λ text. text) posix_plain_word (codes " ") line_feed rest
+unfolding after posix_plain_word posix_next_place is_plain_from posix_word_of posix_word_from sign byte_of
+posix_listed rest = record {
+  before_more = λ word more. posix_plain_space word more;
+  before_end = λ word. posix_plain_line_feed word rest;
+  skips = λ more. refl;
+  no_more = refl;
+  no_word = refl;
+  is_some = omega arith;
+}
+
+-- one word
+pub posix_word_by : (text rest : List ℕ) → word_by posix_plain_word (posix_quoted text ++ space ∷ rest) ≡ Some text
+unfolding word_by
+posix_word_by text rest =
+    ap (λ spelled. option_map (λ read. read.0) (posix_plain_word spelled)) (bare_first (posix_quoted text ++ space ∷ rest) (posix_before_space text rest).0)
+    ∙ ap (option_map (λ read. read.0)) (posix_plain_space text rest)
+
 -- ---- fish
 
 fish_not_blank : (byte : ℕ) → is_fish_safe byte ≡ true → is_blank byte ≡ false
@@ -154,3 +176,20 @@ unfolding fish_plain_word
 fish_plain_line_feed text rest =
     ap (λ b. read_if b (fish_word_of (fish_quoted text ++ line_feed ∷ rest))) (fish_quoted_plain line_feed rest refl text)
     ∙ fish_before_line_feed text rest
+
+pub fish_listed : (rest : List ℕ) → ReadsWords fish_quoted (λ text. text) fish_plain_word (codes " --command ") line_feed rest
+unfolding after fish_plain_word fish_next_place is_plain_from fish_sign
+fish_listed rest = record {
+  before_more = λ word more. fish_plain_space word (codes "--command " ++ more);
+  before_end = λ word. fish_plain_line_feed word rest;
+  skips = λ more. refl;
+  no_more = refl;
+  no_word = refl;
+  is_some = omega arith;
+}
+
+pub fish_word_by : (text rest : List ℕ) → word_by fish_plain_word (fish_quoted text ++ space ∷ rest) ≡ Some text
+unfolding word_by
+fish_word_by text rest =
+    ap (λ spelled. option_map (λ read. read.0) (fish_plain_word spelled)) (bare_first (fish_quoted text ++ space ∷ rest) (fish_before_space text rest).0)
+    ∙ ap (option_map (λ read. read.0)) (fish_plain_space text rest)
