@@ -185,11 +185,9 @@ class Scratch:
     def program(self, tree):
         """Makes a tree file, and a program of its name that writes down the words that it receives."""
         write(os.path.join(self.trees, tree["name"] + ".json"), json.dumps(tree))
-        self.script(tree["name"], f"""#!{sys.executable} -IS
-import json, os, sys
-with open({self.record + ".part"!r}, "w") as file:
-    json.dump(sys.argv[1:], file)
-os.rename({self.record + ".part"!r}, {self.record!r})
+        self.script(tree["name"], f"""#!/bin/sh
+for word; do printf '%s\\0' "$word"; done >'{self.record}.part'
+mv '{self.record}.part' '{self.record}'
 """)
 
     def written(self, shell, **variables):
@@ -227,6 +225,12 @@ os.rename({self.record + ".part"!r}, {self.record!r})
 def write(path, text):
     with open(path, "w", encoding="utf-8") as file:
         file.write(text)
+
+
+def read(path):
+    """Returns the text of a file, of whatever bytes."""
+    with open(path, encoding="utf-8", errors="surrogateescape", newline="") as file:
+        return file.read()
 
 
 def unlink(path):
@@ -302,8 +306,7 @@ class Terminal:
         took = time.monotonic() - began
         if not there:
             return None, took
-        with open(self.scratch.line, encoding="utf-8") as file:
-            line = file.read()
+        line = read(self.scratch.line)
         return (line.removesuffix("\n") if self.shell == "fish" else line), took
 
     def complete(self, text, tabs=1, keys=""):
@@ -321,8 +324,7 @@ class Terminal:
             self.clear()
             return None
         self.ready()
-        with open(self.scratch.record, encoding="utf-8") as file:
-            return json.load(file)
+        return read(self.scratch.record).split("\0")[:-1]
 
     def clear(self):
         """Leaves the command line empty."""
