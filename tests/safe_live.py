@@ -360,7 +360,7 @@ class Terminal:
     def interrupt(self):
         """Presses ^C until the command line is empty."""
         for _ in range(LONGEST):
-            self.seen = b""
+            self.settle(0.1)  # ^C must not reach what the last key started
             self.send("\x03")
             self.ready(1)
             line, _ = self.tab("", "")
@@ -424,7 +424,8 @@ zle -N dump; bindkey '^X^X' dump; PS1='{READY}' PS2='{MORE}'; unsetopt prompt_cr
 
 
 def start_fish(scratch, loaded, setup):
-    os.makedirs(os.path.join(scratch.home, "fish"), exist_ok=True)
+    # With this directory, fish does not begin to read all man pages.
+    os.makedirs(os.path.join(scratch.home, "fish", "generated_completions"), exist_ok=True)
     write(os.path.join(scratch.home, "fish", "config.fish"), f"""set -g fish_greeting
 set -g fish_autosuggestion_enabled 0
 {setup}

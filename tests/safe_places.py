@@ -142,7 +142,7 @@ def complete_at(terminal, before, typed, after):
     line = type_lines(terminal, before + typed)
     changed = terminal.completed("")
     if changed == line:
-        terminal.clear()
+        (terminal.interrupt if "\n" in before else terminal.clear)()
         return False, None
     word = changed[len(line) - len(typed):] if changed else ""
     close = "" if word.endswith(" ") else terminal.closing(word)
