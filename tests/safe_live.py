@@ -10,7 +10,7 @@ offered may run: `touch` is a program that leaves a mark, and no file may appear
 
 The parts:
 
-- values: each of some ninety odd texts is the only possible value of an argument. The script types
+- values: each of some hundred texts is the only possible value of an argument. The script types
   nothing, its first letter, `'`, `"`, or its first letter after one of these, and then Tab and Enter. The
   program has to receive exactly the value;
 - files, folders: the same for a file and a directory of that name, by the hint `FilePath`. In a directory a
@@ -75,7 +75,7 @@ VALUES = (
     "colon:one", "a:b:c", ":", "img:1.2", "user@host", "@scope/pkg", "img:1.2@sha256:ab", "a,b", "-dash", "--dash=x",
     "--", "back\\slash", "back\\\\two", "end\\", "\\", "path/to/it", "dir/", "ümlaut–漢", "a\u00a0b", "‘curly’",
     "e\u0301", "tab\there", "\ttab", "line\nfeed", "line\ntouch hit\n", "esc\x1b[2Jape", "bell\x07", "del\x7f",
-    "c1\x9b2J",
+    "c1\x9b2J", "x\ue03btouch hit", "\ue060touch hit\ue060", "x\uf63btouch hit", "a\u200bb",
 )
 Driver = collections.namedtuple("Driver", "scratch shell registration setup")
 
@@ -102,6 +102,8 @@ def left_out(shell, quote, value, typed=""):
         return MAY_LEAVE_OUT
     if shell == "zsh" and quote == '"' and "$'" in value:
         return "$' between \" in zsh"
+    if shell == "zsh" and any("\ue000" <= letter <= "\ue0ff" for letter in value):
+        return "U+E000 to U+E0FF in zsh"
     if shell == "zsh" and quote == "'" and "`" in typed:
         return "` between ' in zsh"
     if shell == "fish" and value.startswith("~"):
@@ -120,7 +122,7 @@ SPECIAL = set("$`\"'\\;&|*?[](){}<>#!~=^% \u00a0‘")
 
 def letter_in(shell, quote, letter):
     """Returns the letter as a user types it, bare or after a quote, or `None` if that is impossible."""
-    if has_control(letter):
+    if has_control(letter) or "\ue000" <= letter <= "\uf8ff":
         return None
     if shell == "elvish":
         return {"": None if letter in SPECIAL else letter, "'": letter.replace("'", "''"),
