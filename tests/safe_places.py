@@ -52,7 +52,7 @@ POSIX_PLACES = (
     Place("after a=b", "a=b app ", "", "bash zsh"),
     Place("( )", "(app ", ")", "bash zsh"),
     Place("function", "f() { app ", "; }; f", "bash zsh"),
-    Place("loop", "for i in 1; do app ", "; done", "bash zsh"),
+    Place("loop", "for i in 1; do app ", "; done", "zsh"),
     Place("after &&", "true && app ", "", "bash zsh"),
     Place("after |", "true | app ", "", "bash zsh"),
     Place("<(..)", "cat <(app ", ")", "zsh"),
@@ -144,7 +144,8 @@ def complete_at(terminal, before, typed, after):
     if changed == line:
         (terminal.interrupt if "\n" in before else terminal.clear)()
         return False, None
-    word = changed[len(line) - len(typed):] if changed else ""
+    # Elvish quotes all of `--option=VALUE`.
+    word = (changed or "")[0 if terminal.shell == "elvish" else len(line) - len(typed):]
     close = "" if word.endswith(" ") else terminal.closing(word)
     terminal.seen = b""
     type_lines(terminal, close + after)
