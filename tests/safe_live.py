@@ -94,7 +94,7 @@ def left_out(shell, quote, value, typed=""):
     """Returns why a value must not be inserted after this open quote, or `None`."""
     if has_control(value):
         return "control character"
-    if shell == "bash" and quote == "'" and set("'$`") & set(value[len(typed):]):
+    if shell == "bash" and quote == "'" and set("'$`") & set(value):
         return "', $ or ` between '"
     if shell == "bash" and quote == '"' and "!" in value[len(typed):]:
         return '! between "'
