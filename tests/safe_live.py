@@ -10,13 +10,19 @@ offered may run: `touch` is a program that leaves a mark, and no file may appear
 
 The parts:
 
-- values: each of some ninety odd texts is the only possible value of an argument. The script types
+- values: each of some hundred texts is the only possible value of an argument. The script types
   nothing, its first letter, `'`, `"`, or its first letter after one of these, and then Tab and Enter. The
   program has to receive exactly the value;
 - files, folders: the same for a file and a directory of that name, by the hint `FilePath`. In a directory a
   second Tab has to complete the file in it;
 - words: words with `:`, `=` and `@`, earlier words in quotes, a cursor within a word, paths after `~/`;
 - typed: a command substitution is typed and completed. Nothing may run at the Tab;
+- places: within quotes, `$(..)`, backticks, `${a:-..}`, here-documents, continued lines, arrays, and behind
+  `sudo`, `env` and `command`: tests/safe_places.py has the list. Nothing may be evaluated there, and if the
+  program is run, it receives exactly the value, or what was typed;
+- settings: `set -k`, `histchars`, and a function `env`;
+- locales: values with letters before signs such as `;`, in GBK, GB18030, BIG5, Shift-JIS, EUC-JP, ISO 8859-1,
+  UTF-8 and C. Needs `localedef` and the package locales;
 - random: directories with random names made of signs and commands, a file in each, and one to three Tabs.
   --seed makes other names, and --names another number of them;
 - ten-thousand: milliseconds of a Tab with 10,000 candidates, and the same by the original's registration;
@@ -53,9 +59,11 @@ import time
 
 sys.path.append(os.path.join(os.path.dirname(os.path.realpath(__file__)), "..", "tools"))
 import common
+import safe_places
 
 SHELLS = ("bash", "zsh", "fish", "elvish")
-PARTS = ("values", "files", "folders", "words", "typed", "random", "ten-thousand", "start")
+PARTS = ("values", "files", "folders", "words", "typed", "random", "places", "settings", "locales", "ten-thousand",
+         "start")
 ISSUE = "x$(touch${IFS}hit)"
 VALUES = (
     "plain", "blank one", "two  blanks", "trail ", " lead", "sq'uote", 'dq"uote', "a\"b'c", "'", '"', "it's a", 'end"',
@@ -67,7 +75,7 @@ VALUES = (
     "colon:one", "a:b:c", ":", "img:1.2", "user@host", "@scope/pkg", "img:1.2@sha256:ab", "a,b", "-dash", "--dash=x",
     "--", "back\\slash", "back\\\\two", "end\\", "\\", "path/to/it", "dir/", "ümlaut–漢", "a\u00a0b", "‘curly’",
     "e\u0301", "tab\there", "\ttab", "line\nfeed", "line\ntouch hit\n", "esc\x1b[2Jape", "bell\x07", "del\x7f",
-    "c1\x9b2J",
+    "c1\x9b2J", "x\ue03btouch hit", "\ue060touch hit\ue060", "x\uf63btouch hit", "a\u200bb",
 )
 Driver = collections.namedtuple("Driver", "scratch shell registration setup")
 
@@ -86,14 +94,18 @@ def left_out(shell, quote, value, typed=""):
     """Returns why a value must not be inserted after this open quote, or `None`."""
     if has_control(value):
         return "control character"
-    if shell == "bash" and quote == "'" and "'" in value[len(typed):]:
-        return "' between '"
+    if shell == "bash" and quote == "'" and set("'$`") & set(value):
+        return "', $ or ` between '"
     if shell == "bash" and quote == '"' and "!" in value[len(typed):]:
         return '! between "'
     if shell == "bash" and not quote and value.rpartition("/")[0].count("`") % 2:
         return MAY_LEAVE_OUT
     if shell == "zsh" and quote == '"' and "$'" in value:
         return "$' between \" in zsh"
+    if shell == "zsh" and any("\ue000" <= letter <= "\ue0ff" for letter in value):
+        return "U+E000 to U+E0FF in zsh"
+    if shell == "zsh" and quote == "'" and "`" in typed:
+        return "` between ' in zsh"
     if shell == "fish" and value.startswith("~"):
         return "~ in fish"
     if shell == "fish" and value.startswith(".") and not typed:
@@ -110,7 +122,7 @@ SPECIAL = set("$`\"'\\;&|*?[](){}<>#!~=^% \u00a0‘")
 
 def letter_in(shell, quote, letter):
     """Returns the letter as a user types it, bare or after a quote, or `None` if that is impossible."""
-    if has_control(letter):
+    if has_control(letter) or "\ue000" <= letter <= "\uf8ff":
         return None
     if shell == "elvish":
         return {"": None if letter in SPECIAL else letter, "'": letter.replace("'", "''"),
@@ -185,11 +197,9 @@ class Scratch:
     def program(self, tree):
         """Makes a tree file, and a program of its name that writes down the words that it receives."""
         write(os.path.join(self.trees, tree["name"] + ".json"), json.dumps(tree))
-        self.script(tree["name"], f"""#!{sys.executable} -IS
-import json, os, sys
-with open({self.record + ".part"!r}, "w") as file:
-    json.dump(sys.argv[1:], file)
-os.rename({self.record + ".part"!r}, {self.record!r})
+        self.script(tree["name"], f"""#!/bin/sh
+for word; do printf '%s\\0' "$word"; done >'{self.record}.part'
+mv '{self.record}.part' '{self.record}'
 """)
 
     def written(self, shell, **variables):
@@ -229,6 +239,12 @@ def write(path, text):
         file.write(text)
 
 
+def read(path):
+    """Returns the text of a file, of whatever bytes."""
+    with open(path, encoding="utf-8", errors="surrogateescape", newline="") as file:
+        return file.read()
+
+
 def unlink(path):
     if os.path.exists(path):
         os.unlink(path)
@@ -236,7 +252,8 @@ def unlink(path):
 
 # ---- a shell in a pseudo terminal
 
-READY = "<ready> "
+READY, MORE = "<ready> ", "<more> "
+LONGEST = 60
 LISTED = "\x01"
 DUMP = {"bash": "\x18\x18", "zsh": "\x18\x18", "fish": "\x18\x18", "elvish": "\x18"}
 
@@ -269,7 +286,7 @@ class Terminal:
             raise SystemExit(f"{self.shell}: ended: {self.seen[-300:]!r}") from None
         return True
 
-    def ready(self, seconds=20):
+    def ready(self, seconds=LONGEST):
         """Waits for the prompt that ends a command."""
         end = time.monotonic() + seconds
         while READY.encode() not in self.seen:
@@ -298,12 +315,11 @@ class Terminal:
         self.send(text)
         began = time.monotonic()
         self.send(keys + DUMP[self.shell])
-        there = self.wait(self.scratch.line, 5, DUMP[self.shell])
+        there = self.wait(self.scratch.line, LONGEST, DUMP[self.shell])
         took = time.monotonic() - began
         if not there:
             return None, took
-        with open(self.scratch.line, encoding="utf-8") as file:
-            line = file.read()
+        line = read(self.scratch.line)
         return (line.removesuffix("\n") if self.shell == "fish" else line), took
 
     def complete(self, text, tabs=1, keys=""):
@@ -312,29 +328,62 @@ class Terminal:
         unlink(self.scratch.record)
         self.seen = b""
         for at in range(tabs):
-            line, _ = self.tab("" if at else text + keys)
-            if line and line.startswith(LISTED):
-                # Elvish shows a single candidate in a list, and Enter selects it
-                line, _ = self.tab("", "\r")
+            line = self.completed("" if at else text + keys)
+        self.seen = b""
         self.send(open_quote(self.shell, line or "") + "\r")
-        if not self.wait(self.scratch.record, 4):
-            self.clear()
-            return None
-        self.ready()
-        with open(self.scratch.record, encoding="utf-8") as file:
-            return json.load(file)
+        return self.outcome()
+
+    def completed(self, text):
+        """Types a text and a Tab. Returns the command line."""
+        line, _ = self.tab(text)
+        if line and line.startswith(LISTED):
+            # Elvish shows a single candidate in a list, and Enter selects it
+            line, _ = self.tab("", "\r")
+        return line
+
+    def outcome(self):
+        """Returns the words that the program received after Enter, or `None` if it does not run."""
+        end = time.monotonic() + LONGEST
+        while READY.encode() not in self.seen and time.monotonic() < end:
+            self.read(0.05)
+            if self.is_incomplete():
+                self.interrupt()
+        # fish may draw its prompt once more before it runs the command.
+        there = self.wait(self.scratch.record, 4 if self.shell == "fish" else 0.5)
+        return read(self.scratch.record).split("\0")[:-1] if there else None
+
+    def forget(self):
+        """Begins a new command: no words were received, and the command line is empty."""
+        unlink(self.scratch.record)
+        if self.tab("", "")[0]:
+            self.interrupt()
+        self.seen = b""
+
+    def interrupt(self):
+        """Presses ^C until the command line is empty."""
+        for _ in range(LONGEST):
+            self.settle(0.1)  # ^C must not reach what the last key started
+            self.send("\x03")
+            self.ready(1)
+            line, _ = self.tab("", "")
+            if line == "" and not self.is_incomplete():
+                self.seen = b""
+                return
+        raise SystemExit(f"{self.shell}: the command line stays {line!r}")
+
+    def closing(self, word):
+        """Returns the quote that ends a word of the command line."""
+        return open_quote(self.shell, word)
+
+    def is_incomplete(self):
+        """Returns whether the shell waits for more lines of the command."""
+        return MORE.encode() in self.seen
 
     def clear(self):
         """Leaves the command line empty."""
-        for _ in range(3):
-            line, _ = self.tab("", "\x15")
-            if line == "":
-                self.seen = b""
-                return
-            self.seen = b""
-            self.send("\x03")
-            self.ready(1)
-        raise SystemExit(f"{self.shell}: the command line stays {line!r}")
+        if self.tab("", "\x15")[0]:
+            self.interrupt()
+        self.seen = b""
 
     def go(self, folder):
         self.seen = b""
@@ -361,7 +410,7 @@ bind 'set completion-query-items -1'
 source '{loaded}'
 dump() {{ printf '%s' "$READLINE_LINE" >'{scratch.line}.part'; mv '{scratch.line}.part' '{scratch.line}'; }}
 bind -x '"\\C-x\\C-x": dump'
-PS1='{READY}'
+PS1='{READY}' PS2='{MORE}'
 """)
     return ["bash", "--noprofile", "--rcfile", path, "-i"]
 
@@ -371,13 +420,14 @@ def start_zsh(scratch, loaded, setup):
 {setup}
 source '{loaded}'
 dump() {{ print -rn -- "$BUFFER" >'{scratch.line}.part'; mv '{scratch.line}.part' '{scratch.line}'; }}
-zle -N dump; bindkey '^X^X' dump; PS1='{READY}'; unsetopt prompt_cr prompt_sp
+zle -N dump; bindkey '^X^X' dump; PS1='{READY}' PS2='{MORE}'; unsetopt prompt_cr prompt_sp
 """)
     return ["zsh", "-d", "-i"]
 
 
 def start_fish(scratch, loaded, setup):
-    os.makedirs(os.path.join(scratch.home, "fish"), exist_ok=True)
+    # With this directory, fish does not begin to read all man pages.
+    os.makedirs(os.path.join(scratch.home, "fish", "generated_completions"), exist_ok=True)
     write(os.path.join(scratch.home, "fish", "config.fish"), f"""set -g fish_greeting
 set -g fish_autosuggestion_enabled 0
 {setup}
@@ -432,6 +482,12 @@ class Count:
             self.say("INSERTED AGAINST THE RULES", what, typed, got)
         else:
             self.say("CHANGED", what, typed, got)
+
+    def leave(self, outcome, why):
+        """Counts a try that neither inserts nor runs anything."""
+        self.found[outcome] += 1
+        if self.verbose:
+            print(f"  {self.name}: {why}: {outcome}")
 
     def say(self, kind, what, typed, got, *more):
         if kind != "NOT INSERTED":
@@ -647,6 +703,49 @@ def try_typed(terminal, scratch, count):
             terminal.clear()
 
 
+# ---- places, settings and locales
+
+def try_settings(scratch, shell, verbose):
+    """Tries each setting in a shell of its own."""
+    count = Count(shell, "settings", verbose)
+    for at, setting in enumerate(safe_places.SETTINGS):
+        if shell in setting.shells.split():
+            setup = safe_places.FUNCTIONS[shell] if setting.before else ""
+            terminal = Terminal(scratch, shell, scratch.written(shell), setup)
+            terminal.settle(0.2)
+            safe_places.try_setting(terminal, scratch, count, at)
+            terminal.close()
+    return count.end()
+
+
+def try_locales(scratch, shell, verbose):
+    """Tries values with letters in each locale, in a shell of its own."""
+    good, before = True, dict(scratch.environment)
+    for charset, source in safe_places.LOCALES:
+        variables = safe_places.make_locale(scratch, charset, source)
+        if variables is None:
+            print(f"{shell}, locales, {charset}: skipped, needs localedef and the package locales")
+            continue
+        scratch.environment.update(variables)
+        count = Count(shell, "locales, " + charset, verbose)
+        terminal = Terminal(scratch, shell, scratch.written(shell))
+        terminal.settle(0.2)
+        safe_places.try_locale(terminal, scratch, count, left_out_in(shell, charset))
+        terminal.close()
+        scratch.environment.clear()
+        scratch.environment.update(before)
+        good &= count.end()
+    return good
+
+
+def left_out_in(shell, charset):
+    """Returns the function that tells why a value that is not ASCII must not be inserted in a locale."""
+    wide = charset in ("GBK", "GB18030", "BIG5", "SHIFT_JIS", "EUC-JP")
+    if shell == "bash" and wide or shell == "zsh" and charset != "UTF-8":
+        return lambda quote, value: "not ASCII in another locale than UTF-8"
+    return lambda quote, value: left_out(shell, quote, value, "x")
+
+
 # ---- times
 
 def try_ten_thousand(scratch, shell, verbose):
@@ -700,19 +799,20 @@ def try_start(scratch, shell, verbose):
 # ---- all
 
 TRIES = {"values": try_values, "files": try_files, "folders": try_folders, "words": try_words, "typed": try_typed,
-         "random": try_random}
-TIMES = {"ten-thousand": try_ten_thousand, "start": try_start}
+         "random": try_random, "places": safe_places.try_places}
+BEFORE = ("values", "files", "folders", "words")
+APART = {"settings": try_settings, "locales": try_locales, "ten-thousand": try_ten_thousand, "start": try_start}
 
 
 def try_shell(scratch, shell, options):
     good = True
     for part in options.only or PARTS:
-        if part in TIMES:
-            good &= TIMES[part](scratch, shell, options.verbose)
+        if part in APART:
+            good &= APART[part](scratch, shell, options.verbose)
             continue
         safe = scratch.written(shell)
         setup = ""
-        if options.before and part not in ("typed", "random"):
+        if options.before and part in BEFORE:
             before = Count(shell, "before, " + part, options.verbose, True)
             try_part(Driver(scratch, shell, scratch.original(shell), ""), part, before)
         if part == "typed" and shell == "zsh":
@@ -766,6 +866,7 @@ def main():
         scratch.program(value_tree())
         scratch.program({"name": "fils", "disable_help_flag": True, "args": [{"id": "f", "value_hint": "FilePath"}]})
         scratch.program(word_tree())
+        safe_places.make_programs(scratch)
         make_files(scratch)
         if options.before and "bash" in options.shells:
             show_issue(scratch)
