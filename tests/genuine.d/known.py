@@ -1,0 +1,220 @@
+"""The differences from the original that a text shows, each by the number of its row in docs/DIFFERENCES.md.
+
+Each rule takes both texts, and returns them without its difference.
+"""
+
+import re
+import shlex
+
+import builds
+
+SEPARATOR = "__subcmd__"
+SEEN = "; and __fish_seen_subcommand_from "
+UNREACHABLE = "entered unreachable code"
+
+
+def fish_deep(case, ours, theirs):
+    """8: only here there are records for paths of more than two names."""
+    records = re.split(r"(?m)^(?=complete -c )", ours)
+    return "".join(it for it in records if condition(it).count(SEEN) < 2), theirs
+
+
+def fish_excluded(case, ours, theirs):
+    """9: only here the records for a path of two names exclude the names of children."""
+    records = re.split(r"(?m)^(?=complete -c )", ours)
+    return "".join(without_excluded(it) for it in records), theirs
+
+
+def without_excluded(record):
+    found = condition(record)
+    if found.count(SEEN) != 1:
+        return record
+    return record.replace(found, re.sub(r"; and not __fish_seen_subcommand_from.*", "", found), 1)
+
+
+def condition(record):
+    """Returns the condition of a record of fish."""
+    found = re.match(r'complete -c .* -n "(__fish_\S+_using_subcommand [^"]*)"', record)
+    return found[1] if found else ""
+
+
+def fish_values(case, ours, theirs):
+    """10: possible values are escaped for one reading of fish, or here for two."""
+    for arg in arguments(case.built):
+        values = [value for value in arg.get("possible_values", []) if not value.get("hide")]
+        once = "\n".join(f"{fish_once(it['name'], True)}\\t'{fish_once(it.get('help', ''))}'" for it in values)
+        twice = "\n".join(f"{fish_twice(it['name'])}\\t'{fish_eval(it.get('help', ''))}'" for it in values)
+        theirs = theirs.replace(f'-a "{once}"', f'-a "{twice}"')
+    return ours, theirs
+
+
+def fish_once(text, is_name=False):
+    text = text.replace("\\", "\\\\").replace("'", "\\'")
+    return text.replace(",", "\\,") if is_name else text.replace("\n", " ")
+
+
+def fish_eval(text):
+    escapes = {"\\": "\\\\\\\\", "'": "\\\\'", '"': '\\"', "$": "\\$", "\n": " "}
+    return "".join(escapes.get(it, it) for it in text)
+
+
+def fish_twice(name):
+    return name if re.fullmatch(r"[A-Za-z0-9/_\-.,+=:@]+", name) else f"'{fish_eval(name)}'"
+
+
+def bash_labels(case, ours, theirs):
+    """12: the arms of a program with a hyphen have other labels than its cases."""
+    arm = case.bin.replace(" ", SEPARATOR).replace("-", SEPARATOR)
+    label = case.bin.replace("-", "__")
+    return ours, re.sub(rf"(?m)^        {re.escape(arm)}({SEPARATOR}.*\))$", rf"        {label}\1", theirs)
+
+
+def unescaped_names(case, ours, theirs):
+    """14: a name in the place of a missing help text is not escaped."""
+    for name in {name for node in nodes(case.built) for name in shown_names(node) if "'" in name}:
+        escaped = name.replace("'", "''")
+        theirs = theirs.replace(f" '{name}'\n", f" '{escaped}'\n").replace(f", '{name}')", f", '{escaped}')")
+    return ours, theirs
+
+
+def shown_names(node):
+    """Returns the longs and the names of children, which stand for a missing help text."""
+    longs = [name for arg in node["args"] for name in [arg.get("long", ""), *arg.get("visible_aliases", [])]]
+    return longs + [name for child in node["subcommands"] for name in builds.names(child)]
+
+
+def capitals(case, ours, theirs):
+    """26: a space follows each short that is a capital letter, or here a capital letter in ASCII."""
+    return ours, re.sub(r"('-([^\x00-\x7f])) ', \[", lambda it: f"{it[1]}', [" if it[2].isupper() else it[0], theirs)
+
+
+# The places of the bin name and of the completer in registrations, by shell.
+QUOTED = {
+    "bash": [r'^        "(.*)" -- "\$\{words'],
+    "elvish": [r"arg-completer\[(.*)\] = ", r'="elvish" (.*) -- \$@words'],
+    "powershell": [r"-CommandName (.*) -ScriptBlock", r"^& (.*) -- \$args"],
+    "zsh": [r"^#compdef (.*)$", r"^        (.*) -- \"\$\{words", r"^compdef _\S+ (.*)$"],
+}
+
+
+def quoting(case, ours, theirs):
+    """16: words of a registration are quoted otherwise."""
+    for pattern in QUOTED.get(case.shell, []):
+        ours, theirs = (without_quoted(case, pattern, text) for text in (ours, theirs))
+    return ours, theirs
+
+
+def without_quoted(case, pattern, text):
+    """Takes out a word that is quoted correctly. The original's in bash is quoted twice."""
+    found = re.search(pattern, text, re.MULTILINE)
+    if not found:
+        return text
+    forms = [found[1], f'"{found[1]}"'] if case.shell == "bash" else [found[1]]
+    if not any(words_of(form) == [case.bin] for form in forms):
+        return text
+    return text[: found.start(1)] + "THE NAME" + text[found.end(1) :]
+
+
+def words_of(text):
+    try:
+        return shlex.split(text)
+    except ValueError:
+        return []
+
+
+def nushell_rows(case, ours, theirs):
+    """36: a script of Nushell is of another form. The options of each command are the same."""
+    ours, theirs = nushell_read(ours), nushell_read(theirs)
+    paths = {row[0] for row in theirs}
+    return sorted(row for row in ours if row[0] in paths), sorted(theirs)
+
+
+def nushell_read(script):
+    """Returns the rows of a script: a path alone, and a path with a name, whether it takes a value, and a help."""
+    rows, path = [], ""
+    for line in script.splitlines():
+        opened = re.match(r'  export extern "?(.*?)"? \[$', line)
+        name = re.match(r"    (-.*?)(\(-(.)\))?(: .*?)?( +# (.*))?$", line)
+        if opened:
+            path = opened[1]
+            rows.append((path,))
+        elif name:
+            found = [name[1], *(["-" + name[3]] if name[2] else [])]
+            rows += [(path, it, bool(name[4]), name[6] or "") for it in found]
+    return rows
+
+
+# The rules on texts: the kind of request, the shells, and the rule, by number.
+RULES = {
+    8: ("script", ["fish"], fish_deep),
+    9: ("script", ["fish"], fish_excluded),
+    10: ("script", ["fish"], fish_values),
+    12: ("script", ["bash"], bash_labels),
+    14: ("script", ["elvish", "powershell"], unescaped_names),
+    16: ("register", list(QUOTED), quoting),
+    26: ("script", ["powershell"], capitals),
+    36: ("script", ["nushell"], nushell_rows),
+}
+
+
+def rules_for(case):
+    """Returns the numbers of the rules on texts of such a request."""
+    return [number for number, (kind, shells, _) in RULES.items() if kind == case.kind and case.shell in shells]
+
+
+def without(case, numbers, ours, theirs):
+    """Returns both texts without the differences of these rules."""
+    for number in sorted(set(numbers) & set(RULES)):
+        ours, theirs = RULES[number][2](case, ours, theirs)
+    return ours, theirs
+
+
+# Differences that a request shows by its outcome.
+
+
+def by_outcome(case, ours, theirs):
+    """Returns the number of the rule by which the two outcomes differ, or `None`."""
+    if theirs[0] == "panic" and UNREACHABLE in theirs[1] and ours[0] == "text":
+        return 6
+    if case.kind == "script" and case.shell == "bash" and ours == ("error", clash(case)):
+        return 13
+    if case.kind == "script" and case.shell in ("bash", "zsh") and is_ambiguous(case):
+        return 35
+    return None
+
+
+def clash(case):
+    """Returns the error for a tree in which two commands have the same label, or an empty text."""
+    seen, waiting = set(), [(case.bin.replace("-", "__"), case.built)]
+    while waiting:
+        label, node = waiting.pop(0)
+        if label in seen:
+            return f"two commands share the label {label}"
+        seen.add(label)
+        below = [(label + SEPARATOR + it["name"].replace("-", SEPARATOR), it) for it in node["subcommands"]]
+        waiting = below + waiting
+    return ""
+
+
+def is_ambiguous(case):
+    """Tells whether the original finds another node by a name, or none."""
+    full_names = [node.get("bin_name", case.bin) for node in nodes(case.built)]
+    if len(set(full_names)) < len(full_names) or " " in case.bin:
+        return True
+    for node in nodes(case.built):
+        found = [name for child in node["subcommands"] for name in builds.names(child)]
+        if len(set(found)) < len(found) or any(" " in name or SEPARATOR in name for name in found):
+            return True
+    return False
+
+
+def nodes(node):
+    """Yields a node and all below it."""
+    yield node
+    for child in node["subcommands"]:
+        yield from nodes(child)
+
+
+def arguments(node):
+    for it in nodes(node):
+        yield from it["args"]
