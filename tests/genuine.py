@@ -80,12 +80,12 @@ def arguments():
 
 def build(folder):
     """Builds the program over the original's crates, and returns its path."""
-    flags = unstable.cargo_flags(unstable.crates(folder))
+    common.use_crates(unstable.crates(folder))
     package = os.path.join(folder, "program")
     os.makedirs(package, exist_ok=True)
     shutil.copy(os.path.join(SOURCES, "Cargo.toml"), package)
     shutil.copytree(os.path.join(SOURCES, "src"), os.path.join(package, "src"), dirs_exist_ok=True)
-    subprocess.run(["cargo", "build", "--quiet", "--release", *flags], cwd=package, check=True)
+    subprocess.run(["cargo", "build", "--quiet", "--release", *common.cargo_flags()], cwd=package, check=True)
     return os.path.join(package, "target", "release", "genuine")
 
 

@@ -90,9 +90,3 @@ def sources():
             fields = dict(re.findall(r"^(URIs|Suites):\s*(.*)$", paragraph, re.MULTILINE))
             if len(fields) == 2:
                 yield fields["URIs"].split()[0], fields["Suites"].split()
-
-
-def cargo_flags(crates_folder):
-    """Returns the flags that make cargo use the crates of this directory alone."""
-    keys = {"source.crates-io.replace-with": "unstable", "source.unstable.directory": crates_folder}
-    return ["--offline", *[word for key, value in keys.items() for word in ("--config", f'{key}="{value}"')]]
