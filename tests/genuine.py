@@ -235,6 +235,8 @@ class Comparison:
         if ours == theirs:
             return Found(case, [], "")
         numbers = [*self.active, *known.rules_for(case)]
+        if case.kind == "candidates":
+            numbers.append(builds.EXECUTABLES)
         if self.agree(case, ours, numbers):
             return Found(case, self.needed(case, ours, numbers), "")
         number = known.by_outcome(case, ours, theirs)
@@ -244,7 +246,7 @@ class Comparison:
 
     def model_fault(self, case, theirs):
         """Returns a text if the model of clap's own build gives another answer than clap's build."""
-        modelled = self.theirs(case, self.send(frozenset()))
+        modelled = self.theirs(case, self.send([]))
         if modelled == theirs or modelled[0] == theirs[0] != "text":
             return ""
         return f"the model of clap's build is wrong: {changes(theirs[1], modelled[1])}"
@@ -259,7 +261,7 @@ class Comparison:
 
     def agree(self, case, ours, numbers):
         """Tells whether the rules of these numbers explain all differences."""
-        theirs = self.theirs(case, self.send(frozenset(numbers) & frozenset(builds.RULES)))
+        theirs = self.theirs(case, self.send(numbers))
         if ours[0] != theirs[0]:
             return False
         own, other = known.without(case, numbers, ours[1], theirs[1])
@@ -267,14 +269,15 @@ class Comparison:
 
     def difference(self, case, ours, numbers):
         """Returns a text about what these rules leave unexplained."""
-        theirs = self.theirs(case, self.send(frozenset(numbers) & frozenset(builds.RULES)))
+        theirs = self.theirs(case, self.send(numbers))
         if ours[0] != theirs[0]:
             return f"ours: {ours[0]} {ours[1]!r:.300}\n    theirs: {theirs[0]} {theirs[1]!r:.300}"
         own, other = known.without(case, numbers, ours[1], theirs[1])
         return changes(other, own)
 
-    def send(self, rules):
-        """Sends the tree that a build by these rules makes, and returns its key."""
+    def send(self, numbers):
+        """Sends the tree that a build makes by those of these rules that are for builds. Returns its key."""
+        rules = {*builds.RULES, builds.EXECUTABLES}.intersection(numbers)
         key = ",".join(map(str, sorted(rules))) or "no rule"
         if key not in self.sent:
             self.original.take("built", key, builds.built(self.tree, self.bin, rules))

@@ -8,11 +8,13 @@ import copy
 HELP = "Print this message or the help of the given subcommand(s)"
 SEE_MORE = "Print help (see more with '--help')"
 LAST = 999
-# The rules that the model knows.
+# The rules of a build.
 UNKNOWN_CONFLICTS, NAMES, DISABLING, REPLACED, HELP_ORDER, SEE_MORE_TEXT, NO_VALUES, CONFLICTS_BELOW = RULES = (
-    4, 21, 23, 24, 25, 28, 29, 30,
+    4, 23, 25, 26, 27, 30, 31, 32,
 )
 FLAGS = ("disable_help_flag", "disable_version_flag", "disable_help_subcommand")
+# The rule for the candidates of `complgen candidates`.
+EXECUTABLES = 36
 # The keys of a command that a build leaves as they are.
 KEPT = (
     "name", "about", "aliases", "visible_aliases", "hide", "subcommand_help_heading", "allow_external_subcommands",
@@ -96,6 +98,9 @@ class Build:
     def values(self, arg):
         """Returns an argument with its number of values and its action."""
         arg = copy.deepcopy(arg)
+        if EXECUTABLES in self.rules and arg.get("value_hint") == "ExecutablePath":
+            # Every file counts as executable.
+            arg["value_hint"] = "FilePath"
         if NO_VALUES in self.rules and arg.get("action", "Set") not in TAKING:
             arg.setdefault("num_args", [0, 0])
             if takes_values(arg) and "possible_values" not in arg and arg["action"] in ("SetTrue", "SetFalse"):

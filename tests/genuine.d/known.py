@@ -84,7 +84,7 @@ def shown_names(node):
 
 
 def capitals(case, ours, theirs):
-    """26: a space follows each short that is a capital letter, or here a capital letter in ASCII."""
+    """28: a space follows each short that is a capital letter, or here a capital letter in ASCII."""
     return ours, re.sub(r"('-([^\x00-\x7f])) ', \[", lambda it: f"{it[1]}', [" if it[2].isupper() else it[0], theirs)
 
 
@@ -123,7 +123,7 @@ def words_of(text):
 
 
 def nushell_rows(case, ours, theirs):
-    """36: a script of Nushell is of another form. The options of each command are the same."""
+    """19: a script of Nushell is of another form. The options of each command are the same."""
     ours, theirs = nushell_read(ours), nushell_read(theirs)
     paths = {row[0] for row in theirs}
     return sorted(row for row in ours if row[0] in paths), sorted(theirs)
@@ -152,8 +152,8 @@ RULES = {
     12: ("script", ["bash"], bash_labels),
     14: ("script", ["elvish", "powershell"], unescaped_names),
     16: ("register", list(QUOTED), quoting),
-    26: ("script", ["powershell"], capitals),
-    36: ("script", ["nushell"], nushell_rows),
+    19: ("script", ["nushell"], nushell_rows),
+    28: ("script", ["powershell"], capitals),
 }
 
 
@@ -179,7 +179,7 @@ def by_outcome(case, ours, theirs):
     if case.kind == "script" and case.shell == "bash" and ours == ("error", clash(case)):
         return 13
     if case.kind == "script" and case.shell in ("bash", "zsh") and is_ambiguous(case):
-        return 35
+        return 18
     return None
 
 
