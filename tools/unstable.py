@@ -16,8 +16,8 @@ import subprocess
 import sys
 
 PACKAGES = [
-    "librust-clap-complete-dev", "librust-clap-complete-nushell-dev", "librust-clap-mangen-dev",
-    "librust-clap-derive-dev", "librust-serde-json-dev",
+    "librust-clap-complete-dev", "librust-clap-complete-nushell-dev", "librust-clap-derive-dev",
+    "librust-serde-json-dev",
 ]
 SUITE = "unstable"
 CRATES = os.path.join("usr", "share", "cargo", "registry")

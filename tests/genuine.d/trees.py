@@ -12,8 +12,6 @@ LINES = 12
 def random_tree(chance, number):
     """Returns a tree, and a bin name. Every second tree is one that clap's own assertions accept."""
     tree = compare.command(chance, 3)
-    # A reply comes from the tree file of this name.
-    tree["name"] = "app"
     if number % 2:
         return tree, chance.choice(ODD_BINS)
     return mended(chance, tree, []), chance.choice(BINS)

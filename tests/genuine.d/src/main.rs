@@ -1,5 +1,5 @@
-//! Answers requests about tree files with the original: `clap`, `clap_complete` and the crates of its
-//! Nushell scripts and man pages.
+//! Answers requests about tree files with the original: `clap`, `clap_complete` and
+//! `clap_complete_nushell`.
 //!
 //! Each line of the standard input is a request, as a JSON list that begins with a word. Each request
 //! has one line of the standard output as its reply, an object with one key: `text` and what the

@@ -6,7 +6,6 @@ use clap_complete::engine::complete;
 use clap_complete::env::Shells;
 use clap_complete::{generate, Shell};
 use clap_complete_nushell::Nushell;
-use clap_mangen::Man;
 use serde_json::Value;
 use std::collections::HashMap;
 use std::env;
@@ -14,7 +13,7 @@ use std::error::Error;
 use std::ffi::OsString;
 use std::path::PathBuf;
 
-/// What a request is answered with.
+/// The text that answers a request, or an error.
 pub type Answer = Result<String, Box<dyn Error>>;
 
 /// Answers requests over the commands that it got.
@@ -33,7 +32,6 @@ impl Answers {
     ///   completer is the program itself.
     /// - `["reply", KEY, SHELL, VARIABLES, WORDS]` replies with an adapter's reply.
     /// - `["candidates", KEY, INDEX, WORDS]` replies with the candidates, in the form of a reply to fish.
-    /// - `["man", KEY, BIN]` replies with the man page of the program itself.
     pub fn answer(&mut self, request: &Value) -> Answer {
         let key = || text(&request[1]);
         match text(&request[0]) {
@@ -47,7 +45,6 @@ impl Answers {
             "register" => registration(&self.command(key())?, text(&request[2]), text(&request[3])),
             "reply" => reply(self.command(key())?, text(&request[2]), &request[3], words(&request[4])),
             "candidates" => candidates(self.command(key())?, &request[2], words(&request[3])),
-            "man" => man(self.command(key())?, text(&request[2])),
             other => Err(format!("no such request: {other}").into()),
         }
     }
@@ -106,12 +103,6 @@ fn candidates(mut command: Command, index: &Value, words: Vec<OsString>) -> Answ
         lines += "\n";
     }
     Ok(lines)
-}
-
-fn man(command: Command, bin: &str) -> Answer {
-    let mut page = Vec::new();
-    Man::new(command.bin_name(bin.to_owned())).render(&mut page)?;
-    Ok(String::from_utf8(page)?)
 }
 
 /// Returns the folder in which paths are completed.

@@ -125,7 +125,6 @@ fn action(value: &Value) -> ArgAction {
     }
 }
 
-/// clap reads a hint without regard to its hyphens only as its own `FromStr` has it, so each is named.
 fn hint(value: &Value) -> ValueHint {
     match value.as_str().expect("a hint") {
         "Unknown" => ValueHint::Unknown,
@@ -145,7 +144,7 @@ fn hint(value: &Value) -> ValueHint {
     }
 }
 
-/// A second number of `null` means that there is no greatest number of values.
+/// Returns a range. If its second number is `null`, it has no greatest number of values.
 fn range(value: &Value) -> ValueRange {
     match &value[1] {
         Value::Null => (number(&value[0])..).into(),
