@@ -43,7 +43,9 @@ impl Answers {
             }
             "script" => script(self.command(key())?, text(&request[2]), text(&request[3])),
             "register" => registration(&self.command(key())?, text(&request[2]), text(&request[3])),
-            "reply" => reply(self.command(key())?, text(&request[2]), &request[3], words(&request[4])),
+            "reply" => {
+                reply(self.command(key())?, text(&request[2]), &request[3], words(&request[4]))
+            }
             "candidates" => candidates(self.command(key())?, &request[2], words(&request[3])),
             other => Err(format!("no such request: {other}").into()),
         }
