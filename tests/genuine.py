@@ -23,6 +23,8 @@ The script prints each difference that no rule explains, how many each number ex
 compared. The status is 0 if each difference is explained.
 """
 
+from __future__ import annotations
+
 import argparse
 import collections
 import concurrent.futures
@@ -36,6 +38,7 @@ import subprocess
 import sys
 import tempfile
 import threading
+from typing import Any, Dict, Iterable, Iterator, List, NamedTuple, Optional, Set, Tuple
 
 HERE = os.path.dirname(os.path.realpath(__file__))
 sys.path += [os.path.join(HERE, "..", "tools"), os.path.join(HERE, "genuine.d")]
@@ -44,17 +47,24 @@ import common
 import known
 import trees
 import unstable
+from known import Answer, Case, Tree
 
 SOURCES = os.path.join(HERE, "genuine.d")
 # The key of the tree file itself.
 AS_IT_IS = "as it is"
-# A request: its kind and shell, the bin name, the words and the index, the tree file and the built tree.
-Case = collections.namedtuple("Case", "kind shell bin words index tree built")
-# What was found of a case: the numbers that explain it, or `None`, and a text about it.
-Found = collections.namedtuple("Found", "case numbers told")
+# A random command line, and the index of the word to complete.
+Line = Tuple[List[str], int]
 
 
-def main():
+class Found(NamedTuple):
+    """A comparison: the numbers that explain its differences, or `None`, and then a text about them."""
+
+    case: Case
+    numbers: Optional[List[int]]
+    told: str
+
+
+def main() -> int:
     options = arguments()
     program = build(options.folder)
     numbers = range(options.trees) if options.only is None else [options.only]
@@ -67,7 +77,7 @@ def main():
     return status
 
 
-def arguments():
+def arguments() -> argparse.Namespace:
     parser = argparse.ArgumentParser(usage=common.usage(__doc__))
     parser.add_argument("--trees", type=int, default=1000)
     parser.add_argument("--seed", type=int, default=1)
@@ -78,7 +88,7 @@ def arguments():
     return parser.parse_args()
 
 
-def build(folder):
+def build(folder: str) -> str:
     """Builds the program over the original's crates, and returns its path."""
     common.use_crates(unstable.crates(folder))
     package = os.path.join(folder, "program")
@@ -89,7 +99,7 @@ def build(folder):
     return os.path.join(package, "target", "release", "genuine")
 
 
-def make_home(folder):
+def make_home(folder: str) -> None:
     """Makes the directory in which both programs complete paths, which is also the home directory."""
     os.makedirs(os.path.join(folder, "home", "src"))
     for name in ("a.txt", "notes", ".hidden", "src/main.rs", "run.sh"):
@@ -101,26 +111,26 @@ def make_home(folder):
 class Original:
     """The program over the original's crates, which answers requests one after the other."""
 
-    def __init__(self, program, home):
+    def __init__(self, program: str, home: str):
         self.program, self.home, self.trees = program, home, {}
         self.start()
 
-    def start(self):
+    def start(self) -> None:
         environment = {"PATH": os.environ["PATH"], "HOME": self.home}
         pipes = {"stdin": subprocess.PIPE, "stdout": subprocess.PIPE, "stderr": subprocess.DEVNULL}
         self.process = subprocess.Popen([self.program], cwd=self.home, env=environment, encoding="utf-8", **pipes)
 
-    def take(self, kind, key, tree):
+    def take(self, kind: str, key: str, tree: Tree) -> None:
         """Takes a tree, of the kind `tree` or `built`, for requests with this key."""
         self.trees[key] = (kind, key, tree)
         self.ask(kind, key, tree)
 
-    def forget(self):
+    def forget(self) -> None:
         """Forgets all trees."""
         self.trees = {}
         self.ask("forget")
 
-    def ask(self, *request):
+    def ask(self, *request: Any) -> Answer:
         """Returns how a request ends, `text`, `error`, `panic` or `crash`, and the text."""
         self.process.stdin.write(json.dumps(request) + "\n")
         self.process.stdin.flush()
@@ -133,7 +143,7 @@ class Original:
             self.ask(*taken)
         return "crash", ""
 
-    def end(self):
+    def end(self) -> None:
         self.process.stdin.close()
         self.process.wait()
 
@@ -141,23 +151,23 @@ class Original:
 class Sides:
     """Both programs."""
 
-    def __init__(self, options, program, folder):
+    def __init__(self, options: argparse.Namespace, program: str, folder: str):
         self.options, self.program, self.folder = options, program, folder
         self.home = os.path.join(folder, "home")
         self.kept, self.originals = threading.local(), []
 
-    def original(self):
+    def original(self) -> Original:
         """Returns the thread's own process of the original."""
         if not hasattr(self.kept, "original"):
             self.kept.original = Original(self.program, self.home)
             self.originals.append(self.kept.original)
         return self.kept.original
 
-    def end(self):
+    def end(self) -> None:
         for original in self.originals:
             original.end()
 
-    def compare(self, number):
+    def compare(self, number: int) -> Tuple[int, List[Found]]:
         """Returns what was found of each request about a random tree."""
         chance = random.Random(f"{self.options.seed} {number}")
         tree, bin_name = trees.random_tree(chance, number)
@@ -171,7 +181,7 @@ class Sides:
         shutil.rmtree(work)
         return number, found
 
-    def ours(self, case, work):
+    def ours(self, case: Case, work: str) -> Answer:
         """Returns how a request to `complgen` ends, and the text."""
         tree = os.path.join(work, "app.json")
         environment = {"PATH": os.environ["PATH"], "HOME": self.home}
@@ -189,10 +199,11 @@ class Sides:
         if ran.returncode == 0:
             return "text", ran.stdout
         # A text of the standard error ends in a line feed.
-        return "error", ran.stdout + ran.stderr.removesuffix("\n")
+        said = ran.stdout + ran.stderr
+        return "error", said[:-1] if said.endswith("\n") else said
 
 
-def variables(case):
+def variables(case: Case) -> Dict[str, str]:
     """Returns the variables by which a registration asks for a reply."""
     if case.shell in ("fish", "powershell"):
         return {}
@@ -203,11 +214,11 @@ def variables(case):
 class Comparison:
     """Compares the answers about one tree."""
 
-    def __init__(self, original, tree, bin_name):
+    def __init__(self, original: Original, tree: Tree, bin_name: str):
         self.original, self.tree, self.bin = original, tree, bin_name
         original.forget()
         original.take("tree", AS_IT_IS, tree)
-        self.sent = set()
+        self.sent: Set[str] = set()
         whole = builds.built(tree, bin_name, builds.RULES)
         self.whole = whole
         self.active = [
@@ -215,7 +226,7 @@ class Comparison:
             if builds.built(tree, bin_name, set(builds.RULES) - {rule}) != whole
         ]
 
-    def cases(self, lines):
+    def cases(self, lines: Iterable[Line]) -> Iterator[Case]:
         """Returns all requests about the tree."""
         common_parts = {"bin": self.bin, "tree": self.tree, "built": self.whole}
         for kind, shells in (("script", common.SHELLS), ("register", common.LIVE_SHELLS)):
@@ -226,7 +237,7 @@ class Comparison:
             for shell in common.LIVE_SHELLS:
                 yield Case("reply", shell, words=words, index=index, **common_parts)
 
-    def of(self, case, ours):
+    def of(self, case: Case, ours: Answer) -> Found:
         """Returns what was found of a request, by this project's answer to it."""
         theirs = self.theirs(case, AS_IT_IS)
         told = self.model_fault(case, theirs)
@@ -234,7 +245,7 @@ class Comparison:
             return Found(case, None, told)
         if ours == theirs:
             return Found(case, [], "")
-        numbers = [*self.active, *known.rules_for(case)]
+        numbers: List[int] = [*self.active, *known.rules_for(case)]
         if case.kind == "candidates":
             numbers.append(builds.EXECUTABLES)
         if self.agree(case, ours, numbers):
@@ -244,14 +255,14 @@ class Comparison:
             return Found(case, None, self.difference(case, ours, numbers))
         return Found(case, [number], "")
 
-    def model_fault(self, case, theirs):
+    def model_fault(self, case: Case, theirs: Answer) -> str:
         """Returns a text if the model of clap's own build gives another answer than clap's build."""
         modelled = self.theirs(case, self.send([]))
         if modelled == theirs or modelled[0] == theirs[0] != "text":
             return ""
         return f"the model of clap's build is wrong: {changes(theirs[1], modelled[1])}"
 
-    def needed(self, case, ours, numbers):
+    def needed(self, case: Case, ours: Answer, numbers: List[int]) -> List[int]:
         """Returns those of some numbers that are needed to explain a difference."""
         for number in list(numbers):
             fewer = [it for it in numbers if it != number]
@@ -259,7 +270,7 @@ class Comparison:
                 numbers = fewer
         return numbers
 
-    def agree(self, case, ours, numbers):
+    def agree(self, case: Case, ours: Answer, numbers: List[int]) -> bool:
         """Tells whether the rules of these numbers explain all differences."""
         theirs = self.theirs(case, self.send(numbers))
         if ours[0] != theirs[0]:
@@ -267,7 +278,7 @@ class Comparison:
         own, other = known.without(case, numbers, ours[1], theirs[1])
         return own == other
 
-    def difference(self, case, ours, numbers):
+    def difference(self, case: Case, ours: Answer, numbers: List[int]) -> str:
         """Returns a text about what these rules leave unexplained."""
         theirs = self.theirs(case, self.send(numbers))
         if ours[0] != theirs[0]:
@@ -275,7 +286,7 @@ class Comparison:
         own, other = known.without(case, numbers, ours[1], theirs[1])
         return changes(other, own)
 
-    def send(self, numbers):
+    def send(self, numbers: Iterable[int]) -> str:
         """Sends the tree that a build makes by those of these rules that are for builds. Returns its key."""
         rules = {*builds.RULES, builds.EXECUTABLES}.intersection(numbers)
         key = ",".join(map(str, sorted(rules))) or "no rule"
@@ -284,7 +295,7 @@ class Comparison:
             self.sent.add(key)
         return key
 
-    def theirs(self, case, key):
+    def theirs(self, case: Case, key: str) -> Answer:
         """Returns the original's answer to a request, over the tree with this key."""
         if case.kind in ("script", "register"):
             return self.original.ask(case.kind, key, case.shell, case.bin)
@@ -293,14 +304,14 @@ class Comparison:
         return self.original.ask(case.kind, key, case.shell, variables(case), case.words)
 
 
-def changes(theirs, ours):
+def changes(theirs: Any, ours: Any) -> str:
     """Returns the lines in which two texts differ."""
     lines = [it if isinstance(it, list) else it.split("\n") for it in (theirs, ours)]
     rows = difflib.unified_diff(*([str(line) for line in it] for it in lines), "original", "complgen", lineterm="", n=0)
     return "\n    ".join(rows)
 
 
-def reported(results, options):
+def reported(results: Iterable[Tuple[int, List[Found]]], options: argparse.Namespace) -> int:
     """Prints what was found. Returns the status."""
     counts, explained, unexplained = collections.Counter(), collections.Counter(), 0
     for number, found in results:
@@ -317,19 +328,20 @@ def reported(results, options):
     equal = counts.pop("equal")
     kinds = ", ".join(f"{count:,} {kind}" for kind, count in sorted(counts.items()))
     total = sum(counts.values())
-    print(f"{total:,} comparisons ({kinds}): {equal:,} equal, {total - equal - unexplained:,} explained, {unexplained} not")
+    said = f"{equal:,} equal, {total - equal - unexplained:,} explained, {unexplained} not"
+    print(f"{total:,} comparisons ({kinds}): {said}")
     unlisted = sorted(set(explained) - set(titles))
     return 1 if unexplained or unlisted else 0
 
 
-def print_unexplained(number, case, told, options):
+def print_unexplained(number: int, case: Case, told: str, options: argparse.Namespace) -> None:
     asked = f"{case.index} {case.words!r}" if case.words else case.bin
     print(f"tree {number}: {case.kind} {case.shell} {asked}\n    {told if options.verbose else told[:1200]}")
     if options.verbose:
         print(json.dumps(case.tree, ensure_ascii=False))
 
 
-def rows_of_page():
+def rows_of_page() -> Dict[int, str]:
     """Returns the differences that the page lists, by their numbers."""
     with open(os.path.join(common.TOP, "docs", "DIFFERENCES.md"), encoding="utf-8") as file:
         return {int(number): title for number, title in re.findall(r"^\| (\d+) \| (.*?) \|", file.read(), re.MULTILINE)}

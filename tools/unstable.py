@@ -8,12 +8,15 @@ Making the root needs debootstrap, and root's rights. The mirror is the one from
 Debian's packages.
 """
 
+from __future__ import annotations
+
 import glob
 import os
 import re
 import shutil
 import subprocess
 import sys
+from typing import Iterator, List, Tuple
 
 PACKAGES = [
     "librust-clap-complete-dev", "librust-clap-complete-nushell-dev", "librust-clap-derive-dev",
@@ -25,13 +28,13 @@ CRATES = os.path.join("usr", "share", "cargo", "registry")
 APT = 'Acquire::Check-Valid-Until "false";\nAPT::Install-Recommends "false";\n'
 
 
-def default_folder():
+def default_folder() -> str:
     """Returns the directory that keeps the root."""
     caches = os.environ.get("XDG_CACHE_HOME") or os.path.expanduser("~/.cache")
     return os.path.realpath(os.environ.get("GENUINE") or os.path.join(caches, "lagvtsune", "genuine"))
 
 
-def crates(folder):
+def crates(folder: str) -> str:
     """Returns the directory of the crates in a root in `folder`. Makes the root if it is not there."""
     root = os.path.join(folder, "root")
     found = os.path.join(root, CRATES)
@@ -40,7 +43,7 @@ def crates(folder):
     return found
 
 
-def make_root(root):
+def make_root(root: str) -> None:
     """Makes a root of Debian unstable, and installs the crates in it."""
     if os.geteuid() or not shutil.which("debootstrap"):
         sys.exit(f"no crates of Debian {SUITE} in {root}: making it needs debootstrap, and root's rights")
@@ -57,7 +60,7 @@ def make_root(root):
     os.rename(unfinished, root)
 
 
-def call(words):
+def call(words: List[str]) -> None:
     """Runs a command, and shows its output only if it fails."""
     environment = {**os.environ, "DEBIAN_FRONTEND": "noninteractive", "LC_ALL": "C"}
     ran = subprocess.run(
@@ -67,7 +70,7 @@ def call(words):
         sys.exit(f"{' '.join(words)}:\n{ran.stdout}")
 
 
-def mirror():
+def mirror() -> str:
     """Returns the mirror of this machine's own release of Debian."""
     with open("/etc/os-release", encoding="utf-8") as file:
         suite = re.search(r"^VERSION_CODENAME=(\w+)$", file.read(), re.MULTILINE)
@@ -77,7 +80,7 @@ def mirror():
     return sys.exit("no mirror of Debian in /etc/apt")
 
 
-def sources():
+def sources() -> Iterator[Tuple[str, List[str]]]:
     """Returns the URIs and the suites of the lists in /etc/apt, of both formats."""
     for path in ["/etc/apt/sources.list", *sorted(glob.glob("/etc/apt/sources.list.d/*"))]:
         if not os.path.exists(path):

@@ -3,7 +3,13 @@
 Each rule of this project that differs from clap's has the number of its row in docs/DIFFERENCES.md.
 """
 
+from __future__ import annotations
+
 import copy
+from typing import Any, Dict, Iterable, List, Optional, Set, Tuple
+
+# A command or an argument, as in a tree file.
+Tree = Dict[str, Any]
 
 HELP = "Print this message or the help of the given subcommand(s)"
 SEE_MORE = "Print help (see more with '--help')"
@@ -23,7 +29,7 @@ KEPT = (
 TAKING = ("Set", "Append")
 
 
-def built(tree, bin_name, rules):
+def built(tree: Tree, bin_name: str, rules: Iterable[int]) -> Tree:
     """Returns the tree with all that a build adds, by these rules of this project, and else by clap's."""
     root = Build(rules).command(tree, bin_name, {}, [])
     del root["bin_name"]
@@ -34,10 +40,10 @@ def built(tree, bin_name, rules):
 class Build:
     """A build by some rules."""
 
-    def __init__(self, rules):
+    def __init__(self, rules: Iterable[int]):
         self.rules = frozenset(rules)
 
-    def command(self, tree, full_name, disabled, inherited):
+    def command(self, tree: Tree, full_name: str, disabled: Dict[str, bool], inherited: List[Tree]) -> Tree:
         """Returns a command with all that is below it."""
         disabled = self.disabled(tree, disabled)
         own = [*numbered(tree.get("args", []), tree.get("subcommands", []))[0]]
@@ -49,13 +55,13 @@ class Build:
         node["subcommands"] = self.children(tree, full_name, disabled, args)
         return node
 
-    def disabled(self, tree, inherited):
+    def disabled(self, tree: Tree, inherited: Dict[str, bool]) -> Dict[str, bool]:
         """Returns which flags and children are not generated."""
         if DISABLING in self.rules:
             return {key: tree.get(key, False) for key in FLAGS}
         return {key: tree.get(key, False) or inherited.get(key, False) for key in FLAGS}
 
-    def generated(self, tree, args, disabled):
+    def generated(self, tree: Tree, args: List[Tree], disabled: Dict[str, bool]) -> List[Tree]:
         """Returns the flags that a build adds."""
         ids = {arg["id"] for arg in args} if REPLACED in self.rules else set()
         flags = []
@@ -66,7 +72,7 @@ class Build:
             flags.append(flag("version", "V", "Version", "Print version"))
         return flags
 
-    def children(self, tree, full_name, disabled, args):
+    def children(self, tree: Tree, full_name: str, disabled: Dict[str, bool], args: List[Tree]) -> List[Tree]:
         """Returns the children of a command, the generated one last."""
         children = numbered(tree.get("args", []), tree.get("subcommands", []))[1]
         nodes = []
@@ -81,13 +87,13 @@ class Build:
             nodes.append(self.help(children, full_name))
         return nodes
 
-    def passed_on(self, child, args, disabled):
+    def passed_on(self, child: Tree, args: List[Tree], disabled: Dict[str, bool]) -> List[Tree]:
         """Returns the arguments that a child gets, if it lacks them."""
         if REPLACED not in self.rules and child["name"] == "help" and not disabled["disable_help_subcommand"]:
             return []
         return [arg for arg in args if arg.get("global")]
 
-    def help(self, children, full_name):
+    def help(self, children: List[Tree], full_name: str) -> Tree:
         """Returns the generated child `help`."""
         order = LAST if HELP_ORDER in self.rules else len(children)
         node = bare("help", LAST, f"{full_name} help", about=HELP)
@@ -95,7 +101,7 @@ class Build:
         node["subcommands"].append(bare("help", order, f"{node['bin_name']} help", about=HELP))
         return node
 
-    def values(self, arg):
+    def values(self, arg: Tree) -> Tree:
         """Returns an argument with its number of values and its action."""
         arg = copy.deepcopy(arg)
         if EXECUTABLES in self.rules and arg.get("value_hint") == "ExecutablePath":
@@ -109,7 +115,7 @@ class Build:
         return arg
 
 
-def numbered(args, children):
+def numbered(args: List[Tree], children: List[Tree]) -> Tuple[List[Tree], List[Tree]]:
     """Returns copies of arguments and children, with the orders in which they are shown.
 
     Two counters would be one for both in clap: it counts options, flags and children as they are added.
@@ -127,7 +133,7 @@ def numbered(args, children):
     return numbered_args, numbered_children
 
 
-def inherited_by(own, inherited):
+def inherited_by(own: List[Tree], inherited: List[Tree]) -> List[Tree]:
     """Returns the global arguments that a command with these arguments of its own gets."""
     ids, added = {arg["id"] for arg in own}, []
     for arg in inherited:
@@ -137,11 +143,11 @@ def inherited_by(own, inherited):
     return added
 
 
-def flag(name, short, action, text):
+def flag(name: str, short: str, action: str, text: str) -> Tree:
     return {"id": name, "short": short, "long": name, "action": action, "help": text, "display_order": LAST}
 
 
-def has_long_help(tree, args):
+def has_long_help(tree: Tree, args: List[Tree]) -> bool:
     """Tells whether clap finds that a command has a longer help."""
     return "long_about" in tree or any(
         not arg.get("hide") and takes_values(arg) and any(
@@ -151,18 +157,18 @@ def has_long_help(tree, args):
     )
 
 
-def takes_values(arg):
+def takes_values(arg: Tree) -> bool:
     """Tells whether an argument takes values, by its range alone, before a build fills that in."""
     return arg.get("num_args", [1, 1])[1] != 0
 
 
-def bare(name, order, full_name, **more):
+def bare(name: str, order: int, full_name: str, **more: Any) -> Tree:
     node = {"name": name, "display_order": order, "bin_name": full_name, **more}
     node.update({key: True for key in FLAGS}, args=[], subcommands=[])
     return node
 
 
-def copies(children, full_name):
+def copies(children: List[Tree], full_name: str) -> List[Tree]:
     """Returns the copies of children that are below a generated `help`."""
     nodes = []
     for order, child in enumerate(children):
@@ -173,11 +179,11 @@ def copies(children, full_name):
     return nodes
 
 
-def names(child):
+def names(child: Tree) -> List[str]:
     return [child["name"], *child.get("visible_aliases", []), *child.get("aliases", [])]
 
 
-def mend_conflicts(node, parent, rules):
+def mend_conflicts(node: Tree, parent: Optional[Tree], rules: Iterable[int]) -> None:
     """Takes out of each argument of a tree the conflicts that this project does not find."""
     for arg in node["args"]:
         place = parent if parent and arg.get("global") else node
@@ -194,7 +200,7 @@ def mend_conflicts(node, parent, rules):
         mend_conflicts(child, node, rules)
 
 
-def ids_below(node, argument):
+def ids_below(node: Tree, argument: str) -> Set[str]:
     """Returns the ids in all commands below a node that have the argument, each below one that has it."""
     found = set()
     for child in node["subcommands"]:

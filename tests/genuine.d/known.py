@@ -3,8 +3,11 @@
 Each rule takes both texts, and returns them without its difference.
 """
 
+from __future__ import annotations
+
 import re
 import shlex
+from typing import Any, Callable, Dict, Iterable, Iterator, List, NamedTuple, Optional, Tuple
 
 import builds
 
@@ -12,33 +15,51 @@ SEPARATOR = "__subcmd__"
 SEEN = "; and __fish_seen_subcommand_from "
 UNREACHABLE = "entered unreachable code"
 
+Tree = Dict[str, Any]
+# How a request ends, and the text.
+Answer = Tuple[str, str]
+# Two texts, or what is read from them.
+Both = Tuple[Any, Any]
 
-def fish_deep(case, ours, theirs):
+
+class Case(NamedTuple):
+    """A request, with the tree file and the tree that a build makes of it."""
+
+    kind: str
+    shell: str
+    bin: str
+    words: Optional[List[str]]
+    index: Optional[int]
+    tree: Tree
+    built: Tree
+
+
+def fish_deep(case: Case, ours: str, theirs: str) -> Both:
     """8: only here there are records for paths of more than two names."""
     records = re.split(r"(?m)^(?=complete -c )", ours)
     return "".join(it for it in records if condition(it).count(SEEN) < 2), theirs
 
 
-def fish_excluded(case, ours, theirs):
+def fish_excluded(case: Case, ours: str, theirs: str) -> Both:
     """9: only here the records for a path of two names exclude the names of children."""
     records = re.split(r"(?m)^(?=complete -c )", ours)
     return "".join(without_excluded(it) for it in records), theirs
 
 
-def without_excluded(record):
+def without_excluded(record: str) -> str:
     found = condition(record)
     if found.count(SEEN) != 1:
         return record
     return record.replace(found, re.sub(r"; and not __fish_seen_subcommand_from.*", "", found), 1)
 
 
-def condition(record):
+def condition(record: str) -> str:
     """Returns the condition of a record of fish."""
     found = re.match(r'complete -c .* -n "(__fish_\S+_using_subcommand [^"]*)"', record)
     return found[1] if found else ""
 
 
-def fish_values(case, ours, theirs):
+def fish_values(case: Case, ours: str, theirs: str) -> Both:
     """10: possible values are escaped for one reading of fish, or here for two."""
     for arg in arguments(case.built):
         values = [value for value in arg.get("possible_values", []) if not value.get("hide")]
@@ -48,28 +69,28 @@ def fish_values(case, ours, theirs):
     return ours, theirs
 
 
-def fish_once(text, is_name=False):
+def fish_once(text: str, is_name: bool = False) -> str:
     text = text.replace("\\", "\\\\").replace("'", "\\'")
     return text.replace(",", "\\,") if is_name else text.replace("\n", " ")
 
 
-def fish_eval(text):
+def fish_eval(text: str) -> str:
     escapes = {"\\": "\\\\\\\\", "'": "\\\\'", '"': '\\"', "$": "\\$", "\n": " "}
     return "".join(escapes.get(it, it) for it in text)
 
 
-def fish_twice(name):
+def fish_twice(name: str) -> str:
     return name if re.fullmatch(r"[A-Za-z0-9/_\-.,+=:@]+", name) else f"'{fish_eval(name)}'"
 
 
-def bash_labels(case, ours, theirs):
+def bash_labels(case: Case, ours: str, theirs: str) -> Both:
     """12: the arms of a program with a hyphen have other labels than its cases."""
     arm = case.bin.replace(" ", SEPARATOR).replace("-", SEPARATOR)
     label = case.bin.replace("-", "__")
     return ours, re.sub(rf"(?m)^        {re.escape(arm)}({SEPARATOR}.*\))$", rf"        {label}\1", theirs)
 
 
-def unescaped_names(case, ours, theirs):
+def unescaped_names(case: Case, ours: str, theirs: str) -> Both:
     """14: a name in the place of a missing help text is not escaped."""
     for name in {name for node in nodes(case.built) for name in shown_names(node) if "'" in name}:
         escaped = name.replace("'", "''")
@@ -77,13 +98,13 @@ def unescaped_names(case, ours, theirs):
     return ours, theirs
 
 
-def shown_names(node):
+def shown_names(node: Tree) -> List[str]:
     """Returns the longs and the names of children, which stand for a missing help text."""
     longs = [name for arg in node["args"] for name in [arg.get("long", ""), *arg.get("visible_aliases", [])]]
     return longs + [name for child in node["subcommands"] for name in builds.names(child)]
 
 
-def capitals(case, ours, theirs):
+def capitals(case: Case, ours: str, theirs: str) -> Both:
     """28: a space follows each short that is a capital letter, or here a capital letter in ASCII."""
     return ours, re.sub(r"('-([^\x00-\x7f])) ', \[", lambda it: f"{it[1]}', [" if it[2].isupper() else it[0], theirs)
 
@@ -97,14 +118,14 @@ QUOTED = {
 }
 
 
-def quoting(case, ours, theirs):
+def quoting(case: Case, ours: str, theirs: str) -> Both:
     """16: words of a registration are quoted otherwise."""
     for pattern in QUOTED.get(case.shell, []):
         ours, theirs = (without_quoted(case, pattern, text) for text in (ours, theirs))
     return ours, theirs
 
 
-def without_quoted(case, pattern, text):
+def without_quoted(case: Case, pattern: str, text: str) -> str:
     """Takes out a word that is quoted correctly. The original's in bash is quoted twice."""
     found = re.search(pattern, text, re.MULTILINE)
     if not found:
@@ -115,21 +136,21 @@ def without_quoted(case, pattern, text):
     return text[: found.start(1)] + "THE NAME" + text[found.end(1) :]
 
 
-def words_of(text):
+def words_of(text: str) -> List[str]:
     try:
         return shlex.split(text)
     except ValueError:
         return []
 
 
-def nushell_rows(case, ours, theirs):
+def nushell_rows(case: Case, ours: str, theirs: str) -> Both:
     """19: a script of Nushell is of another form. The options of each command are the same."""
     ours, theirs = nushell_read(ours), nushell_read(theirs)
     paths = {row[0] for row in theirs}
     return sorted(row for row in ours if row[0] in paths), sorted(theirs)
 
 
-def nushell_read(script):
+def nushell_read(script: str) -> List[Tuple[Any, ...]]:
     """Returns the rows of a script: a path alone, and a path with a name, whether it takes a value, and a help."""
     rows, path = [], ""
     for line in script.splitlines():
@@ -145,7 +166,7 @@ def nushell_read(script):
 
 
 # The rules on texts: the kind of request, the shells, and the rule, by number.
-RULES = {
+RULES: Dict[int, Tuple[str, List[str], Callable[[Case, str, str], Both]]] = {
     8: ("script", ["fish"], fish_deep),
     9: ("script", ["fish"], fish_excluded),
     10: ("script", ["fish"], fish_values),
@@ -157,12 +178,12 @@ RULES = {
 }
 
 
-def rules_for(case):
+def rules_for(case: Case) -> List[int]:
     """Returns the numbers of the rules on texts of such a request."""
     return [number for number, (kind, shells, _) in RULES.items() if kind == case.kind and case.shell in shells]
 
 
-def without(case, numbers, ours, theirs):
+def without(case: Case, numbers: Iterable[int], ours: str, theirs: str) -> Both:
     """Returns both texts without the differences of these rules."""
     for number in sorted(set(numbers) & set(RULES)):
         ours, theirs = RULES[number][2](case, ours, theirs)
@@ -172,7 +193,7 @@ def without(case, numbers, ours, theirs):
 # Differences that a request shows by its outcome.
 
 
-def by_outcome(case, ours, theirs):
+def by_outcome(case: Case, ours: Answer, theirs: Answer) -> Optional[int]:
     """Returns the number of the rule by which the two outcomes differ, or `None`."""
     if theirs[0] == "panic" and UNREACHABLE in theirs[1] and ours[0] == "text":
         return 6
@@ -183,7 +204,7 @@ def by_outcome(case, ours, theirs):
     return None
 
 
-def clash(case):
+def clash(case: Case) -> str:
     """Returns the error for a tree in which two commands have the same label, or an empty text."""
     seen, waiting = set(), [(case.bin.replace("-", "__"), case.built)]
     while waiting:
@@ -196,7 +217,7 @@ def clash(case):
     return ""
 
 
-def is_ambiguous(case):
+def is_ambiguous(case: Case) -> bool:
     """Tells whether the original finds another node by a name, or none."""
     full_names = [node.get("bin_name", case.bin) for node in nodes(case.built)]
     if len(set(full_names)) < len(full_names) or " " in case.bin:
@@ -208,13 +229,13 @@ def is_ambiguous(case):
     return False
 
 
-def nodes(node):
+def nodes(node: Tree) -> Iterator[Tree]:
     """Yields a node and all below it."""
     yield node
     for child in node["subcommands"]:
         yield from nodes(child)
 
 
-def arguments(node):
+def arguments(node: Tree) -> Iterator[Tree]:
     for it in nodes(node):
         yield from it["args"]

@@ -1,7 +1,14 @@
 """Random trees with keys that clap has too, and random command lines."""
 
+from __future__ import annotations
+
+import random
+from typing import Any, Dict, Iterator, List, Set, Tuple
+
 import compare
 import hostile
+
+Tree = Dict[str, Any]
 
 BINS = ["app", "app", "my-app", "x=1,2", "it's"]
 ODD_BINS = ["app", "my-app", "a b'c"]
@@ -9,7 +16,7 @@ SHORTS = "abcdefgijklmnopqrstuvwxyzABCDXé1É"
 LINES = 12
 
 
-def random_tree(chance, number):
+def random_tree(chance: random.Random, number: int) -> Tuple[Tree, str]:
     """Returns a tree, and a bin name. Every second tree is one that clap's own assertions accept."""
     tree = compare.command(chance, 3)
     if number % 2:
@@ -17,13 +24,13 @@ def random_tree(chance, number):
     return mended(chance, tree, []), chance.choice(BINS)
 
 
-def mended(chance, tree, inherited):
+def mended(chance: random.Random, tree: Tree, inherited: List[Tree]) -> Tree:
     """Returns a tree without what clap rejects: names that stand twice, and keys that exclude each other."""
     tree = dict(tree)
     for key in ("subcommand_required", "bin_name"):
         tree.pop(key, None)
     args = [mended_argument(chance, arg) for arg in tree.get("args", [])]
-    tree["args"] = [arg for arg in without_repeats(args, inherited)]
+    tree["args"] = list(without_repeats(args, inherited))
     ids = {arg["id"] for arg in tree["args"]}
     for arg in tree["args"]:
         arg["conflicts_with"] = [it for it in arg.get("conflicts_with", []) if it in ids and it != arg["id"]]
@@ -41,7 +48,7 @@ def mended(chance, tree, inherited):
     return tree
 
 
-def mended_argument(chance, arg):
+def mended_argument(chance: random.Random, arg: Tree) -> Tree:
     """Returns an argument whose keys do not exclude each other."""
     arg = dict(arg)
     if "short" not in arg and "long" not in arg:
@@ -61,7 +68,7 @@ def mended_argument(chance, arg):
     return arg
 
 
-def without_repeats(args, inherited):
+def without_repeats(args: List[Tree], inherited: List[Tree]) -> Iterator[Tree]:
     """Yields the arguments whose id, short and long no earlier one has, without aliases that one has."""
     ids = {arg["id"] for arg in inherited} | {"help", "version"}
     words = {word for arg in inherited for word in words_of(arg)} | {"h", "V", "help", "version"}
@@ -75,12 +82,12 @@ def without_repeats(args, inherited):
         yield arg
 
 
-def words_of(arg):
+def words_of(arg: Tree) -> List[str]:
     lists = ("short_aliases", "visible_short_aliases", "aliases", "visible_aliases")
     return [arg.get("short"), arg.get("long"), *[word for key in lists for word in arg.get(key, [])]]
 
 
-def fresh(names, seen):
+def fresh(names: List[str], seen: Set[str]) -> List[str]:
     """Returns the names that are new, and notes them."""
     found = []
     for name in names:
@@ -90,7 +97,7 @@ def fresh(names, seen):
     return found
 
 
-def random_line(chance, tree):
+def random_line(chance: random.Random, tree: Tree) -> Tuple[List[str], int]:
     """Returns words, most of which lead somewhere in a tree, and the index of one of them."""
     node, words = tree, ["app"]
     for _ in range(chance.randrange(6)):
@@ -109,13 +116,13 @@ def random_line(chance, tree):
     return words, index
 
 
-def typed(chance, option):
+def typed(chance: random.Random, option: Tree) -> str:
     """Returns a word for an option, often with the beginning of one of its values."""
     values = [value["name"] for value in option.get("possible_values", [])]
     word = compare.typed_option(chance, option)
     return word + (chance.choice(values)[:2] if values and word.endswith("=") else "")
 
 
-def odd_word(chance):
+def odd_word(chance: random.Random) -> str:
     # Both programs get the words as JSON, or as arguments without a NUL.
     return hostile.odd_word(chance).decode(errors="ignore")
