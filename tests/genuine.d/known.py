@@ -218,9 +218,11 @@ def clash(case: Case) -> str:
 
 
 def is_ambiguous(case: Case) -> bool:
-    """Tells whether the original finds another node by a name, or none."""
-    full_names = [node.get("bin_name", case.bin) for node in nodes(case.built)]
-    if len(set(full_names)) < len(full_names) or " " in case.bin:
+    """Tells whether the original may find another command than the one it looks for, or none."""
+    if case.shell == "zsh":
+        full_names = [node.get("bin_name", case.bin) for node in nodes(case.built)]
+        return len(set(full_names)) < len(full_names)
+    if " " in case.bin:
         return True
     for node in nodes(case.built):
         found = [name for child in node["subcommands"] for name in builds.names(child)]
