@@ -69,7 +69,6 @@ def main() -> int:
     program = build(options.folder)
     numbers = range(options.trees) if options.only is None else [options.only]
     with tempfile.TemporaryDirectory() as folder:
-        make_home(folder)
         sides = Sides(options, program, folder)
         with concurrent.futures.ThreadPoolExecutor(os.cpu_count()) as pool:
             status = reported(pool.map(sides.compare, numbers), options)
@@ -99,13 +98,18 @@ def build(folder: str) -> str:
     return os.path.join(package, "target", "release", "genuine")
 
 
-def make_home(folder: str) -> None:
-    """Makes the directory in which both programs complete paths, which is also the home directory."""
-    os.makedirs(os.path.join(folder, "home", "src"))
+def make_home(folder: str) -> str:
+    """Makes the directory in which both programs complete paths, which is also the home directory.
+
+    The directory above it has nothing else, because words such as `../` list it.
+    """
+    home = os.path.join(folder, "homes", "home")
+    os.makedirs(os.path.join(home, "src"))
     for name in ("a.txt", "notes", ".hidden", "src/main.rs", "run.sh"):
-        with open(os.path.join(folder, "home", name), "w", encoding="utf-8"):
+        with open(os.path.join(home, name), "w", encoding="utf-8"):
             pass
-    os.chmod(os.path.join(folder, "home", "run.sh"), 0o755)
+    os.chmod(os.path.join(home, "run.sh"), 0o755)
+    return home
 
 
 class Original:
@@ -152,8 +156,9 @@ class Sides:
     """Both programs."""
 
     def __init__(self, options: argparse.Namespace, program: str, folder: str):
-        self.options, self.program, self.folder = options, program, folder
-        self.home = os.path.join(folder, "home")
+        self.options, self.program = options, program
+        self.home = make_home(folder)
+        self.trees = os.path.join(folder, "trees")
         self.kept, self.originals = threading.local(), []
 
     def original(self) -> Original:
@@ -172,7 +177,7 @@ class Sides:
         chance = random.Random(f"{self.options.seed} {number}")
         tree, bin_name = trees.random_tree(chance, number)
         lines = [trees.random_line(chance, tree) for _ in range(trees.LINES)]
-        work = os.path.join(self.folder, str(number))
+        work = os.path.join(self.trees, str(number))
         os.makedirs(work)
         with open(os.path.join(work, "app.json"), "w", encoding="utf-8") as file:
             json.dump(tree, file)
