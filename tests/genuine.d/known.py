@@ -55,7 +55,7 @@ def without_excluded(record: str) -> str:
 
 def condition(record: str) -> str:
     """Returns the condition of a record of fish."""
-    found = re.match(r'complete -c .* -n "(__fish_\S+_using_subcommand [^"]*)"', record)
+    found = re.match(r'complete -c .*? -n "(__fish_[^"]*_using_subcommand [^"]*)"', record)
     return found[1] if found else ""
 
 
@@ -143,26 +143,37 @@ def words_of(text: str) -> List[str]:
         return []
 
 
-def nushell_rows(case: Case, ours: str, theirs: str) -> Both:
+def nushell_form(case: Case, ours: str, theirs: str) -> Both:
     """19: a script of Nushell is of another form. The options of each command are the same."""
-    ours, theirs = nushell_read(ours), nushell_read(theirs)
-    paths = {row[0] for row in theirs}
-    return sorted(row for row in ours if row[0] in paths), sorted(theirs)
+    blocks = zip(canonical(case.built), nushell_blocks(ours))
+    return [block for is_canonical, block in blocks if is_canonical], nushell_blocks(theirs)
 
 
-def nushell_read(script: str) -> List[Tuple[Any, ...]]:
-    """Returns the rows of a script: a path alone, and a path with a name, whether it takes a value, and a help."""
-    rows, path = [], ""
+def canonical(node: Tree, is_parent: bool = True, count: int = 1) -> List[bool]:
+    """Returns for each block of a script whether its path has no alias. The node has this many visible names.
+
+    The blocks of a node come first, then those of each child below each of these paths.
+    """
+    here = [is_parent and number == 0 for number in range(count)]
+    found = list(here)
+    for child in node["subcommands"]:
+        for is_canonical in here:
+            found += canonical(child, is_canonical, 1 + len(child.get("visible_aliases", [])))
+    return found
+
+
+def nushell_blocks(script: str) -> List[List[Tuple[Any, ...]]]:
+    """Returns a block for each command: its path, and rows of a name, whether it takes a value, and a help."""
+    blocks: List[List[Tuple[Any, ...]]] = []
     for line in script.splitlines():
         opened = re.match(r'  export extern "?(.*?)"? \[$', line)
         name = re.match(r"    (-.*?)(\(-(.)\))?(: .*?)?( +# (.*))?$", line)
         if opened:
-            path = opened[1]
-            rows.append((path,))
+            blocks.append([(opened[1],)])
         elif name:
             found = [name[1], *(["-" + name[3]] if name[2] else [])]
-            rows += [(path, it, bool(name[4]), name[6] or "") for it in found]
-    return rows
+            blocks[-1] += [(it, bool(name[4]), name[6] or "") for it in found]
+    return [sorted(block) for block in blocks]
 
 
 # The rules on texts: the kind of request, the shells, and the rule, by number.
@@ -173,7 +184,7 @@ RULES: Dict[int, Tuple[str, List[str], Callable[[Case, str, str], Both]]] = {
     12: ("script", ["bash"], bash_labels),
     14: ("script", ["elvish", "powershell"], unescaped_names),
     16: ("register", list(QUOTED), quoting),
-    19: ("script", ["nushell"], nushell_rows),
+    19: ("script", ["nushell"], nushell_form),
     28: ("script", ["powershell"], capitals),
 }
 
