@@ -318,25 +318,39 @@ def changes(theirs: Any, ours: Any) -> str:
 
 def reported(results: Iterable[Tuple[int, List[Found]]], options: argparse.Namespace) -> int:
     """Prints what was found. Returns the status."""
-    counts, explained, unexplained = collections.Counter(), collections.Counter(), 0
-    for number, found in results:
+    counts: Dict[str, int] = collections.Counter()
+    explained: Dict[Tuple[int, bool], int] = collections.Counter()
+    for tree, found in results:
         for case, numbers, told in found:
             counts[case.kind] += 1
             counts["equal"] += numbers == []
-            explained.update(numbers or [])
+            for number in numbers or []:
+                explained[number, trees.is_accepted(tree)] += 1
             if numbers is None:
-                unexplained += 1
-                print_unexplained(number, case, told, options)
+                counts["unexplained"] += 1
+                print_unexplained(tree, case, told, options)
+    is_listed = print_numbers(explained)
+    print_sum(counts)
+    return 0 if is_listed and not counts["unexplained"] else 1
+
+
+def print_numbers(explained: Dict[Tuple[int, bool], int]) -> bool:
+    """Prints how many differences need each number. Returns whether the page lists all of these numbers."""
     titles = rows_of_page()
-    for number, count in sorted(explained.items()):
-        print(f"{number:>3} {count:>8}  {titles.get(number, 'not in docs/DIFFERENCES.md')}")
-    equal = counts.pop("equal")
+    numbers = sorted({number for number, _ in explained})
+    print(" No  accepted by clap  other trees")
+    for number in numbers:
+        counts = [explained[number, is_accepted] for is_accepted in (True, False)]
+        print(f"{number:>3} {counts[0]:>17,} {counts[1]:>12,}  {titles.get(number, 'not in docs/DIFFERENCES.md')}")
+    return set(numbers) <= set(titles)
+
+
+def print_sum(counts: Dict[str, int]) -> None:
+    equal, unexplained = counts.pop("equal", 0), counts.pop("unexplained", 0)
     kinds = ", ".join(f"{count:,} {kind}" for kind, count in sorted(counts.items()))
     total = sum(counts.values())
     said = f"{equal:,} equal, {total - equal - unexplained:,} explained, {unexplained} not"
     print(f"{total:,} comparisons ({kinds}): {said}")
-    unlisted = sorted(set(explained) - set(titles))
-    return 1 if unexplained or unlisted else 0
 
 
 def print_unexplained(number: int, case: Case, told: str, options: argparse.Namespace) -> None:

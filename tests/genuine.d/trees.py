@@ -19,9 +19,14 @@ LINES = 12
 def random_tree(chance: random.Random, number: int) -> Tuple[Tree, str]:
     """Returns a tree, and a bin name. Every second tree is one that clap's own assertions accept."""
     tree = compare.command(chance, 3)
-    if number % 2:
-        return tree, chance.choice(ODD_BINS)
-    return mended(chance, tree, []), chance.choice(BINS)
+    if is_accepted(number):
+        return mended(chance, tree, []), chance.choice(BINS)
+    return tree, chance.choice(ODD_BINS)
+
+
+def is_accepted(number: int) -> bool:
+    """Tells whether the tree of this number is one that clap's own assertions accept."""
+    return number % 2 == 0
 
 
 def mended(chance: random.Random, tree: Tree, inherited: List[Tree]) -> Tree:
