@@ -34,11 +34,13 @@ def mended(chance: random.Random, tree: Tree, inherited: List[Tree]) -> Tree:
     tree = dict(tree)
     for key in ("subcommand_required", "bin_name"):
         tree.pop(key, None)
-    args = [mended_argument(chance, arg) for arg in tree.get("args", [])]
+    args = [mended_argument(chance, arg) for arg in tree.get("args", []) if arg.get("action") != "Version"]
     tree["args"] = list(without_repeats(args, inherited))
-    ids = {arg["id"] for arg in tree["args"]}
+    mend_positionals([arg for arg in tree["args"] if "short" not in arg and "long" not in arg])
     for arg in tree["args"]:
-        arg["conflicts_with"] = [it for it in arg.get("conflicts_with", []) if it in ids and it != arg["id"]]
+        # A global argument is known below too, and so have to be those in conflict with it.
+        ids = {it["id"] for it in tree["args"] if it.get("global") or not arg.get("global")} - {arg["id"]}
+        arg["conflicts_with"] = [it for it in arg.get("conflicts_with", []) if it in ids]
     passed_on = inherited + [arg for arg in tree["args"] if arg.get("global")]
     seen, children = {"help"}, []
     for child in tree.get("subcommands", []):
@@ -63,7 +65,12 @@ def mended_argument(chance: random.Random, arg: Tree) -> Tree:
         for key in ("num_args", "value_names", "possible_values", "value_hint", "value_delimiter", "default_value",
                     "value_terminator", "required", "last", "allow_hyphen_values", "index"):
             arg.pop(key, None)
-    arg.pop("index", None)
+    for key in ("index", "last"):
+        arg.pop(key, None)
+    if arg.get("global"):
+        arg.pop("required", None)
+    if arg.get("value_hint") == "CommandWithArguments":
+        del arg["value_hint"]
     if arg.get("num_args", [1, 1])[1] == 0:
         del arg["num_args"]
     if "num_args" in arg and len(arg.get("value_names", [])) > 1:
@@ -71,6 +78,15 @@ def mended_argument(chance: random.Random, arg: Tree) -> Tree:
     if "short" in arg and chance.randrange(2):
         arg["short"] = chance.choice(SHORTS)
     return arg
+
+
+def mend_positionals(args: List[Tree]) -> None:
+    """Makes only the first positional required, and only the last one of many values."""
+    for arg in args[1:]:
+        arg.pop("required", None)
+    for arg in args[:-1]:
+        arg.pop("num_args", None)
+        arg.pop("value_names", None)
 
 
 def without_repeats(args: List[Tree], inherited: List[Tree]) -> Iterator[Tree]:
