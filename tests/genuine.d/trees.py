@@ -21,12 +21,24 @@ def random_tree(chance: random.Random, number: int) -> Tuple[Tree, str]:
     tree = compare.command(chance, 3)
     if is_accepted(number):
         return mended(chance, tree, []), chance.choice(BINS)
+    take_generated_names(chance, tree)
     return tree, chance.choice(ODD_BINS)
 
 
 def is_accepted(number: int) -> bool:
     """Tells whether the tree of this number is one that clap's own assertions accept."""
     return number % 2 == 0
+
+
+def take_generated_names(chance: random.Random, tree: Tree) -> None:
+    """Gives some arguments and subcommands the names of generated ones."""
+    for arg in tree.get("args", []):
+        if not chance.randrange(20):
+            arg["id"] = chance.choice(["help", "version"])
+    for child in tree.get("subcommands", []):
+        if not chance.randrange(20):
+            child.update(chance.choice([{"name": "help"}, {"aliases": ["help"]}, {"visible_aliases": ["help"]}]))
+        take_generated_names(chance, child)
 
 
 def mended(chance: random.Random, tree: Tree, inherited: List[Tree]) -> Tree:
