@@ -57,6 +57,7 @@ def listed():
         ("tests/from_clap.py", "needs cargo and clap 4"),
         ("tests/rust.py", "needs rt, cargo and clap 4"),
         ("tests/original.py", "needs the archive, cargo, clap 4 and the sources of clap_complete"),
+        ("tests/genuine.py", "needs cargo, and debootstrap once"),
         ("tests/release.py", "needs the files that release/make.py makes"),
         ("tools/faults.py", "needs rt, and most of an hour"),
     ]

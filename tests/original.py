@@ -1,11 +1,12 @@
 #!/usr/bin/env python3
 """Runs the tests of clap_complete over the Rust package.
 
-    tests/original.py SOURCES --archive FOLDER [--clap FOLDER] [--verbose]
+    tests/original.py [SOURCES] [--archive FOLDER] [--genuine | --clap FOLDER] [--verbose]
 
 SOURCES is a directory with the sources of clap_complete 4.6.11, as in its crate. The files may also be in one
 directory, with a hyphen for each slash and with `.txt` after the name. None of them is part of this
-repository. The script takes these parts, and writes `lagvtsune` instead of `clap_complete` in their `use`
+repository. With --genuine, the crates are those of Debian unstable (tools/unstable.py), which have the
+sources too. The script takes these parts, and writes `lagvtsune` instead of `clap_complete` in their `use`
 lines, and the module that a test is about instead of `super`:
 
 - the examples in the documentation, each as a program of its own. Those that are marked `ignore` are left
@@ -17,8 +18,10 @@ Nothing else is changed. A small stand-in takes the place of the snapshot crate.
 each part: how many of its tests passed, and otherwise the reason. The status is 0 if each part passes, or
 fails for the reason that this script knows.
 
---archive names the directory with libcomplgen_c.a. --clap names the directory of another clap than the one
-that cargo finds. If that one has `Arg::add`, the feature `unstable-dynamic` is on.
+--archive names the directory with libcomplgen_c.a. Without it, the package is clap_complete itself, by its
+feature `original`. Then the script shows only that the tests are taken as they are. --clap names the
+directory of another clap than the one that cargo finds. If clap has `Arg::add`, the feature
+`unstable-dynamic` is on.
 """
 
 import argparse
@@ -33,6 +36,7 @@ import tempfile
 TOP = pathlib.Path(__file__).resolve().parent.parent
 sys.path.append(str(TOP / "tools"))
 import common
+import unstable
 
 # The names that replace `super` in the tests of each file.
 MODULES = {
@@ -57,7 +61,7 @@ unstable-shell-tests = []
 
 [dependencies]
 clap = {{ version = "4", features = ["derive", "string"] }}
-lagvtsune = {{ path = "{package}" }}
+lagvtsune = {{ path = "{package}", features = [{original}] }}
 snapbox = {{ path = "../snapbox" }}
 """
 SNAPBOX = '[package]\nname = "snapbox"\nversion = "0.0.0"\nedition = "2021"\n\n[lib]\npath = "lib.rs"\n'
@@ -77,7 +81,7 @@ class Part:
 
 def main():
     options = arguments()
-    parts = parts_of(options.sources)
+    parts = [part for folder in options.sources for part in parts_of(folder)]
     with tempfile.TemporaryDirectory() as work:
         cargo = Cargo(pathlib.Path(work), options)
         for part in parts:
@@ -89,11 +93,21 @@ def main():
 
 def arguments():
     parser = argparse.ArgumentParser(usage=common.usage(__doc__))
-    parser.add_argument("sources", type=pathlib.Path)
-    parser.add_argument("--archive", type=os.path.realpath, required=True)
+    parser.add_argument("sources", type=pathlib.Path, nargs="?")
+    parser.add_argument("--archive", type=os.path.realpath)
+    parser.add_argument("--genuine", action="store_true")
     parser.add_argument("--clap", type=os.path.realpath)
     parser.add_argument("--verbose", action="store_true")
-    return parser.parse_args()
+    options = parser.parse_args()
+    named = [options.sources] if options.sources else []
+    if options.genuine:
+        crates = unstable.crates(unstable.default_folder())
+        common.use_crates(crates)
+        named = named or sorted(pathlib.Path(crates).glob("clap_complete-4.*"))
+    if not named:
+        parser.error("name the sources of clap_complete, or add --genuine")
+    options.sources = named
+    return options
 
 
 def parts_of(folder):
@@ -186,18 +200,19 @@ class Cargo:
         self.package = work / "original"
         copy = work / "lagvtsune"
         shutil.copytree(TOP / "rust/lagvtsune", copy, ignore=shutil.ignore_patterns("target", "Cargo.lock"))
-        dynamic = has_add(options.clap)
+        dynamic = has_add(options.clap) if options.clap else common.has_completers()
         common.fit_manifest(copy / "Cargo.toml", dynamic)
         put(work / "snapbox/Cargo.toml", SNAPBOX)
         put(work / "snapbox/lib.rs", (TOP / "tests/original.d/snapbox.rs").read_text(encoding="utf-8"))
         feature = '"lagvtsune/unstable-dynamic"' if dynamic else ""
-        put(self.package / "Cargo.toml", MANIFEST.format(dynamic=feature, package=copy))
+        original = "" if options.archive else '"original"'
+        put(self.package / "Cargo.toml", MANIFEST.format(dynamic=feature, package=copy, original=original))
         put(self.package / "src/lib.rs", "")
         self.flags = common.cargo_flags()
         if options.clap:
             self.flags += common.cargo_config("patch.crates-io.clap.path", options.clap)
         target = str(work / "target")
-        self.environment = {**os.environ, "CARGO_TARGET_DIR": target, "LAGVTSUNE_DIR": options.archive}
+        self.environment = {**os.environ, "CARGO_TARGET_DIR": target, "LAGVTSUNE_DIR": options.archive or target}
         self.environment.pop("COMPLETE", None)
 
     def put(self, part):
@@ -227,8 +242,8 @@ class Cargo:
 
 
 def has_add(clap):
-    """Tells whether this clap has the feature that lets arguments have completers."""
-    return bool(clap) and "unstable-ext" in (pathlib.Path(clap) / "Cargo.toml").read_text(encoding="utf-8")
+    """Tells whether the clap in this directory has the feature that lets arguments have completers."""
+    return common.has_feature(os.path.join(clap, "Cargo.toml"))
 
 
 def put(path, text):

@@ -1,7 +1,7 @@
 #!/usr/bin/env python3
 """Builds the archive for Rust programs and its package, tests both, and compares them with the original.
 
-    tests/rust.py [--archive FOLDER] [--original FOLDER]
+    tests/rust.py [--archive FOLDER] [--genuine | --original FOLDER]
 
 `rt lib` proves and builds crates/complgen_c. --archive names a directory that has the archive already.
 cargo runs the tests of rust/lagvtsune, and again under valgrind if it is installed. valgrind must report
@@ -12,8 +12,8 @@ programs differ only in the name of the crate. It is also built without an archi
 `original`, if cargo has clap_complete. The script compares their scripts, and their replies to
 1,000 random live requests, except those at which the original panics. If Debian's crates are installed,
 cargo uses these. Otherwise it fetches crates. If the original has no `CompleteEnv`, only scripts are
-compared. --original names a directory with the crates clap and clap_complete, which both programs then
-use.
+compared. --genuine takes the crates of Debian unstable (tools/unstable.py). --original names a directory
+with the crates clap and clap_complete, which both programs then use.
 
 The script prints a line for each step, and with valgrind also the instructions of both programs. If
 clap_complete is 4.6.11, it also prints each text that differs by more than the differences in
@@ -33,6 +33,7 @@ import tempfile
 
 sys.path.append(os.path.join(os.path.dirname(os.path.realpath(__file__)), "..", "tools"))
 import common
+import unstable
 
 ARCHIVE = "libcomplgen_c.a"
 SHELLS = list(common.LIVE_SHELLS)
@@ -73,7 +74,7 @@ def main():
         for folder in ("rust", "examples"):
             shutil.copytree(os.path.join(common.TOP, folder), os.path.join(work, folder))
         package = os.path.join(work, "rust", "lagvtsune")
-        has_add = options.original is not None
+        has_add = options.original is not None or common.has_completers()
         common.fit_manifest(os.path.join(package, "Cargo.toml"), has_add)
         features = ["--features", "unstable-dynamic"] if has_add else []
         print("tests:", sum_of(cargo.run(package, "test", *features)), "passed")
@@ -90,10 +91,14 @@ def sum_of(said):
 
 
 def arguments():
-    parser = argparse.ArgumentParser()
+    parser = argparse.ArgumentParser(usage=common.usage(__doc__))
     parser.add_argument("--archive", type=os.path.realpath)
+    parser.add_argument("--genuine", action="store_true")
     parser.add_argument("--original", type=os.path.realpath)
-    return parser.parse_args()
+    options = parser.parse_args()
+    if options.genuine:
+        common.use_crates(unstable.crates(unstable.default_folder()))
+    return options
 
 
 def build_archive():

@@ -21,7 +21,9 @@ SHELLS = ("bash", "elvish", "fish", "nushell", "powershell", "zsh")
 LIVE_SHELLS = ("bash", "elvish", "fish", "powershell", "zsh")
 # Commands that build the programs.
 BUILDERS = {"complgen": "./complgen --prove", "larder": "rt run in crates/larder"}
+# The directory of Debian's packages of crates, and the one that is used instead.
 DEBIAN = "/usr/share/cargo/registry"
+crates_folder = DEBIAN
 
 # The result of callgrind for a run: its standard output, the number of all instructions, and the
 # instructions of all calls of each function.
@@ -104,9 +106,26 @@ def read_profile(lines, functions):
     return total, list(costs.values())
 
 
+def use_crates(folder):
+    """Makes this the directory of Debian's packages of crates."""
+    global crates_folder
+    crates_folder = folder
+
+
 def has_debian(crate):
     """Tells whether Debian's package of a crate of version 4 is installed."""
-    return bool(glob.glob(os.path.join(DEBIAN, f"{crate}-4.*")))
+    return bool(glob.glob(os.path.join(crates_folder, f"{crate}-4.*")))
+
+
+def has_completers():
+    """Tells whether Debian's clap has the feature that lets arguments have completers."""
+    manifests = glob.glob(os.path.join(crates_folder, "clap-4.*", "Cargo.toml"))
+    return any(has_feature(path) for path in manifests)
+
+
+def has_feature(manifest):
+    with open(manifest, encoding="utf-8") as file:
+        return "unstable-ext" in file.read()
 
 
 def cargo_flags():
@@ -115,7 +134,7 @@ def cargo_flags():
         return []
     return [
         "--offline", *cargo_config("source.crates-io.replace-with", "debian"),
-        *cargo_config("source.debian.directory", DEBIAN),
+        *cargo_config("source.debian.directory", crates_folder),
     ]
 
 
