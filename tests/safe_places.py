@@ -235,17 +235,18 @@ SIGNS = (";hit", "|hit", "$(hit)", "`hit`", "';hit;\"", "\\;hit")
 LETTERED = tuple("x" + letter + sign for letter in "あぃアä快" for sign in SIGNS)
 
 
-def make_locale(scratch, charset, source):
-    """Makes a locale. Returns the variables that choose it, or `None` if that is impossible."""
+def make_locale(folder, charset, source):
+    """Makes a locale in a directory, unless it is there. Returns the variables that choose it, or `None` if it
+    cannot be made."""
     if source is None:
         return {"LC_ALL": charset}
-    folder = os.path.join(scratch.path, "locales")
-    os.makedirs(folder, exist_ok=True)
     name = f"{source}.{charset}"
-    if shutil.which("localedef"):
-        subprocess.run(["localedef", "-c", "-i", source, "-f", charset, os.path.join(folder, name)],
+    path = os.path.join(folder, name)
+    if shutil.which("localedef") and not os.path.exists(path):
+        os.makedirs(folder, exist_ok=True)
+        subprocess.run(["localedef", "-c", "-i", source, "-f", charset, path],
                        stdout=subprocess.DEVNULL, stderr=subprocess.DEVNULL, check=False)
-    return {"LC_ALL": name, "LOCPATH": folder} if os.path.exists(os.path.join(folder, name)) else None
+    return {"LC_ALL": name, "LOCPATH": folder} if os.path.exists(path) else None
 
 
 def try_locale(terminal, scratch, count, left_out):
