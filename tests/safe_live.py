@@ -20,7 +20,7 @@ The parts:
 - places: within quotes, `$(..)`, backticks, `${a:-..}`, here-documents, continued lines, arrays, and behind
   `sudo`, `env` and `command`: tests/safe_places.py has the list. Nothing may be evaluated there, and if the
   program is run, it receives exactly the value, or what was typed;
-- settings: `set -k`, `histchars`, and a function `env`;
+- settings: `set -k`, `histchars`, a function `env`, and beginnings of words that bash keeps and expands;
 - locales: values with letters before signs such as `;`, in GBK, GB18030, BIG5, Shift-JIS, EUC-JP, ISO 8859-1,
   UTF-8 and C. Needs `localedef` and the package locales. --locales keeps the locales in a directory;
 - random: directories with random names made of signs and commands, a file in each, and one to three Tabs.

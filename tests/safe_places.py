@@ -201,6 +201,11 @@ SETTINGS = (
     Setting("zsh", "", "histchars='@^#'", "x@@y", ("x", "'x", '"x'), "zsh"),
     Setting("zsh", "", "histchars='!^,'; setopt interactivecomments", ",x", ("", "'", '"'), ""),
     Setting("zsh", "", "unsetopt multibyte", "xあ;hit", ("x", "'x", '"x'), "zsh"),
+    # bash keeps what is before an open quote, or before the last `:`, and would expand it.
+    Setting("bash zsh", "", "", "$x\\x41y", ("$'", '$"', "$'x", '$"x'), ""),
+    Setting("bash", "", "", "$x:y", ("$x:",), ""),
+    Setting("bash", "", "", "{a,b}:y", ("{a,b}:",), ""),
+    Setting("bash", "", "", "~:y", ("~:",), ""),
     Setting("bash zsh fish elvish", "function env", "", "x;hit", ("x", '"x'), "bash zsh fish elvish"),
 )
 
@@ -216,7 +221,7 @@ def try_setting(terminal, scratch, count, at):
     for typed in setting.typed:
         changed, got = complete_at(terminal, program, typed, "")
         marks = scratch.marks(scratch.here, ())
-        what = f"{setting.line or setting.before}: {typed}"
+        what = f"{setting.line or setting.before or 'kept'}: {typed}"
         if changed or marks:
             count.judge(setting.value, what, [setting.value], got, None, marks, ())
         elif terminal.shell in setting.inserts.split():
