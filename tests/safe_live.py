@@ -2,7 +2,7 @@
 """Types into real shells that have loaded the safe registrations, and checks what a program receives.
 
     tests/safe_live.py [--shells bash,zsh,fish,elvish] [--only PART]..
-                       [--before] [--seed N] [--names N] [--verbose]
+                       [--before] [--seed N] [--names N] [--locales DIRECTORY] [--verbose]
 
 The shells run in a pseudo terminal, and have loaded what `COMPLETE=SHELL complgen` writes for a directory
 of tree files. Their programs write the words that they receive into a file. Nothing that is typed or
@@ -20,9 +20,9 @@ The parts:
 - places: within quotes, `$(..)`, backticks, `${a:-..}`, here-documents, continued lines, arrays, and behind
   `sudo`, `env` and `command`: tests/safe_places.py has the list. Nothing may be evaluated there, and if the
   program is run, it receives exactly the value, or what was typed;
-- settings: `set -k`, `histchars`, and a function `env`;
+- settings: `set -k`, `histchars`, a function `env`, and beginnings of words that bash keeps and expands;
 - locales: values with letters before signs such as `;`, in GBK, GB18030, BIG5, Shift-JIS, EUC-JP, ISO 8859-1,
-  UTF-8 and C. Needs `localedef` and the package locales;
+  UTF-8 and C. Needs `localedef` and the package locales. --locales keeps the locales in a directory;
 - random: directories with random names made of signs and commands, a file in each, and one to three Tabs.
   --seed makes other names, and --names another number of them;
 - ten-thousand: milliseconds of a Tab with 10,000 candidates, and the same by the original's registration;
@@ -722,7 +722,8 @@ def try_locales(scratch, shell, verbose):
     """Tries values with letters in each locale, in a shell of its own."""
     good, before = True, dict(scratch.environment)
     for charset, source in safe_places.LOCALES:
-        variables = safe_places.make_locale(scratch, charset, source)
+        folder = os.path.realpath(scratch.options.locales or os.path.join(scratch.path, "locales"))
+        variables = safe_places.make_locale(folder, charset, source)
         if variables is None:
             print(f"{shell}, locales, {charset}: skipped, needs localedef and the package locales")
             continue
@@ -854,6 +855,7 @@ def arguments():
     parser.add_argument("--before", action="store_true")
     parser.add_argument("--seed", type=int, default=1)
     parser.add_argument("--names", type=int, default=40)
+    parser.add_argument("--locales", metavar="DIRECTORY")
     parser.add_argument("--verbose", action="store_true")
     return parser.parse_args()
 

@@ -201,6 +201,11 @@ SETTINGS = (
     Setting("zsh", "", "histchars='@^#'", "x@@y", ("x", "'x", '"x'), "zsh"),
     Setting("zsh", "", "histchars='!^,'; setopt interactivecomments", ",x", ("", "'", '"'), ""),
     Setting("zsh", "", "unsetopt multibyte", "xあ;hit", ("x", "'x", '"x'), "zsh"),
+    # bash keeps what is before an open quote, or before the last `:`, and would expand it.
+    Setting("bash zsh", "", "", "$x\\x41y", ("$'", '$"', "$'x", '$"x'), ""),
+    Setting("bash", "", "", "$x:y", ("$x:",), ""),
+    Setting("bash", "", "", "{a,b}:y", ("{a,b}:",), ""),
+    Setting("bash", "", "", "~:y", ("~:",), ""),
     Setting("bash zsh fish elvish", "function env", "", "x;hit", ("x", '"x'), "bash zsh fish elvish"),
 )
 
@@ -216,7 +221,7 @@ def try_setting(terminal, scratch, count, at):
     for typed in setting.typed:
         changed, got = complete_at(terminal, program, typed, "")
         marks = scratch.marks(scratch.here, ())
-        what = f"{setting.line or setting.before}: {typed}"
+        what = f"{setting.line or setting.before or 'kept'}: {typed}"
         if changed or marks:
             count.judge(setting.value, what, [setting.value], got, None, marks, ())
         elif terminal.shell in setting.inserts.split():
@@ -235,17 +240,18 @@ SIGNS = (";hit", "|hit", "$(hit)", "`hit`", "';hit;\"", "\\;hit")
 LETTERED = tuple("x" + letter + sign for letter in "あぃアä快" for sign in SIGNS)
 
 
-def make_locale(scratch, charset, source):
-    """Makes a locale. Returns the variables that choose it, or `None` if that is impossible."""
+def make_locale(folder, charset, source):
+    """Makes a locale in a directory, unless it is there. Returns the variables that choose it, or `None` if it
+    cannot be made."""
     if source is None:
         return {"LC_ALL": charset}
-    folder = os.path.join(scratch.path, "locales")
-    os.makedirs(folder, exist_ok=True)
     name = f"{source}.{charset}"
-    if shutil.which("localedef"):
-        subprocess.run(["localedef", "-c", "-i", source, "-f", charset, os.path.join(folder, name)],
+    path = os.path.join(folder, name)
+    if shutil.which("localedef") and not os.path.exists(path):
+        os.makedirs(folder, exist_ok=True)
+        subprocess.run(["localedef", "-c", "-i", source, "-f", charset, path],
                        stdout=subprocess.DEVNULL, stderr=subprocess.DEVNULL, check=False)
-    return {"LC_ALL": name, "LOCPATH": folder} if os.path.exists(os.path.join(folder, name)) else None
+    return {"LC_ALL": name, "LOCPATH": folder} if os.path.exists(path) else None
 
 
 def try_locale(terminal, scratch, count, left_out):
