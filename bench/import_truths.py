@@ -1,7 +1,7 @@
 #!/usr/bin/env python3
-"""Compares what `complgen import` reads from help texts with what the programs' parsers accept.
+"""Compares what the importer reads from help texts with what the programs' parsers accept.
 
-    bench/import_truths.py DIR [COMPLGEN] [--formats NAME,..] [--show WHAT,..] [--programs] [--jobs N]
+    bench/import_truths.py DIR [--trees DIR] [--formats NAME,..] [--show WHAT,..] [--programs] [--jobs N]
 
 DIR has a directory for each program, with its help texts (`help.txt`, and `SUB/help.txt` for a subcommand)
 and `truth.json`. `capture_truths.py` makes such a DIR. A truth is an object for the program, with an object
@@ -19,7 +19,9 @@ for each subcommand in it:
 - `commands`: the subcommands, or `null` if they are not known. `aliases` are further names of them;
 - `kinds`: the kinds of names that `options` lists, by default both. Other names are not compared.
 
-COMPLGEN is the program, by default the proved `complgen`. The table has a line for each format:
+The trees are those that the package `importer` makes, of this repository or of the directory that the variable IMPORTER
+names. With --trees, they are the files NAME.json of a directory, for example those of another version, which
+`import_beside.py make` wrote. The table has a line for each format:
 
 - programs, texts: those that were imported;
 - true: the names of parsers that are plain and that the text says; found: those of them in the tree;
@@ -29,11 +31,11 @@ COMPLGEN is the program, by default the proved `complgen`. The table has a line 
 - commands, c-found, c-wrong: the same of subcommands. If one is missed, its text is imported alone, so that its
   options do not count as missed too;
 - stated: the share of the lines that begin with a dash which have the stated form;
-- clean: programs for which `complgen check` prints no error and no warning.
+- clean: programs for which `complgen check` prints no error and no warning, if the variable COMPLGEN names it.
 
-Two more lists follow: the lines that `import` reports, by reason, and the programs that it refuses. --show
-prints single findings: missed, wrong, value, commands, unclean, unstated. --programs prints the table for each
-program. --jobs is the number of programs that are compared at the same time. The status is 0.
+A list of the dropped lines by their reasons follows. --show prints single findings: missed, wrong, value, commands,
+unclean, unstated. --programs prints the table for each program. --jobs is the number of programs that are compared at
+the same time. The status is 0.
 """
 
 import argparse
@@ -48,8 +50,8 @@ import tempfile
 
 sys.path.append(os.path.join(os.path.dirname(os.path.realpath(__file__)), "..", "tools"))
 import common
+from help_texts import Imported, PLAIN, imported, plain_name
 
-PLAIN = re.compile(r"[A-Za-z0-9]+([-_][A-Za-z0-9]+)*")
 # The stated form of an option line: names and values, then the end, or two spaces and the help text.
 NAME = r"(?:--(?:\[no-\])?[A-Za-z0-9]+(?:[-_.][A-Za-z0-9]+)*|-[A-Za-z0-9])(?![A-Za-z0-9_.:+-])"
 ANGLE, CURLY, GROUP, UPPER = r"<[^<>]*>", r"\{[^{}]*\}", r"\[[^\[\]]*\]", r"[A-Z][A-Z0-9_-]*"
@@ -98,8 +100,8 @@ class Counts(collections.Counter):
 class Comparison:
     """Compares the tree of one program with its truth, and keeps single findings by their kind."""
 
-    def __init__(self, program, findings):
-        self.program, self.counts, self.findings = program, Counts(), findings
+    def __init__(self, findings):
+        self.counts, self.findings = Counts(), findings
 
     def find(self, kind, place, what):
         self.findings.append((kind, place, what))
@@ -170,7 +172,7 @@ class Comparison:
             below = os.path.join(folder, name)
             above = inherited if name in found else {}
             if name not in found and os.path.exists(os.path.join(below, "help.txt")):
-                found[name] = imported(self.program, below, name)[0] or {}
+                found[name] = imported(below, plain_name(name)).tree
             self.command(child, found.get(name, {}), below, f"{place} {name}", above)
 
 
@@ -186,18 +188,6 @@ def names_of(args):
     return names
 
 
-def plain_name(name):
-    """Returns a plain name for a program."""
-    return re.sub(r"[^A-Za-z0-9]+", "-", name).strip("-") or "app"
-
-
-def imported(program, folder, name):
-    """Returns the tree of a directory, or None, and the lines of reports."""
-    words = [program, "import", "--name", plain_name(name), folder]
-    ran = subprocess.run(words, capture_output=True, text=True, errors="replace")
-    return json.loads(ran.stdout) if ran.returncode == 0 else None, ran.stderr.splitlines()
-
-
 def complaints(program, tree):
     """Returns the errors and warnings of `complgen check`."""
     with tempfile.NamedTemporaryFile("w", suffix=".json") as file:
@@ -207,21 +197,24 @@ def complaints(program, tree):
     return [line for line in (checked.stdout + checked.stderr).splitlines() if ": note: " not in line]
 
 
-def compare(program, folder, truth):
-    """Returns the counts of a program, or None if it is refused, with single findings and reports."""
-    tree, reports = imported(program, folder, truth["name"])
-    if tree is None:
-        return None, [], reports
-    findings = [("unclean", truth["name"], line) for line in complaints(program, tree)]
-    comparison = Comparison(program, findings)
-    comparison.counts.update({"programs": 1, "clean": not findings})
-    comparison.command(truth, tree, folder, truth["name"], {})
-    return comparison.counts, findings, reports
+def made(folder, name, trees):
+    """Returns what a directory of help texts gives: what the importer makes, or the file of another version."""
+    if not trees:
+        return imported(folder, plain_name(name))
+    path = os.path.join(trees, os.path.basename(folder) + ".json")
+    with open(path, encoding="utf-8") as file:
+        return Imported(json.load(file), b"", 0, [], 0.0)
 
 
-def reason(report):
-    """Returns the reason of a report, which is its text after the last colon and blank."""
-    return report.rpartition(": ")[2]
+def compare(folder, truth, trees):
+    """Returns the counts of a program, single findings, and the reasons of dropped lines."""
+    found = made(folder, truth["name"], trees)
+    program = os.environ.get("COMPLGEN")
+    findings = [("unclean", truth["name"], line) for line in complaints(program, found.tree)] if program else []
+    comparison = Comparison(findings)
+    comparison.counts.update({"programs": 1, "clean": bool(program) and not findings})
+    comparison.command(truth, found.tree, folder, truth["name"], {})
+    return comparison.counts, findings, [it.reason for it in found.dropped]
 
 
 def truths(options):
@@ -240,39 +233,43 @@ def truths(options):
 def main():
     parser = argparse.ArgumentParser(usage=common.usage(__doc__))
     parser.add_argument("dir")
-    parser.add_argument("complgen", nargs="?")
+    parser.add_argument("--trees")
     parser.add_argument("--formats")
     parser.add_argument("--show", default="")
     parser.add_argument("--programs", action="store_true")
     parser.add_argument("--jobs", type=int, default=2)
     options = parser.parse_args()
-    program = os.path.realpath(options.complgen) if options.complgen else common.program("complgen")
-    formats, reasons, refused = collections.defaultdict(Counts), collections.Counter(), []
+    formats, reasons = collections.defaultdict(Counts), collections.Counter()
     shown = options.show.split(",")
     print(f"{'':<24}" + "".join(f"{name:>9}" for name in COLUMNS))
-    with concurrent.futures.ThreadPoolExecutor(options.jobs) as pool:
-        asked = [(truth, pool.submit(compare, program, folder, truth)) for folder, truth in truths(options)]
+    with concurrent.futures.ProcessPoolExecutor(options.jobs) as pool:
+        asked = [(truth, pool.submit(compare, folder, truth, options.trees)) for folder, truth in truths(options)]
         for truth, future in asked:
-            counts, findings, reports = future.result()
-            reasons.update(map(reason, reports))
-            if counts is None:
-                refused.append(f"{truth['name']}: {' '.join(reports)}")
-                continue
+            counts, findings, why = future.result()
+            reasons.update(why)
             formats[truth["format"]] += counts
             if options.programs:
                 print(counts.row(truth["name"]))
-            for kind, place, what in findings:
-                if kind in shown:
-                    print(f"{kind}: {place}: {what}")
+            shown_findings(findings, shown)
+    print_totals(formats, reasons)
+
+
+def shown_findings(findings, shown):
+    """Prints the findings of some kinds."""
+    for kind, place, what in findings:
+        if kind in shown:
+            print(f"{kind}: {place}: {what}")
+
+
+def print_totals(formats, reasons):
+    """Prints the table by format, and the dropped lines by their reasons."""
     total = Counts()
     for name, counts in sorted(formats.items()):
         print(counts.row(name))
         total += counts
     print(total.row("all"))
-    print(f"\nnames of parsers that no text says: {total['unsaid']}")
-    counted = [f"{count:>7} {why}" for why, count in reasons.most_common()]
-    for title, lines in (("reported", counted), ("refused", refused)):
-        print(f"\n{title}:" + "".join("\n  " + line for line in lines))
+    print(f"\nnames of parsers that no text says: {total['unsaid']}\n\ndropped:")
+    print("\n".join(f"  {count:>7} {why}" for why, count in reasons.most_common()))
 
 
 if __name__ == "__main__":
