@@ -303,7 +303,7 @@ class Terminal:
             now = time.monotonic()
             if now > began + seconds:
                 return False
-            if again and now > last + 1:
+            if again and now > last + 5:
                 self.send(again)
                 last = now
             self.read(0.001)
@@ -342,14 +342,13 @@ class Terminal:
         return line
 
     def outcome(self):
-        """Returns the words that the program received after Enter, or `None` if it does not run."""
-        end = time.monotonic() + LONGEST
-        while READY.encode() not in self.seen and time.monotonic() < end:
-            self.read(0.05)
-            if self.is_incomplete():
-                self.interrupt()
-        # fish may draw its prompt once more before it runs the command.
-        there = self.wait(self.scratch.record, 4 if self.shell == "fish" else 0.5)
+        """Waits for the end of a command. Returns the words that the program received, or `None` if it did
+        not run."""
+        line, _ = self.tab("", "")  # the shell reads these keys when it is ready
+        if line or self.is_incomplete():
+            self.interrupt()
+        self.seen = b""
+        there = self.wait(self.scratch.record, 2)
         return read(self.scratch.record).split("\0")[:-1] if there else None
 
     def forget(self):
