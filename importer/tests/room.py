@@ -7,6 +7,7 @@ import signal
 import subprocess
 import sys
 import tempfile
+import time
 import unittest
 
 TOP = os.path.dirname(os.path.dirname(os.path.dirname(os.path.abspath(__file__))))
@@ -92,6 +93,13 @@ class Room(unittest.TestCase):
             except OSError:
                 pass
         return found
+
+    def left_sleeping(self):
+        """Returns the processes that still sleep after a while. One that was killed may be there for a moment."""
+        end = time.monotonic() + LONGEST
+        while self.sleeping() and time.monotonic() < end:
+            time.sleep(0.05)
+        return self.sleeping()
 
     def end_sleeping(self):
         for process in self.sleeping():

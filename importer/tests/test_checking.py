@@ -82,7 +82,7 @@ class Checking(Room):
                 mock.patch.object(checking, "SECONDS_TO_END", 1):
             with self.assertRaisesRegex(checking.Failure, "^app: complgen did not end within 1 seconds$"):
                 checking.is_accepted(b"{}", "app")
-        self.assertEqual([], self.sleeping())
+        self.assertEqual([], self.left_sleeping())
 
 
 if __name__ == "__main__":

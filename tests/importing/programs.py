@@ -11,7 +11,7 @@ import time
 from typing import Any, Callable, Dict, List, Tuple
 
 import common
-from importing.room import IMPORTER, Node, Room, SLEEP, TEXTS, names_of, option_names, rows, sleeping, write
+from importing.room import IMPORTER, Node, Room, SLEEP, TEXTS, left_sleeping, names_of, option_names, rows, sleeping, write
 
 
 # ---- formats
@@ -125,7 +125,7 @@ def try_limits(room: Room, options: Any) -> None:
     for name, (lines, message) in LIMITED.items():
         room.script(name, *lines)
         room.fails(message, "--seconds", "1" if "did not end" in message else AMPLE, name)
-        room.expect(f"{name}: processes", [], sleeping())
+        room.expect(f"{name}: processes", [], left_sleeping())
         room.expect(f"{name}: file", False, os.path.exists(room.place(name)))
     room.fails("nothere: not found", "nothere")
     for name in ("a b", "$(touch hit)", ".hidden", "g++", "../bin/a.b", "a\x1b[2J", "a\u009b2J"):
@@ -160,7 +160,7 @@ def try_accepted(room: Room) -> None:
         found = f"{name}: 0 commands, 1 option, 0 lines dropped\n"
         room.expect(name, (0, found, ""), room.run("--seconds", AMPLE, name))
         room.expect(f"{name}: options", ["--" + name], room.names(name))
-        room.expect(f"{name}: processes", [], sleeping())
+        room.expect(f"{name}: processes", [], left_sleeping())
     room.script("placed", "echo 'Usage: placed FILE'")
     found = "placed: 0 commands, 0 options, 1 positional argument, 0 lines dropped\n"
     room.expect("positionals alone", (0, found, ""), room.run("placed"))
@@ -267,7 +267,7 @@ def try_failing(room: Room) -> None:
     expected = ["some dies --help: ended by the signal SIGABRT", "some hangs --help: did not end within 6 seconds",
                 "some mute --help: printed nothing"]
     room.expect("some: messages", [f"complgen-import: {it}" for it in expected], sorted(messages.splitlines()))
-    room.expect("some: processes", [], sleeping())
+    room.expect("some: processes", [], left_sleeping())
 
 
 def try_global(room: Room) -> None:
@@ -307,7 +307,7 @@ def try_interrupt(room: Room) -> None:
         wait_until(lambda: bool(sleeping()))
         importer.send_signal(number)
         room.expect(number.name, (b"", b"complgen-import: interrupted\n", 130), ended(importer))
-        room.expect(f"{number.name}: processes", [], sleeping())
+        room.expect(f"{number.name}: processes", [], left_sleeping())
         room.expect(f"{number.name}: scratch directory", [], os.listdir(room.temporary))
         room.expect(f"{number.name}: file", False, os.path.exists(room.place("slow")))
 

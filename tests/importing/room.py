@@ -11,6 +11,7 @@ import signal
 import subprocess
 import sys
 import tempfile
+import time
 from typing import Any, Callable, Dict, List, NamedTuple, Optional, Tuple
 
 import common
@@ -199,6 +200,14 @@ def sleeping() -> List[int]:
         with contextlib.suppress(OSError), open(f"/proc/{process}/cmdline", "rb") as file:
             found += [int(process)] if SLEEP.encode() in file.read().split(b"\0") else []
     return found
+
+
+def left_sleeping() -> List[int]:
+    """Returns the processes that still sleep after a while. One that was killed may be there for a moment."""
+    end = time.monotonic() + 60
+    while sleeping() and time.monotonic() < end:
+        time.sleep(0.05)
+    return sleeping()
 
 
 # ---- what a tree says
