@@ -11,7 +11,8 @@ import time
 from typing import Any, Callable, Dict, List, Tuple
 
 import common
-from importing.room import IMPORTER, Node, Room, SLEEP, TEXTS, left_sleeping, names_of, option_names, rows, sleeping, write
+from importing.room import (
+    IMPORTER, Node, Room, SLEEP, TEXTS, left_sleeping, names_of, option_names, rows, sleeping, write)
 
 
 # ---- formats
