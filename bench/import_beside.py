@@ -41,10 +41,10 @@ import common
 import help_texts
 
 Node = Dict[str, Any]
-# What is compared, in the order of the table.
+# The parts of trees that are compared, in the order of the table.
 KINDS = ("names", "together", "arity", "labels", "possible", "meanings", "hints", "helps", "globals",
          "positionals", "repeated", "commands", "aliases", "abouts")
-# What a text of a format has somewhere.
+# Words by which a text shows its format.
 SIGNS = (("argparse", r"show this help message and exit"), ("click", r"Show this message and exit\."),
          ("clap", r"Print help|Prints help information"), ("cobra", r"(?m)^(Available Commands|Flags|Global Flags):"),
          ("git -h", r"(?m)^usage: git |^   or: git "), ("getopt of GNU", r"gnu\.org|GNU|util-linux|systemd"))
