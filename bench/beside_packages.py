@@ -5,16 +5,12 @@
 
 It imports each program with `complgen-import` into a scratch directory. Then it types ten lines for each
 program twice into each shell: once the shell has only the registration of `complgen`, and once only its own
-completion with what the packages ship. It writes down what the shell offers:
+completion with what the packages ship. It writes down what the shell offers, as tests/shells.py reads it. bash has
+loaded bash-completion.
 
-- bash: what `insert-completions` inserts. The shell has loaded bash-completion;
-- zsh: what `compadd` receives and accepts;
-- fish: what `complete --do-complete` prints.
-
-bash and zsh run in a pseudo terminal, as in tests/safe_live.py, in a git repository. pip's package ships no
-file for bash, so bash loads what `pip3 completion --bash` prints. Values are compared without a `=`, `/` or
-space at their end, and without the `--option=` of the line. File names do not count, because each shell
-completes them by itself.
+The shells run in a pseudo terminal, in a git repository. pip's package ships no file for bash, so bash loads what
+`pip3 completion --bash` prints. Values are compared without a `=`, `/` or space at their end, and without the
+`--option=` of the line. File names do not count, because each shell completes them by itself.
 
 For each line, the script prints how many values both offer, how many more complgen offers, and how many less,
 with the first N names of those, by default 4. --quiet leaves these lines out. A table for each program and
@@ -33,7 +29,6 @@ It needs bash-completion and the programs, each if installed. The status is 0.
 import argparse
 import collections
 import os
-import re
 import shutil
 import subprocess
 import sys
@@ -42,7 +37,7 @@ HERE = os.path.dirname(os.path.realpath(__file__))
 sys.path += [os.path.join(HERE, "..", "tools"), os.path.join(HERE, "..", "tests")]
 import common
 import git_tab
-import safe_live
+import shells
 
 # The flags of `complgen-import` for a program, and the lines to type.
 PROGRAMS = {
@@ -71,29 +66,12 @@ PROGRAMS = {
 # Commands that turn off a shell's own completion, and commands that load the completion of packages.
 ALONE = {"fish": "set -g fish_complete_path"}
 PACKAGES = {"bash": "source /usr/share/bash-completion/bash_completion; eval \"$(pip3 completion --bash 2>&-)\""}
-# The registration for zsh calls `compadd` as completion functions do. Here it also writes down what is accepted.
-ZSH = """
-compadd() {{
-    if [[ ${{@[1,(i)(-|--)]}} == *-(O|A|D)\\ * ]]; then
-        builtin compadd "$@"
-        return
-    fi
-    local -a _beside_taken
-    builtin compadd -O _beside_taken "$@"
-    local _beside_value
-    for _beside_value in $_beside_taken; do
-        print -r -- "$IPREFIX$_beside_value" >>'{offered}'
-    done
-    builtin compadd "$@"
-}}
-bindkey '^I' list-choices
-"""
 TABLE = ("lines", "same", "more", "less", "alone", "none", "empty", "both", "v-more", "v-less")
 
 
 def main():
     options = arguments()
-    scratch = safe_live.Scratch(common.program("complgen"))
+    scratch = shells.TreeScratch(common.program("complgen"))
     # Without it, the shells find what packages ship.
     del scratch.environment["XDG_DATA_DIRS"]
     tables = {}
@@ -140,59 +118,14 @@ def is_imported(scratch, name):
 
 def offered(scratch, shell, lines, registration, setup):
     """Returns what a shell offers for each line: the values of the last word."""
-    if shell == "fish":
-        return {line: asked_fish(scratch, line, registration, setup) for line in lines}
-    path = os.path.join(scratch.path, "offered")
-    keys = "\x1b*" if shell == "bash" else "\t"
-    if shell == "zsh":
-        setup += ZSH.format(offered=path)
-    terminal = safe_live.Terminal(scratch, shell, registration, setup)
-    terminal.settle(0.3)
-    found = {}
-    for line in lines:
-        safe_live.unlink(path)
-        shown, _ = terminal.tab(line, keys)
-        if shown is None:
-            # A program that the completion asks may be slow.
-            terminal.wait(scratch.line, 20)
-            shown = read(scratch.line)
-        values = read(path).split("\n") if shell == "zsh" else inserted(line, shown)
-        found[line] = {plain(line, value) for value in values} - {""}
-        terminal.clear()
-        # Keys that were sent again while the shell was busy must not count for the next line.
-        terminal.settle(0.3)
-    terminal.close()
-    return found
+    with shells.started(shell, scratch, registration, setup) as terminal:
+        return {line: {plain(line, value) for value in terminal.offered(line)} - {""} for line in lines}
 
 
 def without_files(scratch, found):
     """Returns what was offered for each line without the names of files."""
     files = set(os.listdir(scratch.here))
     return {line: values - files for line, values in found.items()}
-
-
-def asked_fish(scratch, line, registration, setup):
-    """Returns what fish offers for a line."""
-    loaded = os.path.join(scratch.path, "registration.fish")
-    safe_live.write(loaded, registration)
-    words = ["fish", "--private", "-c", f"{setup}\nsource {loaded}\ncomplete --do-complete $argv[1]", line]
-    ran = subprocess.run(words, env=scratch.environment, cwd=scratch.here, capture_output=True, text=True)
-    return {plain(line, row.partition("\t")[0]) for row in ran.stdout.splitlines()} - {""}
-
-
-def read(path):
-    if not os.path.exists(path):
-        return ""
-    with open(path, encoding="utf-8", errors="replace") as file:
-        return file.read()
-
-
-def inserted(line, shown):
-    """Returns the words that bash inserted instead of the last word of a line."""
-    before = line[:line.rfind(" ") + 1]
-    if shown == line or not shown.startswith(before):
-        return []
-    return re.split(r"(?<!\\) +", shown[len(before):])
 
 
 def plain(line, value):

@@ -3,7 +3,7 @@
 
     bench/git_tab.py [--shells bash,zsh,fish,elvish] [--runs N] [--branches N]
 
-The shells run in a pseudo terminal, as in tests/safe_live.py, in a repository with 20 branches, or as many
+tests/shells.py runs the shells in a pseudo terminal, in a repository with 20 branches, or as many
 as --branches says. They have git's tree file from `examples/git-tree`. The columns are these:
 
 - none: a file name, which the shell completes by itself. That is the cost of the shell and of the
@@ -31,7 +31,7 @@ import time
 HERE = os.path.dirname(os.path.realpath(__file__))
 sys.path += [os.path.join(HERE, "..", "tools"), os.path.join(HERE, "..", "tests")]
 import common
-import safe_live
+import shells
 
 # The text to type for a column, and the end of the completed line.
 LINES = {"none": ("nothing odd-fi", "odd-file"), "one": ("git status --shor", "--short"),
@@ -46,7 +46,7 @@ WARMING = 3
 
 def main():
     options = arguments()
-    scratch = safe_live.Scratch(common.program("complgen"))
+    scratch = shells.TreeScratch(common.program("complgen"))
     good = True
     try:
         make_repository(scratch.here, options.branches)
@@ -67,7 +67,7 @@ def main():
 
 def arguments():
     parser = argparse.ArgumentParser(usage=common.usage(__doc__))
-    parser.add_argument("--shells", default=",".join(safe_live.SHELLS))
+    parser.add_argument("--shells", default=",".join(shells.SHELLS))
     parser.add_argument("--runs", type=int, default=30)
     parser.add_argument("--branches", type=int, default=20)
     return parser.parse_args()
@@ -82,7 +82,7 @@ def make_repository(folder, branches):
                               stdout=subprocess.PIPE, check=True).stdout.strip()
 
     git("init", "--quiet", "--template=", "--initial-branch=main")
-    safe_live.write(os.path.join(folder, "odd-file"), "")
+    shells.write(os.path.join(folder, "odd-file"), "")
     git("add", "odd-file")
     commit = git("commit-tree", "-m", "A subject", git("write-tree"))
     made = ["main", "odd-branch", *(f"topic-{at:04}" for at in range(max(branches - 2, 0)))]
@@ -91,11 +91,11 @@ def make_repository(folder, branches):
 
 def measure_shell(scratch, shell, runs):
     """Prints the line of a shell. Returns whether each line was completed as expected."""
-    terminal = safe_live.Terminal(scratch, shell, scratch.written(shell), ONLY.get(shell, ""))
+    terminal = shells.started(shell, scratch, scratch.written(shell), ONLY.get(shell, ""))
     times, good = measure(terminal, LINES, runs)
     terminal.close()
     if os.path.exists(OWN.get(shell, "")):
-        terminal = safe_live.Terminal(scratch, shell, "", SETUP.get(shell, ""))
+        terminal = shells.started(shell, scratch, "", SETUP.get(shell, ""))
         own, as_expected = measure(terminal, {"own " + name: LINES[name] for name in ("one", "two")}, runs)
         terminal.close()
         times.update(own)
@@ -108,14 +108,13 @@ def measure_shell(scratch, shell, runs):
 def measure(terminal, lines, runs):
     """Returns the median of each column, and whether each line was completed as expected."""
     took, good = {name: [] for name in lines}, True
-    terminal.settle(0.3)
     for at in range(WARMING + runs):
         for name, (typed, end) in lines.items():
             terminal.send(typed)
             terminal.settle(0.03)
             line, seconds = terminal.tab("")
             if not (line or "").rstrip().endswith(end):
-                print(f"  {terminal.shell}, {name}: the line is {line!r}")
+                print(f"  {terminal.name}, {name}: the line is {line!r}")
                 good = False
             if at >= WARMING:
                 took[name].append(seconds * 1000)

@@ -48,7 +48,7 @@ def listed():
         ["tools/calls.py", "--check"], ["tools/keys.py", "--check"], ["tools/documents.py"], ["release/declarations.py"], ["tests/man_pages.py"],
         ["tests/first-minutes", "--without-rt"],
         ["tests/shell_syntax.py"], ["tests/bash_texts.py"], ["tests/check.py"], ["tests/folders"], ["tests/offered.py"],
-        ["tests/live"], ["tests/hostile.py"], ["tests/running.py"], ["tests/refusals.py", *whole_runs()],
+        ["tests/live.py"], ["tests/hostile.py"], ["tests/running.py"], ["tests/refusals.py", *whole_runs()],
         ["tests/safe_live.py"], ["tests/values_from.py"], ["tests/import.py"],
     ]
     skipped = [
@@ -71,7 +71,7 @@ def whole_runs():
 
 def lacking(script):
     """Returns what a script lacks on this machine."""
-    tools = {"tests/refusals.py": ["cc"], "tests/live": ["script"], "tests/running.py": ["bash", "zsh"]}
+    tools = {"tests/refusals.py": ["cc"], "tests/running.py": ["bash", "zsh"]}
     if os.geteuid() == 0:
         tools["tests/folders"] = ["setpriv"]
     missing = [tool for tool in tools.get(script, []) if not common.is_installed(tool)]

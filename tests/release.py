@@ -27,11 +27,8 @@ import argparse
 import collections
 import filecmp
 import os
-import pty
 import re
-import select
 import shutil
-import signal
 import subprocess
 import sys
 import tarfile
@@ -40,21 +37,16 @@ import time
 
 sys.path.append(os.path.join(os.path.dirname(os.path.realpath(__file__)), "..", "tools"))
 import common
+import shells
+from shells import SHELLS
 
-SHELLS = ("bash", "zsh", "fish", "elvish")
 RELEASE = os.path.join(common.TOP, "release")
-START_FILES = {
-    "bash": ".bashrc", "zsh": ".zshrc", "fish": ".config/fish/config.fish", "elvish": ".config/elvish/rc.elv",
-}
 # The programs of the system, but nothing of /usr/local/bin, where `rt` may be.
 SYSTEM = "/usr/bin:/bin"
 BASH_COMPLETION = "/usr/share/bash-completion/bash_completion"
 # The functions that the library uses: three for memory by its own names, those below them, and the compiler's.
 USED = set("rattle_alloc rattle_realloc rattle_dealloc malloc realloc free memcpy memmove memset".split())
 USED.add("_GLOBAL_OFFSET_TABLE_")
-# A program that writes its arguments to a file.
-RECORDER = '#!/bin/sh\nprintf "%s\\n" "$@" >"$RECORD.new"\nmv "$RECORD.new" "$RECORD"\n'
-SECONDS_TO_START = 30
 MANUALS = ("man1/complgen.1", "man1/complgen-import.1", "man5/complgen-tree.5")
 # A program that prints a help text.
 HELPFUL = """#!/bin/sh
@@ -84,8 +76,9 @@ LIMIT = 16 << 20
 
 
 # A Tab to try: a shell, its home directory and the line of its start file; the program to complete and the
-# line to type; a directory for the PATH, further variables, and the text of the program.
-Trial = collections.namedtuple("Trial", "shell home line name typed path more program", defaults=("", {}, RECORDER))
+# line to type; a directory for the PATH, further variables, and what the program does before it writes down its
+# arguments.
+Trial = collections.namedtuple("Trial", "shell home line name typed path more before", defaults=("", {}, ""))
 
 
 class Wrong(Exception):
@@ -118,7 +111,7 @@ def outcome(name, part, files):
         word, said = "passed", part(files)
     except Skipped as skipped:
         word, said = "skipped", skipped
-    except (Wrong, OSError, subprocess.SubprocessError) as error:
+    except (Wrong, shells.Ended, OSError, subprocess.SubprocessError) as error:
         word, said = "failed", error
     print(f"{word}   {name}, {time.monotonic() - started:.0f} s: {said}", flush=True)
     return word
@@ -365,7 +358,7 @@ def live(files):
     for shell, line in tried:
         if common.is_installed(shell):
             before = "autoload -U compinit; compinit -u\n" if shell == "zsh" else ""
-            words = at_tab(files, Trial(shell, home, before + line, "app", "app --d", f"{prefix}/bin"))
+            words = at_tab(Trial(shell, home, before + line, "app", "app --d", f"{prefix}/bin"))
             check(words == ["--dir"], f"{shell}: {line}: the program received {words}")
             done.append(shell)
     return ", ".join(done)
@@ -390,78 +383,35 @@ def own(files):
     for shell, line in tried:
         if common.is_installed(shell):
             where = home if shell != "fish" or not line else files.room()
-            words = at_tab(files, Trial(shell, where, line, "complgen", "complgen cand"))
+            words = at_tab(Trial(shell, where, line, "complgen", "complgen cand"))
             check(words == ["candidates"], f"{shell}: {line}: the program received {words}")
             done.append(shell)
     return ", ".join(done)
 
 
-def at_tab(files, trial):
-    """Returns the arguments that a program receives after a Tab. A slow shell gets more time, up to some seconds."""
-    room = files.room()
-    write(os.path.join(room, "bin", trial.name), trial.program, 0o755)
-    write(os.path.join(trial.home, START_FILES[trial.shell]), trial.line + "\n")
-    folders = [os.path.join(room, "bin"), *([trial.path] if trial.path else []), SYSTEM]
-    environment = {
-        "HOME": trial.home, "TERM": "xterm", "LC_ALL": "C.UTF-8", "RECORD": os.path.join(room, "record"),
-        "PATH": ":".join(folders), **trial.more,
-    }
+def at_tab(trial):
+    """Returns the arguments that a program receives after a Tab. If it is not what was typed with something added,
+    the Tab is tried once more."""
     words = None
-    for seconds in (0.5, 1.5, 4):
-        words = typed_once(trial, room, environment, seconds)
+    for _ in range(2):
+        words = typed_once(trial)
         if words and words != trial.typed.split()[1:]:
             break
     return words
 
 
-def typed_once(trial, room, environment, seconds):
+def typed_once(trial):
     """Starts a shell, types a line, a Tab and Enter, and returns the arguments that the program received."""
-    record = environment["RECORD"]
-    process, terminal = pty.fork()
-    if process == 0:
-        os.chdir(room)
-        os.execvpe(trial.shell, [trial.shell, *([] if trial.shell == "elvish" else ["-i"])], environment)
-    try:
-        read_for(terminal, seconds)
-        if recorded(terminal, record, f"{trial.name} ready\r", SECONDS_TO_START) != ["ready"]:
-            raise Wrong(f"{trial.shell} did not start within {SECONDS_TO_START} s")
-        os.write(terminal, f"{trial.typed}\t".encode())
-        read_for(terminal, seconds)
-        return recorded(terminal, record, "\r", 4 * seconds)
-    finally:
-        os.kill(process, signal.SIGKILL)
-        os.waitpid(process, 0)
-        os.close(terminal)
-
-
-def recorded(terminal, record, keys, seconds):
-    """Types keys, and returns the arguments that the program receives within some seconds, or `None`."""
-    if os.path.exists(record):
-        os.remove(record)
-    os.write(terminal, keys.encode())
-    until = time.monotonic() + seconds
-    while time.monotonic() < until and not os.path.exists(record):
-        read_for(terminal, 0.1)
-    if not os.path.exists(record):
-        return None
-    with open(record, encoding="utf-8") as file:
-        return file.read().split()
-
-
-def read_for(terminal, seconds):
-    """Reads what a shell prints, and answers its questions about the terminal."""
-    until = time.monotonic() + seconds
-    while time.monotonic() < until:
-        if not select.select([terminal], [], [], 0.05)[0]:
-            continue
-        try:
-            data = os.read(terminal, 65536)
-        except OSError:
-            return
-        if b"\x1b[6n" in data:
-            os.write(terminal, b"\x1b[1;1R")
-        if b"\x1b[c" in data or b"\x1b[0c" in data:
-            os.write(terminal, b"\x1b[?62c")
+    with shells.Scratch() as scratch:
+        scratch.recorder(trial.name, trial.before)
+        folders = [scratch.bin, *([trial.path] if trial.path else []), SYSTEM]
+        scratch.environment = {
+            "HOME": trial.home, "TERM": "xterm", "LC_ALL": "C.UTF-8", "PATH": ":".join(folders), **trial.more,
+        }
+        # zsh reads the system's start files too.
+        words = ["zsh", "-i"] if trial.shell == "zsh" else []
+        with shells.started(trial.shell, scratch, setup=trial.line, words=words) as shell:
+            return shell.received(trial.typed)
 
 
 # ---- the library
@@ -569,9 +519,9 @@ def tab(files):
     for shell, line in (("bash", "source <(COMPLETE=bash {})"), ("fish", "COMPLETE=fish {} | source")):
         for name, real, typed, expected in tried:
             if common.is_installed(shell):
-                text = RECORDER.replace("\n", f'\n[ -z "${{COMPLETE-}}" ] || {real} "$@"\n', 1)
-                trial = Trial(shell, files.room(), line.format(name), name, typed, more=extra, program=text)
-                words = at_tab(files, trial)
+                before = f'[ -z "${{COMPLETE-}}" ] || {real} "$@"'
+                trial = Trial(shell, files.room(), line.format(name), name, typed, more=extra, before=before)
+                words = at_tab(trial)
                 check(words == expected, f"{shell}: {name} received {words}")
                 done.append(f"{typed} in {shell}")
     return ", ".join(done)

@@ -14,14 +14,13 @@ not installed. The status is 0 if all of it holds. It needs no program of this r
 
 import argparse
 import os
-import pty
 import random
-import select
 import shutil
 import subprocess
 import sys
 import tempfile
-import time
+
+import shells
 
 SIGNS = list(";&|<>(){}[]!*?~#%^'=, \t\n\\-+./:@_,") + ["h", "h", " h ", "/h", "(h)", "{h,x}", "é", "!!"]
 
@@ -47,14 +46,12 @@ BASH = """_f{0}() {{
 }}
 """
 
-ZSH = """autoload -Uz compinit; compinit -D -u
-_app() {
+ZSH = """_app() {
     _arguments -s -S -C : \\
 '%s' \\
 '-h[Print help]'
 }
 compdef _app app
-PS1='rea''dy> '
 """
 
 
@@ -115,7 +112,8 @@ def let_through():
 
 
 def environment(folder):
-    return {"PATH": f"{folder}/bin:/usr/bin:/bin", "D": folder, "LC_ALL": "C.UTF-8", "HOME": folder, "ZDOTDIR": folder, "TERM": "xterm", "V": "$(h)"}
+    """Returns the variables of a shell but its home."""
+    return {"PATH": f"{folder}/bin:/usr/bin:/bin", "D": folder, "LC_ALL": "C.UTF-8", "TERM": "xterm", "V": "$(h)"}
 
 
 def bash_runs(folder, pairs):
@@ -127,43 +125,20 @@ def bash_runs(folder, pairs):
     forget(folder)
     command = ["bash", "--norc", "--noprofile", "-c", ". \"$D/script\"; sleep 0.05"]
     os.makedirs(f"{folder}/here", exist_ok=True)
-    subprocess.run(command, env=environment(folder), cwd=f"{folder}/here", stdin=subprocess.DEVNULL,
+    subprocess.run(command, env={**environment(folder), "HOME": folder}, cwd=f"{folder}/here", stdin=subprocess.DEVNULL,
                    stdout=subprocess.DEVNULL, stderr=subprocess.DEVNULL, timeout=60)
     return os.path.exists(f"{folder}/hit")
 
 
 def zsh_runs(folder, line):
     """Tells whether a Tab after `app ` or `app --o ` runs it, if `_arguments` gets this line."""
-    with open(f"{folder}/.zshrc", "w") as file:
-        file.write(ZSH % line.replace("'", "'\\''"))
     forget(folder)
-    typed = "app --o " if line.startswith("--o") else "app "
-    process, terminal = pty.fork()
-    if process == 0:
-        os.chdir(folder)
-        os.execvpe("zsh", ["zsh", "-d", "-i"], environment(folder))
-    wait_for(terminal, b"ready> ")
-    os.write(terminal, typed.encode() + b"\t")
-    for _ in range(30):
-        read(terminal)
-        if os.path.exists(f"{folder}/hit"):
-            break
-        time.sleep(0.1)
-    os.kill(process, 9)
-    os.close(terminal)
-    os.waitpid(process, 0)
-    return os.path.exists(f"{folder}/hit")
-
-
-def wait_for(terminal, wanted):
-    seen, until = b"", time.monotonic() + 15
-    while wanted not in seen and time.monotonic() < until:
-        seen += read(terminal)
-
-
-def read(terminal):
-    ready, _, _ = select.select([terminal], [], [], 0.1)
-    return os.read(terminal, 65536) if ready else b""
+    with shells.Scratch() as scratch:
+        scratch.environment.update(environment(folder))
+        with shells.started("zsh", scratch, ZSH % line.replace("'", "'\\''")) as shell:
+            shell.tab("app --o " if line.startswith("--o") else "app ")
+            # zsh does not wait for a program in `<(..)`
+            return shell.wait(f"{folder}/hit")
 
 
 def forget(folder):

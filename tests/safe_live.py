@@ -4,9 +4,9 @@
     tests/safe_live.py [--shells bash,zsh,fish,elvish] [--only PART]..
                        [--before] [--seed N] [--names N] [--locales DIRECTORY] [--verbose]
 
-The shells run in a pseudo terminal, and have loaded what `COMPLETE=SHELL complgen` writes for a directory
-of tree files. Their programs write the words that they receive into a file. Nothing that is typed or
-offered may run: `touch` is a program that leaves a mark, and no file may appear in the current directory.
+tests/shells.py runs the shells in a pseudo terminal. They have loaded what `COMPLETE=SHELL complgen` writes
+for a directory of tree files. Their programs write the words that they receive into a file. Nothing that is typed
+or offered may run: `touch` is a program that leaves a mark, and no file may appear in the current directory.
 
 The parts:
 
@@ -28,9 +28,9 @@ The parts:
 - ten-thousand: milliseconds of a Tab with 10,000 candidates, and the same by the original's registration;
 - start: milliseconds that 500 tree files add to the start of a shell, and the bytes of the registration.
 
-A value that is not inserted has to be one that the rules leave out: `left_out` has them. With --before,
-the original's registration, as `complgen register` writes it, is tried too: with the parts `values`,
-`files`, `folders` and `words`, and with the file `x$(touch${IFS}hit)`. The script counts and prints what
+A value that is not inserted has to be one that the rules leave out: `left_out` of tests/judging.py has them.
+With --before, the original's registration, as `complgen register` writes it, is tried too: with the parts
+`values`, `files`, `folders` and `words`, and with the file `x$(touch${IFS}hit)`. The script counts and prints what
 happens then, with --verbose case by case. It does not count for the status.
 
 The script prints a line for each exception, and for each shell and part. The status is 0 if no value was
@@ -40,28 +40,20 @@ keeps its limits.
 
 import argparse
 import collections
-import fcntl
-import json
 import os
-import pty
 import random
-import re
-import select
 import shutil
-import signal
 import statistics
-import struct
-import subprocess
 import sys
-import tempfile
-import termios
 import time
 
 sys.path.append(os.path.join(os.path.dirname(os.path.realpath(__file__)), "..", "tools"))
 import common
 import safe_places
+import shells
+from judging import Count, forms, left_out
+from shells import SHELLS, started, write
 
-SHELLS = ("bash", "zsh", "fish", "elvish")
 PARTS = ("values", "files", "folders", "words", "typed", "random", "places", "settings", "locales", "ten-thousand",
          "start")
 ISSUE = "x$(touch${IFS}hit)"
@@ -80,428 +72,12 @@ VALUES = (
 Driver = collections.namedtuple("Driver", "scratch shell registration setup")
 
 
-# ---- what the rules leave out
+class Scratch(shells.TreeScratch):
+    """The directories of these tests, with the options of the command line."""
 
-def has_control(text):
-    return any(ord(letter) < 32 or 127 <= ord(letter) < 160 for letter in text)
-
-
-# The reason for a value that a shell leaves out at some Tabs only.
-MAY_LEAVE_OUT = "bash may complete nothing after a `"
-
-
-def left_out(shell, quote, value, typed=""):
-    """Returns why a value must not be inserted after this open quote, or `None`."""
-    if has_control(value):
-        return "control character"
-    if shell == "bash" and quote == "'" and set("'$`") & set(value):
-        return "', $ or ` between '"
-    if shell == "bash" and quote == '"' and "!" in value[len(typed):]:
-        return '! between "'
-    if shell == "bash" and not quote and value.rpartition("/")[0].count("`") % 2:
-        return MAY_LEAVE_OUT
-    if shell == "zsh" and quote == '"' and "$'" in value:
-        return "$' between \" in zsh"
-    if shell == "zsh" and any("\ue000" <= letter <= "\ue0ff" for letter in value):
-        return "U+E000 to U+E0FF in zsh"
-    if shell == "zsh" and quote == "'" and "`" in typed:
-        return "` between ' in zsh"
-    if shell == "fish" and value.startswith("~"):
-        return "~ in fish"
-    if shell == "fish" and value.startswith(".") and not typed:
-        return "fish hides a leading dot"
-    if shell == "fish" and typed == "*" and value != typed:
-        return "fish completes nothing after *"
-    return None
-
-
-# ---- what is typed
-
-SPECIAL = set("$`\"'\\;&|*?[](){}<>#!~=^% \u00a0‘")
-
-
-def letter_in(shell, quote, letter):
-    """Returns the letter as a user types it, bare or after a quote, or `None` if that is impossible."""
-    if has_control(letter) or "\ue000" <= letter <= "\uf8ff":
-        return None
-    if shell == "elvish":
-        return {"": None if letter in SPECIAL else letter, "'": letter.replace("'", "''"),
-                '"': re.sub(r'(["\\])', r"\\\1", letter)}[quote]
-    if quote == "'":
-        if shell == "fish":
-            return re.sub(r"(['\\])", r"\\\1", letter)
-        return None if letter == "'" else letter
-    if quote == '"':
-        if letter == "!" and shell != "fish":
-            return None
-        return re.sub(r'(["\\$])' if shell == "fish" else r'(["\\$`])', r"\\\1", letter)
-    return "\\" + letter if letter in SPECIAL else letter
-
-
-def forms(shell, value):
-    """Yields triples: the open quote, the value that was typed, and how it was typed."""
-    for quote in ("", "'", '"'):
-        yield quote, "", quote
-        letter = letter_in(shell, quote, value[0])
-        if letter is not None:
-            yield quote, value[0], quote + letter
-
-
-def open_quote(shell, line):
-    """Returns the quote that is open at the end of a line, or an empty text."""
-    quote, escaped = "", False
-    for letter in line:
-        if escaped:
-            escaped = False
-        elif letter == "\\" and escapes(shell, quote):
-            escaped = True
-        elif not quote and letter in "'\"":
-            quote = letter
-        elif letter == quote:
-            quote = ""
-    return quote
-
-
-def escapes(shell, quote):
-    if shell == "elvish":
-        return quote == '"'
-    return quote != "'" or shell == "fish"
-
-
-# ---- the scratch folder
-
-class Scratch:
-    """Directories of tree files, programs, homes and files, which are removed at the end."""
-
-    def __init__(self, complgen, options=None):
+    def __init__(self, complgen, options):
+        super().__init__(complgen)
         self.options = options
-        self.path = tempfile.mkdtemp(prefix="safe-live.")
-        self.home, self.trees, self.bin = (os.path.join(self.path, name) for name in ("home", "trees", "bin"))
-        self.record, self.ran = os.path.join(self.path, "record"), os.path.join(self.path, "ran")
-        self.line, self.here = os.path.join(self.path, "line"), os.path.join(self.path, "here")
-        for folder in (self.home, self.trees, self.bin, self.here):
-            os.mkdir(folder)
-        os.symlink(os.path.realpath(complgen), os.path.join(self.bin, "complgen"))
-        self.script("touch", f"#!/bin/sh\ncase $* in hit*) : >'{self.ran}' ;; esac\n")
-        self.environment = {
-            "HOME": self.home, "XDG_CONFIG_HOME": self.home, "XDG_DATA_HOME": self.home, "XDG_STATE_HOME": self.home,
-            "XDG_RUNTIME_DIR": self.home, "XDG_DATA_DIRS": self.path + "/none", "LC_ALL": "C.UTF-8", "TERM": "xterm",
-            "PATH": self.bin + ":" + os.environ["PATH"], "COMPLGEN_PATH": self.trees, "ZDOTDIR": self.home,
-        }
-
-    def script(self, name, text):
-        path = os.path.join(self.bin, name)
-        write(path, text)
-        os.chmod(path, 0o755)
-
-    def program(self, tree):
-        """Makes a tree file, and a program of its name that writes down the words that it receives."""
-        write(os.path.join(self.trees, tree["name"] + ".json"), json.dumps(tree))
-        self.script(tree["name"], f"""#!/bin/sh
-for word; do printf '%s\\0' "$word"; done >'{self.record}.part'
-mv '{self.record}.part' '{self.record}'
-""")
-
-    def written(self, shell, **variables):
-        """Returns what `complgen` writes for a shell to load."""
-        environment = {**self.environment, "COMPLETE": shell, **variables}
-        return subprocess.run(["complgen"], env=environment, cwd=self.here, stdout=subprocess.PIPE, check=True,
-                              executable=os.path.join(self.bin, "complgen")).stdout.decode()
-
-    def original(self, shell):
-        """Returns the registrations in the original's form for all programs. With them a shell calls
-        `complgen`."""
-        texts = []
-        for name in sorted(os.listdir(self.trees)):
-            bin_name = name.removesuffix(".json")
-            words = ["register", "--shell", shell, "--bin", bin_name, os.path.join(self.trees, name)]
-            text = subprocess.run(["complgen", *words], env=self.environment, stdout=subprocess.PIPE, check=True,
-                                  executable=os.path.join(self.bin, "complgen")).stdout.decode()
-            texts.append(re.sub(rf'(["\s]){bin_name}("?) -- ', r"\1complgen\2 -- ", text))
-        return "".join(texts)
-
-    def marks(self, folder, known):
-        """Returns what ran or appeared since the last call, and removes it."""
-        found = sorted(set(os.listdir(folder)) - set(known))
-        for name in found:
-            os.unlink(os.path.join(folder, name))
-        if os.path.exists(self.ran):
-            os.unlink(self.ran)
-            found.append("touch ran")
-        return found
-
-    def remove(self):
-        shutil.rmtree(self.path, ignore_errors=True)
-
-
-def write(path, text):
-    with open(path, "w", encoding="utf-8") as file:
-        file.write(text)
-
-
-def read(path):
-    """Returns the text of a file, of whatever bytes."""
-    with open(path, encoding="utf-8", errors="surrogateescape", newline="") as file:
-        return file.read()
-
-
-def unlink(path):
-    if os.path.exists(path):
-        os.unlink(path)
-
-
-# ---- a shell in a pseudo terminal
-
-READY, MORE = "<ready> ", "<more> "
-LONGEST = 60
-LISTED = "\x01"
-DUMP = {"bash": "\x18\x18", "zsh": "\x18\x18", "fish": "\x18\x18", "elvish": "\x18"}
-
-
-class Terminal:
-    """A shell that has loaded a registration, in a pseudo terminal."""
-
-    def __init__(self, scratch, shell, registration, setup=""):
-        self.scratch, self.shell, self.seen = scratch, shell, b""
-        loaded = os.path.join(scratch.path, "registration." + shell)
-        write(loaded, registration)
-        words = START[shell](scratch, loaded if registration else os.devnull, setup)
-        self.began = time.monotonic()
-        self.process, self.terminal = pty.fork()
-        if self.process == 0:
-            os.chdir(scratch.here)
-            os.execvpe(words[0], words, scratch.environment)
-        fcntl.ioctl(self.terminal, termios.TIOCSWINSZ, struct.pack("HHHH", 50, 400, 0, 0))
-        self.ready()
-
-    def send(self, text):
-        os.write(self.terminal, text.encode())
-
-    def read(self, seconds):
-        if not select.select([self.terminal], [], [], seconds)[0]:
-            return False
-        try:
-            self.seen += os.read(self.terminal, 65536)
-        except OSError:
-            raise SystemExit(f"{self.shell}: ended: {self.seen[-300:]!r}") from None
-        return True
-
-    def ready(self, seconds=LONGEST):
-        """Waits for the prompt that ends a command."""
-        end = time.monotonic() + seconds
-        while READY.encode() not in self.seen:
-            if time.monotonic() > end:
-                return False
-            self.read(0.05)
-        self.seen = self.seen.rpartition(READY.encode())[2]
-        return True
-
-    def wait(self, path, seconds, again=""):
-        """Waits until a file exists. Keys are sent again now and then."""
-        began = last = time.monotonic()
-        while not os.path.exists(path):
-            now = time.monotonic()
-            if now > began + seconds:
-                return False
-            if again and now > last + 5:
-                self.send(again)
-                last = now
-            self.read(0.001)
-        return True
-
-    def tab(self, text, keys="\t"):
-        """Types a text and a Tab. Returns the command line after it, and the seconds that it took."""
-        unlink(self.scratch.line)
-        self.send(text)
-        began = time.monotonic()
-        self.send(keys + DUMP[self.shell])
-        there = self.wait(self.scratch.line, LONGEST, DUMP[self.shell])
-        took = time.monotonic() - began
-        if not there:
-            return None, took
-        line = read(self.scratch.line)
-        return (line.removesuffix("\n") if self.shell == "fish" else line), took
-
-    def complete(self, text, tabs=1, keys=""):
-        """Types a text, other keys and Tabs, closes an open quote, and presses Enter. Returns the words
-        that the program received."""
-        unlink(self.scratch.record)
-        self.seen = b""
-        for at in range(tabs):
-            line = self.completed("" if at else text + keys)
-        self.seen = b""
-        self.send(open_quote(self.shell, line or "") + "\r")
-        return self.outcome()
-
-    def completed(self, text):
-        """Types a text and a Tab. Returns the command line."""
-        line, _ = self.tab(text)
-        if line and line.startswith(LISTED):
-            # Elvish shows a single candidate in a list, and Enter selects it
-            line, _ = self.tab("", "\r")
-        return line
-
-    def outcome(self):
-        """Waits for the end of a command. Returns the words that the program received, or `None` if it did
-        not run."""
-        line, _ = self.tab("", "")  # the shell reads these keys when it is ready
-        if line or self.is_incomplete():
-            self.interrupt()
-        self.seen = b""
-        there = self.wait(self.scratch.record, 2)
-        return read(self.scratch.record).split("\0")[:-1] if there else None
-
-    def forget(self):
-        """Begins a new command: no words were received, and the command line is empty."""
-        unlink(self.scratch.record)
-        if self.tab("", "")[0]:
-            self.interrupt()
-        self.seen = b""
-
-    def interrupt(self):
-        """Presses ^C until the command line is empty."""
-        for _ in range(LONGEST):
-            self.settle(0.1)  # ^C must not reach what the last key started
-            self.send("\x03")
-            self.ready(1)
-            line, _ = self.tab("", "")
-            if line == "" and not self.is_incomplete():
-                self.seen = b""
-                return
-        raise SystemExit(f"{self.shell}: the command line stays {line!r}")
-
-    def closing(self, word):
-        """Returns the quote that ends a word of the command line."""
-        return open_quote(self.shell, word)
-
-    def is_incomplete(self):
-        """Returns whether the shell waits for more lines of the command."""
-        return MORE.encode() in self.seen
-
-    def clear(self):
-        """Leaves the command line empty."""
-        if self.tab("", "\x15")[0]:
-            self.interrupt()
-        self.seen = b""
-
-    def go(self, folder):
-        self.seen = b""
-        self.send(f"cd '{folder}'\r")
-        self.ready()
-        self.settle()
-
-    def settle(self, seconds=0.05):
-        while self.read(seconds):
-            pass
-        self.seen = b""
-
-    def close(self):
-        os.kill(self.process, signal.SIGKILL)
-        os.waitpid(self.process, 0)
-        os.close(self.terminal)
-
-
-def start_bash(scratch, loaded, setup):
-    path = os.path.join(scratch.path, "bashrc")
-    write(path, f"""bind 'set bell-style none'; bind 'set enable-bracketed-paste off'; bind 'set page-completions off'
-bind 'set completion-query-items -1'
-{setup}
-source '{loaded}'
-dump() {{ printf '%s' "$READLINE_LINE" >'{scratch.line}.part'; mv '{scratch.line}.part' '{scratch.line}'; }}
-bind -x '"\\C-x\\C-x": dump'
-PS1='{READY}' PS2='{MORE}'
-""")
-    return ["bash", "--noprofile", "--rcfile", path, "-i"]
-
-
-def start_zsh(scratch, loaded, setup):
-    write(os.path.join(scratch.home, ".zshrc"), f"""autoload -Uz compinit; compinit -C -u; LISTMAX=100000
-{setup}
-source '{loaded}'
-dump() {{ print -rn -- "$BUFFER" >'{scratch.line}.part'; mv '{scratch.line}.part' '{scratch.line}'; }}
-zle -N dump; bindkey '^X^X' dump; PS1='{READY}' PS2='{MORE}'; unsetopt prompt_cr prompt_sp
-""")
-    return ["zsh", "-d", "-i"]
-
-
-def start_fish(scratch, loaded, setup):
-    # With this directory, fish does not begin to read all man pages.
-    os.makedirs(os.path.join(scratch.home, "fish", "generated_completions"), exist_ok=True)
-    write(os.path.join(scratch.home, "fish", "config.fish"), f"""set -g fish_greeting
-set -g fish_autosuggestion_enabled 0
-{setup}
-source '{loaded}'
-function dump; commandline | string collect -N >'{scratch.line}.part'; mv '{scratch.line}.part' '{scratch.line}'; end
-function fish_user_key_bindings; bind \\cx\\cx dump; end
-function fish_prompt; printf '{READY}'; end
-""")
-    return ["fish", "--private"]
-
-
-def start_elvish(scratch, loaded, setup):
-    path = os.path.join(scratch.path, "rc.elv")
-    dump = f"$edit:current-command > '{scratch.line}.part'; mv '{scratch.line}.part' '{scratch.line}' }}"
-    write(path, f"""{setup}
-eval (slurp < '{loaded}')
-set edit:insert:binding[Ctrl-X] = {{ print {dump}
-set edit:completion:binding[Ctrl-X] = {{ print "\\x01"{dump}
-set edit:prompt = {{ print '{READY}' }}
-set edit:rprompt = {{ }}
-""")
-    return ["elvish", "-rc", path, "-db", os.path.join(scratch.path, "db"), "-sock", os.path.join(scratch.path, "sock")]
-
-
-START = {"bash": start_bash, "zsh": start_zsh, "fish": start_fish, "elvish": start_elvish}
-
-
-# ---- judging
-
-class Count:
-    """The outcomes of a part in a shell. A quiet one prints the counts alone."""
-
-    def __init__(self, shell, part, verbose, quiet=False):
-        self.name, self.verbose, self.quiet = f"{shell}, {part}", verbose, quiet and not verbose
-        self.found, self.reasons = collections.Counter(), collections.Counter()
-
-    def judge(self, what, typed, expected, got, reason, marks, prefixes):
-        """Counts a try: the expected words, the received words, and what ran."""
-        if marks:
-            self.say("EVALUATED", what, typed, got, marks)
-        elif got == expected and reason in (None, MAY_LEAVE_OUT):
-            self.found["received"] += 1
-            return
-        elif got in prefixes:
-            self.found["not inserted"] += 1
-            self.reasons[reason or "NOT EXPECTED"] += 1
-            if reason is None:
-                self.say("NOT INSERTED", what, typed, got)
-            elif self.verbose:
-                print(f"  {self.name}: {what!r} typed as {typed!r}: not inserted: {reason}")
-        elif got == expected:
-            self.say("INSERTED AGAINST THE RULES", what, typed, got)
-        else:
-            self.say("CHANGED", what, typed, got)
-
-    def leave(self, outcome, why):
-        """Counts a try that neither inserts nor runs anything."""
-        self.found[outcome] += 1
-        if self.verbose:
-            print(f"  {self.name}: {why}: {outcome}")
-
-    def say(self, kind, what, typed, got, *more):
-        if kind != "NOT INSERTED":
-            self.found[kind.lower()] += 1
-        self.found["bad"] += 1
-        if not self.quiet:
-            print(f"  {self.name}: {kind}: {what!r} typed as {typed!r}: received {got!r}", *more)
-
-    def end(self):
-        bad = self.found.pop("bad", 0)
-        counts = [f"{self.found.pop(name, 0)} {name}" for name in ("received", "not inserted", "changed", "evaluated")]
-        counts += [f"{count} {name}" for name, count in self.found.items()]
-        why = "; ".join(f"{count} {reason}" for reason, count in sorted(self.reasons.items()))
-        print(f"{self.name}: " + ", ".join(counts) + (f" ({why})" if why else ""), flush=True)
-        return bad == 0
 
 
 # ---- the parts
@@ -515,10 +91,10 @@ def value_tree():
 
 def try_values(terminal, scratch, count):
     for at, value in enumerate(VALUES):
-        for quote, before, typed in forms(terminal.shell, value):
+        for quote, before, typed in forms(terminal.name, value):
             name = f"c{at:02}"
-            got = terminal.complete(f"vals {name} {typed}")
-            reason = left_out(terminal.shell, quote, value, before)
+            got = terminal.received(f"vals {name} {typed}")
+            reason = left_out(terminal.name, quote, value, before)
             prefixes = ([name], [name, before]) if before or quote else ([name],)
             count.judge(value, typed, [name, value], got, reason, scratch.marks(scratch.here, ()), prefixes)
 
@@ -540,11 +116,11 @@ def try_files(terminal, scratch, count):
     for at, value in file_names():
         folder = os.path.join(scratch.path, "files", at)
         terminal.go(folder)
-        for quote, before, typed in forms(terminal.shell, value):
+        for quote, before, typed in forms(terminal.name, value):
             if before == "-":
                 continue
-            got = terminal.complete(f"fils {typed}")
-            reason = left_out(terminal.shell, quote, value, before)
+            got = terminal.received(f"fils {typed}")
+            reason = left_out(terminal.name, quote, value, before)
             prefixes = ([], [before]) if before or quote else ([],)
             count.judge(value, typed, [value], got, reason, scratch.marks(folder, [value]), prefixes)
 
@@ -553,14 +129,14 @@ def try_folders(terminal, scratch, count):
     for at, value in file_names():
         folder = os.path.join(scratch.path, "folders", at)
         terminal.go(folder)
-        for quote, before, typed in forms(terminal.shell, value):
+        for quote, before, typed in forms(terminal.name, value):
             if before == "-":
                 continue
             for tabs, wanted in ((1, value + "/"), (2, value + "/in side")):
                 if tabs == 2 and (value.startswith("-") or value == "~"):
                     continue  # these two words are an option, and the home folder
-                got = terminal.complete(f"fils {typed}", tabs)
-                reason = left_out(terminal.shell, quote, value + "/", before)
+                got = terminal.received(f"fils {typed}", tabs)
+                reason = left_out(terminal.name, quote, value + "/", before)
                 prefixes = ([], [before]) if before or quote else ([],)
                 count.judge(wanted, typed, [wanted], got, reason, scratch.marks(folder, [value]), prefixes)
 
@@ -654,10 +230,10 @@ def try_random(terminal, scratch, count):
             os.makedirs(os.path.join(folder, name))
             write(os.path.join(folder, name, inner), "")
         terminal.go(folder)
-        for quote, before, typed in forms(terminal.shell, name):
+        for quote, before, typed in forms(terminal.name, name):
             for tabs, wanted in ((1, name + "/"), (2, name + "/" + inner), (3, name + "/" + inner)):
-                got = terminal.complete(f"fils {typed}", tabs)
-                reason = left_out(terminal.shell, quote, wanted, before)
+                got = terminal.received(f"fils {typed}", tabs)
+                reason = left_out(terminal.name, quote, wanted, before)
                 prefixes = ([], [before], [name + "/"]) if before or quote else ([], [name + "/"])
                 # After a lone dot, which is the current folder, the paths in it begin with `./`.
                 expected = ["./" + wanted] if before == "." and got == ["./" + wanted] else [wanted]
@@ -667,12 +243,12 @@ def try_random(terminal, scratch, count):
 def try_words(terminal, scratch, count):
     terminal.go(scratch.here)
     escaped = {"bash": ESCAPED + ESCAPED_POSIX, "zsh": ESCAPED + ESCAPED_POSIX, "fish": ESCAPED, "elvish": ()}
-    for typed, wanted in WORDS + escaped[terminal.shell]:
-        got = terminal.complete(typed)
+    for typed, wanted in WORDS + escaped[terminal.name]:
+        got = terminal.received(typed)
         count.judge(wanted, typed, wanted, got, None, scratch.marks(scratch.here, ()), ([typed.split()[1:]]))
-    if terminal.shell == "bash":
+    if terminal.name == "bash":
         # a cursor within a word: what is after it stays
-        got = terminal.complete("word us", keys="x\x1b[D")
+        got = terminal.received("word us", keys="x\x1b[D")
         count.judge("user@host", "word us|x", True, got in (["user@host", "x"], ["user@hostx"]), None,
                     scratch.marks(scratch.here, ()), ())
     try_home(terminal, scratch, count)
@@ -681,7 +257,7 @@ def try_words(terminal, scratch, count):
 def try_home(terminal, scratch, count):
     write(os.path.join(scratch.home, "notes of it"), "")
     for typed in ("fils ~/no", "fils ~/notes"):
-        got = terminal.complete(typed)
+        got = terminal.received(typed)
         count.judge("~/notes of it", typed, [scratch.home + "/notes of it"], got, None,
                     scratch.marks(scratch.here, ()), ())
 
@@ -710,8 +286,7 @@ def try_settings(scratch, shell, verbose):
     for at, setting in enumerate(safe_places.SETTINGS):
         if shell in setting.shells.split():
             setup = safe_places.FUNCTIONS[shell] if setting.before else ""
-            terminal = Terminal(scratch, shell, scratch.written(shell), setup)
-            terminal.settle(0.2)
+            terminal = started(shell, scratch, scratch.written(shell), setup)
             safe_places.try_setting(terminal, scratch, count, at)
             terminal.close()
     return count.end()
@@ -728,8 +303,7 @@ def try_locales(scratch, shell, verbose):
             continue
         scratch.environment.update(variables)
         count = Count(shell, "locales, " + charset, verbose)
-        terminal = Terminal(scratch, shell, scratch.written(shell))
-        terminal.settle(0.2)
+        terminal = started(shell, scratch, scratch.written(shell))
         safe_places.try_locale(terminal, scratch, count, left_out_in(shell, charset))
         terminal.close()
         scratch.environment.clear()
@@ -755,7 +329,7 @@ def try_ten_thousand(scratch, shell, verbose):
     setup = {"zsh": "unsetopt auto_list auto_menu"}.get(shell, "")
     found = {}
     for name, text in (("safe", scratch.written(shell)), ("original's", scratch.original(shell))):
-        terminal = Terminal(scratch, shell, text, setup)
+        terminal = started(shell, scratch, text, setup)
         took = []
         for _ in range(7):
             line, seconds = terminal.tab("many val")
@@ -784,7 +358,7 @@ def try_start(scratch, shell, verbose):
     took = {"": [], load: []}
     for _ in range(20):
         for setup in took:
-            terminal = Terminal(scratch, shell, "", setup)
+            terminal = started(shell, scratch, "", setup)
             took[setup].append((time.monotonic() - terminal.began) * 1000)
             terminal.close()
     scratch.environment["COMPLGEN_PATH"] = before
@@ -825,8 +399,7 @@ def try_shell(scratch, shell, options):
 
 
 def try_part(driver, part, count):
-    terminal = Terminal(driver.scratch, driver.shell, driver.registration, driver.setup)
-    terminal.settle(0.2)
+    terminal = started(driver.shell, driver.scratch, driver.registration, driver.setup)
     TRIES[part](terminal, driver.scratch, count)
     terminal.close()
     return count.end()
@@ -839,9 +412,9 @@ def show_issue(scratch):
         folder = os.path.join(scratch.path, "issue-" + name)
         os.makedirs(folder)
         write(os.path.join(folder, ISSUE), "")
-        terminal = Terminal(scratch, "bash", text)
+        terminal = started("bash", scratch, text)
         terminal.go(folder)
-        got = terminal.complete("fils x")
+        got = terminal.received("fils x")
         terminal.close()
         marks = scratch.marks(folder, [ISSUE])
         print(f"bash, the file {ISSUE}, {name}: received {got!r}, ran: {', '.join(marks) or 'nothing'}")

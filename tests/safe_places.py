@@ -96,8 +96,6 @@ OPENINGS = {"bash": ("", "'", '"', "$'", '$"'), "zsh": ("", "'", '"', "$'", '$"'
             "elvish": ("", "'", '"')}
 
 
-
-
 def program_tree(name, *values, **keys):
     """Returns a command that offers values for its positional and for `--option`."""
     offered = {"possible_values": [{"name": value} for value in values], **keys}
@@ -140,13 +138,13 @@ def complete_at(terminal, before, typed, after):
     """
     terminal.forget()
     line = type_lines(terminal, before + typed)
-    changed = terminal.completed("")
+    changed = terminal.inserted("")
     if changed == line:
         (terminal.interrupt if "\n" in before else terminal.clear)()
         return False, None
     # Elvish quotes all of `--option=VALUE`.
-    word = (changed or "")[0 if terminal.shell == "elvish" else len(line) - len(typed):]
-    close = "" if word.endswith(" ") else terminal.closing(word)
+    word = (changed or "")[0 if terminal.name == "elvish" else len(line) - len(typed):]
+    close = "" if word.endswith(" ") else terminal.open_quote(word)
     terminal.seen = b""
     type_lines(terminal, close + after)
     terminal.seen = b""
@@ -158,12 +156,12 @@ def complete_at(terminal, before, typed, after):
 
 def try_places(terminal, scratch, count):
     """Completes each probe in each place, after each quote that may be open."""
-    for place in PLACES[terminal.shell]:
+    for place in PLACES[terminal.name]:
         inserted = 0
         for at, probe in enumerate(PROBES):
-            for opening in OPENINGS[terminal.shell]:
+            for opening in OPENINGS[terminal.name]:
                 inserted += try_place(terminal, scratch, count, place, f"app{at}", opening + "x")
-        if inserted == 0 and terminal.shell in place.inserts.split():
+        if inserted == 0 and terminal.name in place.inserts.split():
             count.say("NEVER INSERTED", place.name, place.before, None)
 
 
@@ -224,7 +222,7 @@ def try_setting(terminal, scratch, count, at):
         what = f"{setting.line or setting.before or 'kept'}: {typed}"
         if changed or marks:
             count.judge(setting.value, what, [setting.value], got, None, marks, ())
-        elif terminal.shell in setting.inserts.split():
+        elif terminal.name in setting.inserts.split():
             count.say("NEVER INSERTED", setting.value, what, got)
         else:
             count.leave("not inserted", what)

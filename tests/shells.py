@@ -187,8 +187,8 @@ class Shell:
             os.chdir(scratch.here)
             os.execvpe(words[0], words, scratch.environment)
         fcntl.ioctl(self.terminal, termios.TIOCSWINSZ, struct.pack("HHHH", 50, 400, 0, 0))
-        if not self.ready():
-            raise Ended(f"{self.name}: no prompt within {LONGEST} seconds: {self.seen[-300:]!r}")
+        if not self.ready() or self.tab("", "")[0] is None:
+            raise Ended(f"{self.name}: does not start within {LONGEST} seconds: {self.seen[-300:]!r}")
 
     def start_text(self, source: str, setup: str) -> str:
         """Returns the text of the start file."""
@@ -350,7 +350,8 @@ class Shell:
         self.seen = b""
         self.send(f"cd '{folder}'\r")
         self.ready()
-        self.settle()
+        self.tab("", "")
+        self.seen = b""
 
     def is_incomplete(self) -> bool:
         """Returns whether the shell waits for more lines of the command."""

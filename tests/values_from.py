@@ -3,8 +3,8 @@
 
     tests/values_from.py [--shells bash,zsh,fish,elvish] [--only PART].. [--verbose] [--seed N] [--runs N]
 
-The shells run in a pseudo terminal, as in tests/safe_live.py, and have loaded what `COMPLETE=SHELL complgen`
-writes. Their programs write the words that they receive into a file. No shell may evaluate anything.
+tests/shells.py runs the shells in a pseudo terminal. They have loaded what `COMPLETE=SHELL complgen` writes.
+Their programs write the words that they receive into a file. No shell may evaluate anything.
 
 The parts:
 
@@ -44,11 +44,10 @@ import time
 
 sys.path.append(os.path.join(os.path.dirname(os.path.realpath(__file__)), "..", "tools"))
 import common
-import safe_live
-from safe_live import Count, Driver, Scratch, Terminal, forms, left_out, unlink, write
+from judging import Count, forms, left_out
+from shells import LONGEST, SHELLS, TreeScratch, started, unlink, write
 
 PARTS = ("protocol", "random", "branches", "words", "many", "ends", "off", "order", "files", "examples", "hints")
-LONGEST = 60
 
 
 # ---- trees and programs
@@ -336,11 +335,11 @@ def try_branches(terminal, scratch, count):
     for at, name in enumerate(BRANCHES):
         folder = repository(scratch, at)
         terminal.go(folder)
-        for quote, before, typed in forms(terminal.shell, name):
+        for quote, before, typed in forms(terminal.name, name):
             # git's commands offer options too if nothing is typed
             words, program = ([name], "pick") if not before else (["switch", name], "git switch")
-            got = terminal.complete(f"{program} {typed}")
-            reason = left_out(terminal.shell, quote, name, before)
+            got = terminal.received(f"{program} {typed}")
+            reason = left_out(terminal.name, quote, name, before)
             prefixes = (words[:-1], words[:-1] + [before])
             count.judge(name, typed, words, got, reason, scratch.marks(folder, [".git"]), prefixes)
     terminal.go(os.path.join(scratch.path, "repositories", "first"))
@@ -348,7 +347,7 @@ def try_branches(terminal, scratch, count):
                          ("git stash pop st", ["stash", "pop", "stash@{0}"]),
                          ("git branch --contains v", ["branch", "--contains", "v1.0-odd'one"]),
                          ("git rebase --onto=v", ["rebase", "--onto=v1.0-odd'one"])):
-        got = terminal.complete(typed)
+        got = terminal.received(typed)
         count.judge(words[-1], typed, words, got, None, scratch.marks(terminal_folder(scratch), [".git"]), ())
 
 
@@ -380,7 +379,7 @@ def try_words(terminal, scratch, count):
     for program, words in (("odd", list(ODD_WORDS)), ("bare", [])):
         for typed in ("", "do", "'", '"d'):
             unlink(received)
-            got = terminal.complete(f"{program} {typed}")
+            got = terminal.received(f"{program} {typed}")
             marks = scratch.marks(scratch.here, ())
             count.judge("done", typed, ["done"], got, None, marks, ())
             count.judge(words, f"{program} {typed}", words, read_json(received), None, marks, ())
@@ -398,7 +397,7 @@ def read_json(path):
 def try_many(terminal, scratch, count):
     terminal.go(scratch.here)
     for typed, word in (("value-1", "value-10000"), ("value-0321", None), ("value-0432", None)):
-        got = terminal.complete(f"many {typed}" + ("" if word else "1"))
+        got = terminal.received(f"many {typed}" + ("" if word else "1"))
         count.judge(word or typed + "1", typed, [word or typed + "1"], got, None, scratch.marks(scratch.here, ()), ())
     took = []
     for _ in range(5):
@@ -407,7 +406,7 @@ def try_many(terminal, scratch, count):
         count.judge("val", "val", True, bool(line) and "value-" in line, None, (), ())
         terminal.clear()
         terminal.settle()
-    print(f"{terminal.shell}, many: a Tab with 10,000 lines takes {statistics.median(took):.0f} ms", flush=True)
+    print(f"{terminal.name}, many: a Tab with 10,000 lines takes {statistics.median(took):.0f} ms", flush=True)
 
 
 # ---- how commands end
@@ -455,14 +454,13 @@ def make_ends(scratch):
 def try_ends(terminal, scratch, count):
     terminal.go(scratch.here)
     for name, _, word in ENDS:
-        got = terminal.complete(f"ends {name} ")
+        got = terminal.received(f"ends {name} ")
         words = [name, word] if word else [name]
         count.judge(word, name, words, got, None, scratch.marks(scratch.here, ()), ())
     terminal.tab("ends noisy ")
     count.judge(NOISE, "ends noisy ", False, NOISE.encode() in terminal.seen, None, (), ())
     terminal.clear()
-    terminal.send("ends junk \t")
-    terminal.settle(0.5)
+    terminal.tab("ends junk ")
     terminal.clear()
     count.judge("junk", "ends junk ", [], scratch.marks(scratch.here, ()), None, (), ())
     judge_alive(terminal, scratch, count, "junk")
@@ -486,11 +484,11 @@ def try_hanging(terminal, scratch, count, name):
 
 def judge_alive(terminal, scratch, count, what):
     """Checks that the shell completes and runs further lines."""
-    got = terminal.complete("alive y")
+    got = terminal.received("alive y")
     count.judge(f"alive after {what}", "alive y", ["yes"], got, None, scratch.marks(scratch.here, ()), ())
 
 
-def wait_for(is_so, terminal, seconds=6):
+def wait_for(is_so, terminal, seconds=LONGEST):
     end = time.monotonic() + seconds
     while time.monotonic() < end:
         if is_so():
@@ -535,14 +533,14 @@ def try_off(scratch, shell, verbose):
         before = scratch.environment
         registration = scratch.written(shell)
         scratch.environment = {**before, **variables}
-        terminal = Terminal(scratch, shell, registration)
+        terminal = started(shell, scratch, registration)
         scratch.environment = before
         terminal.go(scratch.path)
         logged(scratch)
-        got = terminal.complete("offs va")
+        got = terminal.received("offs va")
         count.judge(what, "offs va", ["value"] if ran else ["va"], got, None, (), ())
         count.judge(what, "offs va", ran, logged(scratch), None, (), ())
-        got = terminal.complete("offs --color=a")
+        got = terminal.received("offs --color=a")
         count.judge(what, "offs --color=a", ["--color=auto"], got, None, (), ())
         terminal.close()
     return count.end()
@@ -570,7 +568,7 @@ def try_order(terminal, scratch, count):
         ("both --x alpha al", ["--x", "alpha", "alpha"], "log-alpha"),
         ("both --x alpha be", ["--x", "alpha", "be"], "log-alpha"),
     ):
-        got = terminal.complete(typed)
+        got = terminal.received(typed)
         marks = scratch.marks(scratch.here, ())
         count.judge(typed, typed, words, got, None, marks, ())
         count.judge("what ran", typed, [ran], logged(scratch), None, marks, ())
@@ -607,7 +605,7 @@ def try_files(terminal, scratch, count):
         ("gone", "a", None), ("folder", "a", None), ("device", "a", None), ("pipe", "a", None),
         ("colons", "co", "colon"), ("columns", "", "column"),
     ):
-        got = terminal.complete(f"filed {child} {typed}")
+        got = terminal.received(f"filed {child} {typed}")
         words = [child, word] if word else [child, typed]
         count.judge(word, f"filed {child} {typed}", words, got, None, scratch.marks(folder, known), ())
 
@@ -664,7 +662,7 @@ def try_examples(terminal, scratch, count):
         ("docker rm o", ["rm", "old"]), ("docker run --network br", ["run", "--network", "bridge"]),
         ("docker rmi nginx:", ["rmi", "nginx:1.25"]), ("just t", ["test"]), ("just --show l", ["--show", "lint"]),
     ):
-        got = terminal.complete(typed)
+        got = terminal.received(typed)
         count.judge(words[-1], typed, words, got, None, scratch.marks(folder, ["Makefile"]), ())
 
 
@@ -692,7 +690,7 @@ def try_hints(terminal, scratch, count):
         *user_rows(), ("host", "known-o", "known-one"), ("host", "known-p", "known-port"), ("host", "marked", None),
         ("host", "config", "config-one"), ("host", "not-o", None), ("command", "odd-program", "odd-program-of-it"),
     ):
-        got = terminal.complete(f"hints {child} {typed}")
+        got = terminal.received(f"hints {child} {typed}")
         words = [child, word or typed]
         count.judge(word, f"hints {child} {typed}", words, got, None, scratch.marks(scratch.here, ()), ())
 
@@ -733,8 +731,7 @@ def try_shell(scratch, shell, parts, verbose):
         if part not in TRIES:
             continue
         setup = FUNCTIONS[shell] if part == "ends" else ""
-        terminal = Terminal(scratch, shell, scratch.written(shell), setup)
-        terminal.settle(0.2)
+        terminal = started(shell, scratch, scratch.written(shell), setup)
         count = Count(shell, part, verbose)
         TRIES[part](terminal, scratch, count)
         terminal.close()
@@ -744,7 +741,7 @@ def try_shell(scratch, shell, parts, verbose):
 
 def arguments():
     parser = argparse.ArgumentParser(usage=common.usage(__doc__))
-    parser.add_argument("--shells", default=",".join(safe_live.SHELLS))
+    parser.add_argument("--shells", default=",".join(SHELLS))
     parser.add_argument("--only", action="append", choices=PARTS)
     parser.add_argument("--verbose", action="store_true")
     parser.add_argument("--seed", type=int, default=1)
@@ -758,7 +755,7 @@ def main():
     if not common.is_installed("git"):
         parts = [part for part in parts if part != "branches"]
         print("branches: git is not installed, skipped")
-    scratch = Scratch(common.program("complgen"), options)
+    scratch = TreeScratch(common.program("complgen"))
     good = True
     try:
         make_all(scratch)

@@ -7,6 +7,7 @@ import subprocess
 from typing import Any
 
 import common
+import shells
 from importing.room import IMPORTER, LONGEST, Room, TEXTS, write
 
 LIVE = (
@@ -23,12 +24,8 @@ def try_live(room: Room, options: Any) -> None:
     if not room.proved or not common.is_installed("bash"):
         print(f"  live: skipped, because {'bash is not installed' if room.proved else 'no proved complgen is built'}")
         return
-    import safe_live
-    scratch = safe_live.Scratch(room.proved)
-    try:
-        scratch.program({"name": "weft"})
-        recorder = os.path.join(scratch.bin, "weft")
-        os.rename(recorder, os.path.join(scratch.bin, "record-weft"))
+    with shells.TreeScratch(room.proved) as scratch:
+        scratch.recorder("record-weft")
         scratch.script("weft", f"#!/bin/sh\ncase $* in *--help*) ;; *) exec record-weft \"$@\" ;; esac\n"
                        f"at='{TEXTS}/clap'\nfor word do case $word in -*) ;; *) at=$at/$word ;; esac; done\ncat \"$at/help.txt\"\n")
         words = ["--walk", "--force", "--out-dir", scratch.trees, "weft"]
@@ -37,10 +34,6 @@ def try_live(room: Room, options: Any) -> None:
                              stderr=subprocess.PIPE, timeout=LONGEST)
         room.expect("status", 0, ran.returncode)
         write(os.path.join(scratch.here, "notes.txt"), "")
-        terminal = safe_live.Terminal(scratch, "bash", scratch.written("bash"))
-        terminal.settle(0.2)
-        for typed, expected in LIVE:
-            room.expect(typed, expected, terminal.complete(typed))
-        terminal.close()
-    finally:
-        scratch.remove()
+        with shells.started("bash", scratch, scratch.written("bash")) as shell:
+            for typed, expected in LIVE:
+                room.expect(typed, expected, shell.received(typed))
