@@ -8,7 +8,7 @@ from __future__ import annotations
 
 import collections
 import re
-from typing import Any, Counter, Iterator, Optional, Sequence, Tuple
+from typing import Any, Callable, Counter, Iterator, Optional, Sequence, Tuple
 
 # The reason for a value that a shell leaves out at some Tabs only.
 MAY_LEAVE_OUT = "bash may complete nothing after a `"
@@ -96,6 +96,16 @@ class Count:
         self.name, self.verbose, self.quiet = f"{shell}, {part}", verbose, quiet and not verbose
         self.found: Counter[str] = collections.Counter()
         self.reasons: Counter[str] = collections.Counter()
+
+    def tried(self, attempt: Callable[[], Tuple[Any, Sequence[str]]], what: Any, typed: str, expected: Any,
+              reason: Optional[str] = None, prefixes: Sequence[Any] = ()) -> None:
+        """Makes an attempt, which returns the received words and what ran, and judges it. An attempt that is wrong
+        although nothing ran is made once more, because a busy machine can delay a shell's answer."""
+        got, marks = attempt()
+        is_left_out = reason is not None and got in prefixes
+        if not marks and not is_left_out and (got != expected or reason not in (None, MAY_LEAVE_OUT)):
+            got, marks = attempt()
+        self.judge(what, typed, expected, got, reason, marks, prefixes)
 
     def judge(self, what: Any, typed: str, expected: Any, got: Any, reason: Optional[str], marks: Sequence[str],
               prefixes: Sequence[Any]) -> None:

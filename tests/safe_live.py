@@ -93,10 +93,10 @@ def try_values(terminal, scratch, count):
     for at, value in enumerate(VALUES):
         for quote, before, typed in forms(terminal.name, value):
             name = f"c{at:02}"
-            got = terminal.received(f"vals {name} {typed}")
             reason = left_out(terminal.name, quote, value, before)
             prefixes = ([name], [name, before]) if before or quote else ([name],)
-            count.judge(value, typed, [name, value], got, reason, scratch.marks(scratch.here, ()), prefixes)
+            count.tried(lambda: (terminal.received(f"vals {name} {typed}"), scratch.marks(scratch.here, ())),
+                        value, typed, [name, value], reason, prefixes)
 
 
 def file_names():
@@ -119,10 +119,10 @@ def try_files(terminal, scratch, count):
         for quote, before, typed in forms(terminal.name, value):
             if before == "-":
                 continue
-            got = terminal.received(f"fils {typed}")
             reason = left_out(terminal.name, quote, value, before)
             prefixes = ([], [before]) if before or quote else ([],)
-            count.judge(value, typed, [value], got, reason, scratch.marks(folder, [value]), prefixes)
+            count.tried(lambda: (terminal.received(f"fils {typed}"), scratch.marks(folder, [value])),
+                        value, typed, [value], reason, prefixes)
 
 
 def try_folders(terminal, scratch, count):
@@ -135,10 +135,10 @@ def try_folders(terminal, scratch, count):
             for tabs, wanted in ((1, value + "/"), (2, value + "/in side")):
                 if tabs == 2 and (value.startswith("-") or value == "~"):
                     continue  # these two words are an option, and the home folder
-                got = terminal.received(f"fils {typed}", tabs)
                 reason = left_out(terminal.name, quote, value + "/", before)
                 prefixes = ([], [before]) if before or quote else ([],)
-                count.judge(wanted, typed, [wanted], got, reason, scratch.marks(folder, [value]), prefixes)
+                count.tried(lambda: (terminal.received(f"fils {typed}", tabs), scratch.marks(folder, [value])),
+                            wanted, typed, [wanted], reason, prefixes)
 
 
 WORDS = (
@@ -232,20 +232,24 @@ def try_random(terminal, scratch, count):
         terminal.go(folder)
         for quote, before, typed in forms(terminal.name, name):
             for tabs, wanted in ((1, name + "/"), (2, name + "/" + inner), (3, name + "/" + inner)):
-                got = terminal.received(f"fils {typed}", tabs)
                 reason = left_out(terminal.name, quote, wanted, before)
                 prefixes = ([], [before], [name + "/"]) if before or quote else ([], [name + "/"])
-                # After a lone dot, which is the current folder, the paths in it begin with `./`.
-                expected = ["./" + wanted] if before == "." and got == ["./" + wanted] else [wanted]
-                count.judge(wanted, typed, expected, got, reason, scratch.marks(folder, [name]), prefixes)
+
+                def attempt():
+                    got = terminal.received(f"fils {typed}", tabs)
+                    # After a lone dot, which is the current folder, the paths in it begin with `./`.
+                    is_same = before == "." and got == ["./" + wanted]
+                    return [wanted] if is_same else got, scratch.marks(folder, [name])
+
+                count.tried(attempt, wanted, typed, [wanted], reason, prefixes)
 
 
 def try_words(terminal, scratch, count):
     terminal.go(scratch.here)
     escaped = {"bash": ESCAPED + ESCAPED_POSIX, "zsh": ESCAPED + ESCAPED_POSIX, "fish": ESCAPED, "elvish": ()}
     for typed, wanted in WORDS + escaped[terminal.name]:
-        got = terminal.received(typed)
-        count.judge(wanted, typed, wanted, got, None, scratch.marks(scratch.here, ()), ([typed.split()[1:]]))
+        count.tried(lambda: (terminal.received(typed), scratch.marks(scratch.here, ())),
+                    wanted, typed, wanted, None, [typed.split()[1:]])
     if terminal.name == "bash":
         # a cursor within a word: what is after it stays
         got = terminal.received("word us", keys="x\x1b[D")
@@ -257,9 +261,8 @@ def try_words(terminal, scratch, count):
 def try_home(terminal, scratch, count):
     write(os.path.join(scratch.home, "notes of it"), "")
     for typed in ("fils ~/no", "fils ~/notes"):
-        got = terminal.received(typed)
-        count.judge("~/notes of it", typed, [scratch.home + "/notes of it"], got, None,
-                    scratch.marks(scratch.here, ()), ())
+        count.tried(lambda: (terminal.received(typed), scratch.marks(scratch.here, ())),
+                    "~/notes of it", typed, [scratch.home + "/notes of it"])
 
 
 TYPED = ("$(touch hit)", "`touch hit`", '"$(touch hit)', "x$(touch hit) ", "'$(touch hit)' ", "$(touch hit",

@@ -217,12 +217,16 @@ def try_setting(terminal, scratch, count, at):
         terminal.ready()
     program = "asks " if setting.before else f"set{at} "
     for typed in setting.typed:
-        changed, got = complete_at(terminal, program, typed, "")
-        marks = scratch.marks(scratch.here, ())
+        must_insert = terminal.name in setting.inserts.split()
+        for _ in range(2):
+            changed, got = complete_at(terminal, program, typed, "")
+            marks = scratch.marks(scratch.here, ())
+            if marks or (got == [setting.value] if changed else not must_insert):
+                break
         what = f"{setting.line or setting.before or 'kept'}: {typed}"
         if changed or marks:
             count.judge(setting.value, what, [setting.value], got, None, marks, ())
-        elif terminal.name in setting.inserts.split():
+        elif must_insert:
             count.say("NEVER INSERTED", setting.value, what, got)
         else:
             count.leave("not inserted", what)

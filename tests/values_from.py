@@ -86,6 +86,12 @@ def logged(scratch):
     return found
 
 
+def received_and_ran(terminal, scratch, typed):
+    """Returns the words that a program receives after a Tab, and what the log has since."""
+    logged(scratch)
+    return terminal.received(typed), logged(scratch)
+
+
 # ---- requests without a shell
 
 class Protocol:
@@ -338,17 +344,17 @@ def try_branches(terminal, scratch, count):
         for quote, before, typed in forms(terminal.name, name):
             # git's commands offer options too if nothing is typed
             words, program = ([name], "pick") if not before else (["switch", name], "git switch")
-            got = terminal.received(f"{program} {typed}")
             reason = left_out(terminal.name, quote, name, before)
             prefixes = (words[:-1], words[:-1] + [before])
-            count.judge(name, typed, words, got, reason, scratch.marks(folder, [".git"]), prefixes)
+            count.tried(lambda: (terminal.received(f"{program} {typed}"), scratch.marks(folder, [".git"])),
+                        name, typed, words, reason, prefixes)
     terminal.go(os.path.join(scratch.path, "repositories", "first"))
     for typed, words in (("git tag v", ["tag", "v1.0-odd'one"]), ("git push up", ["push", "upstream"]),
                          ("git stash pop st", ["stash", "pop", "stash@{0}"]),
                          ("git branch --contains v", ["branch", "--contains", "v1.0-odd'one"]),
                          ("git rebase --onto=v", ["rebase", "--onto=v1.0-odd'one"])):
-        got = terminal.received(typed)
-        count.judge(words[-1], typed, words, got, None, scratch.marks(terminal_folder(scratch), [".git"]), ())
+        count.tried(lambda: (terminal.received(typed), scratch.marks(terminal_folder(scratch), [".git"])),
+                    words[-1], typed, words)
 
 
 def terminal_folder(scratch):
@@ -379,10 +385,9 @@ def try_words(terminal, scratch, count):
     for program, words in (("odd", list(ODD_WORDS)), ("bare", [])):
         for typed in ("", "do", "'", '"d'):
             unlink(received)
-            got = terminal.received(f"{program} {typed}")
-            marks = scratch.marks(scratch.here, ())
-            count.judge("done", typed, ["done"], got, None, marks, ())
-            count.judge(words, f"{program} {typed}", words, read_json(received), None, marks, ())
+            count.tried(lambda: (terminal.received(f"{program} {typed}"), scratch.marks(scratch.here, ())),
+                        "done", typed, ["done"])
+            count.judge(words, f"{program} {typed}", words, read_json(received), None, (), ())
 
 
 def read_json(path):
@@ -397,8 +402,8 @@ def read_json(path):
 def try_many(terminal, scratch, count):
     terminal.go(scratch.here)
     for typed, word in (("value-1", "value-10000"), ("value-0321", None), ("value-0432", None)):
-        got = terminal.received(f"many {typed}" + ("" if word else "1"))
-        count.judge(word or typed + "1", typed, [word or typed + "1"], got, None, scratch.marks(scratch.here, ()), ())
+        count.tried(lambda: (terminal.received(f"many {typed}" + ("" if word else "1")), scratch.marks(scratch.here, ())),
+                    word or typed + "1", typed, [word or typed + "1"])
     took = []
     for _ in range(5):
         line, seconds = terminal.tab("many val")
@@ -454,9 +459,8 @@ def make_ends(scratch):
 def try_ends(terminal, scratch, count):
     terminal.go(scratch.here)
     for name, _, word in ENDS:
-        got = terminal.received(f"ends {name} ")
         words = [name, word] if word else [name]
-        count.judge(word, name, words, got, None, scratch.marks(scratch.here, ()), ())
+        count.tried(lambda: (terminal.received(f"ends {name} "), scratch.marks(scratch.here, ())), word, name, words)
     terminal.tab("ends noisy ")
     count.judge(NOISE, "ends noisy ", False, NOISE.encode() in terminal.seen, None, (), ())
     terminal.clear()
@@ -484,8 +488,8 @@ def try_hanging(terminal, scratch, count, name):
 
 def judge_alive(terminal, scratch, count, what):
     """Checks that the shell completes and runs further lines."""
-    got = terminal.received("alive y")
-    count.judge(f"alive after {what}", "alive y", ["yes"], got, None, scratch.marks(scratch.here, ()), ())
+    count.tried(lambda: (terminal.received("alive y"), scratch.marks(scratch.here, ())),
+                f"alive after {what}", "alive y", ["yes"])
 
 
 def wait_for(is_so, terminal, seconds=LONGEST):
@@ -536,12 +540,9 @@ def try_off(scratch, shell, verbose):
         terminal = started(shell, scratch, registration)
         scratch.environment = before
         terminal.go(scratch.path)
-        logged(scratch)
-        got = terminal.received("offs va")
-        count.judge(what, "offs va", ["value"] if ran else ["va"], got, None, (), ())
-        count.judge(what, "offs va", ran, logged(scratch), None, (), ())
-        got = terminal.received("offs --color=a")
-        count.judge(what, "offs --color=a", ["--color=auto"], got, None, (), ())
+        expected = ["value"] if ran else ["va"]
+        count.tried(lambda: (received_and_ran(terminal, scratch, "offs va"), ()), what, "offs va", (expected, ran))
+        count.tried(lambda: (terminal.received("offs --color=a"), ()), what, "offs --color=a", ["--color=auto"])
         terminal.close()
     return count.end()
 
@@ -557,7 +558,6 @@ def make_order(scratch):
 
 def try_order(terminal, scratch, count):
     terminal.go(scratch.here)
-    logged(scratch)
     for typed, words, ran in (
         ("both --x ", ["--x", "alpha"], "log-alpha"),
         ("both --x=", ["--x=alpha"], "log-alpha"),
@@ -568,10 +568,8 @@ def try_order(terminal, scratch, count):
         ("both --x alpha al", ["--x", "alpha", "alpha"], "log-alpha"),
         ("both --x alpha be", ["--x", "alpha", "be"], "log-alpha"),
     ):
-        got = terminal.received(typed)
-        marks = scratch.marks(scratch.here, ())
-        count.judge(typed, typed, words, got, None, marks, ())
-        count.judge("what ran", typed, [ran], logged(scratch), None, marks, ())
+        count.tried(lambda: (received_and_ran(terminal, scratch, typed), scratch.marks(scratch.here, ())),
+                    typed, typed, (words, [ran]))
 
 
 # ---- files
@@ -605,9 +603,9 @@ def try_files(terminal, scratch, count):
         ("gone", "a", None), ("folder", "a", None), ("device", "a", None), ("pipe", "a", None),
         ("colons", "co", "colon"), ("columns", "", "column"),
     ):
-        got = terminal.received(f"filed {child} {typed}")
         words = [child, word] if word else [child, typed]
-        count.judge(word, f"filed {child} {typed}", words, got, None, scratch.marks(folder, known), ())
+        count.tried(lambda: (terminal.received(f"filed {child} {typed}"), scratch.marks(folder, known)),
+                    word, f"filed {child} {typed}", words)
 
 
 # ---- the examples
@@ -662,8 +660,7 @@ def try_examples(terminal, scratch, count):
         ("docker rm o", ["rm", "old"]), ("docker run --network br", ["run", "--network", "bridge"]),
         ("docker rmi nginx:", ["rmi", "nginx:1.25"]), ("just t", ["test"]), ("just --show l", ["--show", "lint"]),
     ):
-        got = terminal.received(typed)
-        count.judge(words[-1], typed, words, got, None, scratch.marks(folder, ["Makefile"]), ())
+        count.tried(lambda: (terminal.received(typed), scratch.marks(folder, ["Makefile"])), words[-1], typed, words)
 
 
 # ---- hints
@@ -690,9 +687,9 @@ def try_hints(terminal, scratch, count):
         *user_rows(), ("host", "known-o", "known-one"), ("host", "known-p", "known-port"), ("host", "marked", None),
         ("host", "config", "config-one"), ("host", "not-o", None), ("command", "odd-program", "odd-program-of-it"),
     ):
-        got = terminal.received(f"hints {child} {typed}")
         words = [child, word or typed]
-        count.judge(word, f"hints {child} {typed}", words, got, None, scratch.marks(scratch.here, ()), ())
+        count.tried(lambda: (terminal.received(f"hints {child} {typed}"), scratch.marks(scratch.here, ())),
+                    word, f"hints {child} {typed}", words)
 
 
 def user_rows():
