@@ -131,8 +131,8 @@ def without_files(scratch, found):
 def plain(line, value):
     """Returns a value without what the shells add to it."""
     option, equals, _ = line.rpartition(" ")[2].partition("=")
-    if equals:
-        value = value.removeprefix(option + "=")
+    if equals and value.startswith(option + "="):
+        value = value[len(option) + 1:]
     return value.replace("\\", "").rstrip("=/ ")
 
 

@@ -136,7 +136,7 @@ def hostile_command(chosen, depth):
 def read(page):
     """Returns the lines of a page: None for a request without a text of the tree, and texts."""
     lines = []
-    for line in page.removesuffix("\n").split("\n"):
+    for line in re.sub(r"\n\Z", "", page).split("\n"):
         if line[:1] in (".", "'"):
             if not OWN_REQUESTS.fullmatch(line):
                 raise Wrong(f"a request from a text: {line!r}")

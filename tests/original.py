@@ -133,7 +133,7 @@ def crate_path(name):
     """Returns the path of a file in its crate."""
     if not name.endswith(".txt"):
         return name
-    stem = name.removesuffix(".txt").removesuffix(".rs")
+    stem = re.sub(r"(\.rs)?\.txt$", "", name)
     return stem.replace("-", "/") + ".rs"
 
 
@@ -154,7 +154,7 @@ def with_module(file, code):
     indented = "".join(f"    use {path};\n" for path in uses)
     if uses:
         return re.sub(r"^\s*use super::\*;\n", lambda _: indented, code, flags=re.MULTILINE)
-    module = "lagvtsune::" + "::".join(file.removeprefix("src/").removesuffix(".rs").split("/"))
+    module = "lagvtsune::" + "::".join(re.sub(r"^src/|\.rs$", "", file).split("/"))
     return re.sub(r"\bsuper::", module + "::", code)
 
 

@@ -241,7 +241,7 @@ def fish_reply(given, split):
     """Returns the reply to fish over these lines, by the rules of docs/LIVE.md."""
     found = {}
     for line in given.split(b"\n"):
-        line = line.removesuffix(b"\r")
+        line = line[:-1] if line.endswith(b"\r") else line
         if split is None:
             value, _, help_text = line.partition(b"\t")
         else:

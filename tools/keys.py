@@ -117,7 +117,7 @@ def value_of(schema, shape):
 
 
 def definition(schema, shape):
-    return schema[shape["$ref"].removeprefix("#/definitions/")]
+    return schema[shape["$ref"].rpartition("/")[2]]
 
 
 def fields(schema, kind):
