@@ -10,6 +10,8 @@ import collections
 import re
 from typing import Any, Callable, Counter, Iterator, Optional, Sequence, Tuple
 
+from shells import fish_hides_dots
+
 # The reason for a value that a shell leaves out at some Tabs only.
 MAY_LEAVE_OUT = "bash may complete nothing after a `"
 SPECIAL = set("$`\"'\\;&|*?[](){}<>#!~=^% \u00a0‘")
@@ -55,7 +57,7 @@ def left_out_in_zsh(quote: str, value: str, typed: str) -> Optional[str]:
 def left_out_in_fish(value: str, typed: str) -> Optional[str]:
     if value.startswith("~"):
         return "~ in fish"
-    if value.startswith(".") and not typed:
+    if value.startswith(".") and not typed and fish_hides_dots():
         return "fish hides a leading dot"
     if typed == "*" and value != typed:
         return "fish completes nothing after *"

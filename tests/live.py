@@ -9,8 +9,8 @@ tree files: `larder`, a generated one of 200 commands, and `complgen` itself. Wh
 with what `complgen candidates` writes. Last comes a directory of tree files with odd names. None of them is
 registered, and nothing runs.
 
-tests/shells.py runs the shells in a pseudo terminal. If one is not installed, a line says so. fish leaves out names
-that begin with a dot until a dot is typed.
+tests/shells.py runs the shells in a pseudo terminal. If one is not installed, a line says so. fish before version 4
+leaves out names that begin with a dot until a dot is typed.
 
 The script prints a line for each shell, and each line of input for which the two differ. It tries such a line once
 more before. The status is 0 if all agree.
@@ -112,7 +112,7 @@ def replied(scratch: shells.TreeScratch, writer: str, line: str, shell: str) -> 
             tree = os.path.join(common.EXAMPLES, words[0] + ".json")
         found = output(scratch, ["complgen", "candidates", "--index", index, tree, "--", *words])
     values = [row.partition("\t")[0] for row in found]
-    hides = shell == "fish" and not words[-1].startswith(".")
+    hides = shell == "fish" and not words[-1].startswith(".") and shells.fish_hides_dots()
     return sorted(value for value in values if not (hides and value.startswith(".")))
 
 

@@ -23,6 +23,7 @@ The command line has to be empty before `offered`, `inserted` and `received`, an
 from __future__ import annotations
 
 import fcntl
+import functools
 import json
 import os
 import pty
@@ -530,6 +531,13 @@ set edit:rprompt = {{ }}
 
     def offers_of(self, text: str, line: Optional[str]) -> List[str]:
         return read(self.offers).split("\0")[:-1] if os.path.exists(self.offers) else []
+
+
+@functools.lru_cache(maxsize=None)
+def fish_hides_dots() -> bool:
+    """Returns whether the installed fish offers names that begin with a dot only after a dot, as before fish 4."""
+    said = subprocess.run(["fish", "--version"], stdout=subprocess.PIPE, check=True).stdout.decode()
+    return int(re.findall(r"\d+", said)[0]) < 4
 
 
 CLASSES: Dict[str, Type[Shell]] = {it.name: it for it in (Bash, Zsh, Fish, Elvish)}
