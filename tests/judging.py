@@ -34,6 +34,13 @@ def left_out(shell: str, quote: str, value: str, typed: str = "") -> Optional[st
     return None
 
 
+def left_out_at_tabs(shell: str, quote: str, typed: str, values: Sequence[str]) -> Optional[str]:
+    """Returns why one of some Tabs must not insert its value, or `None`. Each value begins with the one before it, and
+    the first one with what was typed."""
+    reasons = (left_out(shell, quote, value, before) for before, value in zip([typed, *values], values))
+    return next((reason for reason in reasons if reason), None)
+
+
 def left_out_in_bash(quote: str, value: str, typed: str) -> Optional[str]:
     if quote == "'" and set("'$`") & set(value):
         return "', $ or ` between '"

@@ -51,7 +51,7 @@ sys.path.append(os.path.join(os.path.dirname(os.path.realpath(__file__)), "..", 
 import common
 import safe_places
 import shells
-from judging import Count, forms, left_out
+from judging import Count, forms, left_out, left_out_at_tabs
 from shells import SHELLS, started, write
 
 PARTS = ("values", "files", "folders", "words", "typed", "random", "places", "settings", "locales", "ten-thousand",
@@ -135,8 +135,8 @@ def try_folders(terminal, scratch, count):
             for tabs, wanted in ((1, value + "/"), (2, value + "/in side")):
                 if tabs == 2 and (value.startswith("-") or value == "~"):
                     continue  # these two words are an option, and the home folder
-                reason = left_out(terminal.name, quote, value + "/", before)
-                prefixes = ([], [before]) if before or quote else ([],)
+                reason = left_out_at_tabs(terminal.name, quote, before, [value + "/", wanted][:tabs])
+                prefixes = ([], [before], [value + "/"]) if before or quote else ([],)
                 count.tried(lambda: (terminal.received(f"fils {typed}", tabs), scratch.marks(folder, [value])),
                             wanted, typed, [wanted], reason, prefixes)
 
@@ -232,7 +232,7 @@ def try_random(terminal, scratch, count):
         terminal.go(folder)
         for quote, before, typed in forms(terminal.name, name):
             for tabs, wanted in ((1, name + "/"), (2, name + "/" + inner), (3, name + "/" + inner)):
-                reason = left_out(terminal.name, quote, wanted, before)
+                reason = left_out_at_tabs(terminal.name, quote, before, [name + "/", wanted][:tabs])
                 prefixes = ([], [before], [name + "/"]) if before or quote else ([], [name + "/"])
 
                 def attempt():

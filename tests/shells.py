@@ -185,6 +185,9 @@ class Shell:
         self.began = time.monotonic()
         self.process, self.terminal = pty.fork()
         if self.process == 0:
+            # As for a user's shell: Python ignores some signals, and so does a script in the background.
+            for number in (signal.SIGINT, signal.SIGQUIT, signal.SIGPIPE, signal.SIGXFSZ):
+                signal.signal(number, signal.SIG_DFL)
             os.chdir(scratch.here)
             os.execvpe(words[0], words, scratch.environment)
         fcntl.ioctl(self.terminal, termios.TIOCSWINSZ, struct.pack("HHHH", 50, 400, 0, 0))
