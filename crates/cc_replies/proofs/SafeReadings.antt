@@ -11,7 +11,7 @@ use Rattle.cc_base.proofs.Members.{AllByRecursion-append, AllByRecursion-weaker}
 use Rattle.cc_candidates.specs.declared.candidate.CompletionCandidate.{CompletionCandidate}
 use Rattle.cc_quote.specs.ZshReply.{is_reply_value_marked, zsh_replied_value}
 use Rattle.cc_replies.specs.Reply.{Shown, colon_help, first_line, line_shown, lines_from, lines_read, shown_line, tab_help, zsh_item}
-use Rattle.cc_replies.specs.SafeReplies.{SafeLinesRead, SafeValuesRead, SafeZshRead, is_fish_insertable, is_tilde_plain, is_zsh_insertable, is_zsh_kept, safe_line, safe_zsh_line, value_line, zsh_item_read, zsh_kept}
+use Rattle.cc_replies.specs.SafeReplies.{SafeLinesRead, SafeValuesRead, SafeZshRead, is_fish_insertable, is_fish_kept, is_zsh_insertable, is_zsh_kept, safe_line, safe_zsh_line, value_line, zsh_item_read, zsh_kept}
 use Rattle.cc_replies.specs.SafeValues.{begins_control, ends_control, is_found, is_safe_text, safe_help, safe_shown}
 use Rattle.cc_replies.proofs.EntryReadings.{tab_help_without}
 use Rattle.cc_replies.proofs.FirstLines.{IsWithout}
@@ -117,7 +117,7 @@ pub lines_read_back : (candidates : List CompletionCandidate) → SafeLinesRead 
 unfolding SafeLinesRead lines_read lines_from
 lines_read_back candidates =
     lines_back (IsWithout line_feed) (lines_from []) refl feed_first line_shown safe_shown (λ candidate. is_fish_insertable candidate.value) safe_line
-    (λ candidate e. listed_line candidate (and_parts (is_safe_text candidate.value) (is_tilde_plain candidate.value) e).0)
+    (λ candidate e. listed_line candidate (and_parts (is_safe_text candidate.value) (is_fish_kept candidate.value) e).0)
     candidates
 
 -- ---- zsh

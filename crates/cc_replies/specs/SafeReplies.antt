@@ -37,8 +37,33 @@ abbrev pub is_tilde_plain : List ℕ → Bool
 is_tilde_plain [] = true
 is_tilde_plain (byte ∷ rest) = not (byte == 126) || begins_slash rest
 
+-- the last byte of U+2000 to U+200A, U+2028, U+2029 and U+202F, which begin with 226 and 128
+abbrev pub ends_blank : ℕ → Bool
+ends_blank byte = is_in_range 128 138 byte || is_in_range 168 169 byte || byte == 175
+
+-- these bytes are U+1680, one of those characters, U+205F or U+3000
+abbrev pub is_wide_blank : ℕ → ℕ → ℕ → Bool
+is_wide_blank first second third =
+    first == 225 && second == 154 && third == 128
+    || first == 226 && second == 128 && ends_blank third
+    || first == 226 && second == 129 && third == 159
+    || first == 227 && second == 128 && third == 128
+
+-- The value begins with a blank that is not ASCII: U+00A0, which is 194 and 160 in UTF-8, or one of
+-- those. fish does not quote it, and drops it at the beginning of a word.
+abbrev pub begins_blank : List ℕ → Bool
+begins_blank [] = false
+begins_blank (first ∷ []) = false
+begins_blank (first ∷ second ∷ []) = first == 194 && second == 160
+begins_blank (first ∷ second ∷ third ∷ rest) =
+    first == 194 && second == 160 || is_wide_blank first second third
+
+-- fish inserts the value as it is
+abbrev pub is_fish_kept : List ℕ → Bool
+is_fish_kept value = is_tilde_plain value && not (begins_blank value)
+
 abbrev pub is_fish_insertable : List ℕ → Bool
-is_fish_insertable value = is_safe_text value && is_tilde_plain value
+is_fish_insertable value = is_safe_text value && is_fish_kept value
 
 abbrev pub safe_line : CompletionCandidate → List ℕ
 safe_line candidate = shown_line (safe_shown candidate)

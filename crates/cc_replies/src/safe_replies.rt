@@ -3,7 +3,8 @@
 ghost use Rattle.std.specs.Prelude.{◌≡◌, ◌<◌, ◌+◌, IfErr, drop, length, slice_index};
 ghost use Rattle.cc_base.specs.Writes.{IsWrite, Writes, as_write};
 ghost use Rattle.cc_replies.specs.SafeReplies.{SafeLinesRead, SafeValuesRead, SafeZshRead};
-ghost use Rattle.cc_replies.specs.SafeReplies.{begins_raw, is_tilde_plain};
+ghost use Rattle.cc_replies.specs.SafeReplies.{begins_blank, begins_raw, is_fish_kept};
+ghost use Rattle.cc_replies.specs.SafeReplies.{ends_blank, is_tilde_plain};
 ghost use Rattle.cc_replies.specs.SafeReplies.{safe_line, safe_lines_reply, safe_values_reply};
 ghost use Rattle.cc_replies.specs.SafeReplies.{safe_zsh_reply};
 ghost use Rattle.cc_replies.specs.SafeValues.{is_found};
@@ -38,8 +39,8 @@ pub fn write_safe_values<W: Sink>(
 /// Writes the reply to fish: a line for each value, with the first line of its help text after a
 /// tab.
 ///
-/// Leaves out a value that is empty, has a control character, or begins with `~` but not with `~/`.
-/// Leaves out the first line of a help text if it is empty or has a control character.
+/// Leaves out a value that is empty, has a control character, begins with `~` but not with `~/`, or
+/// begins with a blank that is not ASCII. Leaves out the first line of a help text if it is empty or has a control character.
 ///
 /// # Errors
 ///
@@ -119,7 +120,7 @@ impl ReplyLines for SafeLines {
     ghost line = { λ _. safe_line };
 
     fn can_insert(&self, value: &str) -> bool {
-        is_safe_text(value) && is_tilde_plain(value.as_bytes())
+        is_safe_text(value) && is_fish_kept(value.as_bytes())
     }
 
     fn put_line<W: Sink>(
@@ -129,6 +130,13 @@ impl ReplyLines for SafeLines {
     ) -> Result<(), ErrorKind> {
         put_safe_line(sink, candidate)
     }
+}
+
+// Returns whether fish inserts the value as it is.
+fn is_fish_kept(value: &[u8]) -> bool
+    ensures { result ≡ is_fish_kept value.now }
+{
+    is_tilde_plain(value) && !begins_blank(value)
 }
 
 // Returns whether the value begins with no `~`, or with `~/`. fish reads `~name` as the home
@@ -141,6 +149,26 @@ fn is_tilde_plain(value: &[u8]) -> bool
         [b'~', ..] => false,
         _ => true,
     }
+}
+
+// Returns whether the value begins with a blank that is not ASCII. fish does not quote such a blank,
+// and drops it at the beginning of a word.
+fn begins_blank(value: &[u8]) -> bool
+    ensures { result ≡ begins_blank value.now }
+{
+    match value {
+        [0xC2, 0xA0, ..] => true,
+        [0xE1, 0x9A, 0x80, ..] | [0xE2, 0x81, 0x9F, ..] | [0xE3, 0x80, 0x80, ..] => true,
+        [0xE2, 0x80, last, ..] => ends_blank(*last),
+        _ => false,
+    }
+}
+
+// Returns whether the byte ends one of U+2000 to U+200A, U+2028, U+2029 and U+202F.
+fn ends_blank(last: u8) -> bool
+    ensures { result ≡ ends_blank last }
+{
+    matches!(last, 0x80..=0x8A | 0xA8..=0xA9 | 0xAF)
 }
 
 pub(crate) fn put_safe_line<W: Sink>(
