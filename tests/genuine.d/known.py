@@ -91,10 +91,11 @@ def bash_labels(case: Case, ours: str, theirs: str) -> Both:
 
 
 def unescaped_names(case: Case, ours: str, theirs: str) -> Both:
-    """14: a name in the place of a missing help text is not escaped."""
+    """14: a name in the place of a missing help text, at the end of a row, is not escaped."""
     for name in {name for node in nodes(case.built) for name in shown_names(node) if "'" in name}:
         escaped = name.replace("'", "''")
-        theirs = theirs.replace(f" '{name}'\n", f" '{escaped}'\n").replace(f", '{name}')", f", '{escaped}')")
+        theirs = re.sub(rf"(?m)^( +cand .*) '{re.escape(name)}'$", lambda row: f"{row[1]} '{escaped}'", theirs)
+        theirs = theirs.replace(f", '{name}')", f", '{escaped}')")
     return ours, theirs
 
 
