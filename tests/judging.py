@@ -14,7 +14,7 @@ from shells import fish_hides_dots
 
 # The reason for a value that a shell leaves out at some Tabs only.
 MAY_LEAVE_OUT = "bash may complete nothing after a `"
-SPECIAL = set("$`\"'\\;&|*?[](){}<>#!~=^% \u00a0‘")
+SPECIAL = set("$`\"'\\;&|*?[](){}<>#!~=^% \u00a0\u2003\u3000‘")
 
 
 def has_control(text: str) -> bool:
@@ -64,6 +64,8 @@ def left_out_in_zsh(quote: str, value: str, typed: str) -> Optional[str]:
 def left_out_in_fish(value: str, typed: str) -> Optional[str]:
     if value.startswith("~"):
         return "~ in fish"
+    if value[:1].isspace() and not value[:1].isascii():
+        return "a blank of Unicode in fish"
     if value.startswith(".") and not typed and fish_hides_dots():
         return "fish hides a leading dot"
     if typed == "*" and value != typed:

@@ -68,6 +68,7 @@ VALUES = (
     "--", "back\\slash", "back\\\\two", "end\\", "\\", "path/to/it", "dir/", "ümlaut–漢", "a\u00a0b", "‘curly’",
     "e\u0301", "tab\there", "\ttab", "line\nfeed", "line\ntouch hit\n", "esc\x1b[2Jape", "bell\x07", "del\x7f",
     "c1\x9b2J", "x\ue03btouch hit", "\ue060touch hit\ue060", "x\uf63btouch hit", "a\u200bb",
+    "\u00a0blank", "\u2003blank", "\u3000blank", "x\u3000blank",
 )
 Driver = collections.namedtuple("Driver", "scratch shell registration setup")
 
