@@ -1,9 +1,9 @@
 /*
  * lagvtsune.h - shell completions for a command that a tree file describes.
  *
- * The library has two functions: one makes scripts, the other one answers live requests of shells.
- * They are those of the crate complgen_c of the Lagvtsune project. The comment of each function is
- * that of its source, with its contract. The contract is proved for all arguments that meet the rules
+ * The library has three functions: they make scripts, make registrations, and answer live requests of
+ * shells. They are those of the crate complgen_c of the Lagvtsune project. The comment of each function
+ * is that of its source, with its contract. The contract is proved for all arguments that meet the rules
  * below. Nothing checks that your program meets these rules.
  *
  * release/declarations.py compares the comments, the contracts and the declarations with the source.
@@ -24,9 +24,9 @@ extern "C" {
 /*
  * Your program must meet these rules at each call:
  *
- * - Each pointer points to as many bytes, or elements, as the length that follows it says. They do not
- *   change until the function returns. No pointer is null, even if its length is 0. A length is at
- *   most PTRDIFF_MAX.
+ * - Each pointer points to as many bytes, or elements, as the length that follows it says. One to
+ *   `lagvtsune_names` points to one record. They do not change until the function returns. No pointer is
+ *   null, even if its length is 0. A length is at most PTRDIFF_MAX.
  * - `room` and `status` overlap neither each other nor another argument. They are memory that was
  *   written before, with any contents.
  * - The processor has the instructions of x86-64-v2. The library does not check that.
@@ -50,6 +50,14 @@ typedef struct lagvtsune_bytes {
     const uint8_t *start;
     size_t length;
 } lagvtsune_bytes;
+
+/* The names in a registration. */
+typedef struct lagvtsune_names {
+    lagvtsune_bytes variable;  /* the variable that requests completions from the completer */
+    lagvtsune_bytes name;      /* the name of the command, which is part of the names of functions */
+    lagvtsune_bytes bin;       /* the program whose words are completed */
+    lagvtsune_bytes completer; /* the program that the shell runs at a Tab */
+} lagvtsune_names;
 
 /* The values of `*status`. */
 enum {
@@ -82,6 +90,40 @@ size_t lagvtsune_script(const uint8_t *shell, size_t shell_length,
                         const uint8_t *tree, size_t tree_length,
                         uint8_t *room, size_t room_length,
                         uint8_t *status);
+
+/*
+ * Makes the registration for the shell with the name `shell`: the text by which that shell runs the
+ * completer at a Tab. If `safe` is true, it is the one of the safe set, which evaluates no name, no
+ * value and no typed word. Otherwise it is the original's. Returns the length of the text, and
+ * copies the text to the start of `room` if it fits there. Otherwise `room` stays unchanged, and
+ * you can call again with more room. You may pass any bytes.
+ *
+ * `names` has the names in the text:
+ *
+ * - `variable` requests completions, by the name of the shell as its value. `COMPLETE` is usual.
+ * - `name` is the name of the command, which is part of the names of functions.
+ * - `bin` is the program whose words are completed.
+ * - `completer` is the program that the shell runs: a name that is looked up in `PATH`, or a path.
+ *
+ * The safe set quotes `bin` and `completer`, and writes the other two with `_` for each byte that
+ * is not an ASCII letter, a digit or `_`. The original's set writes `variable` and `name` without
+ * quotes, and in bash also `bin`. So pass only plain names there.
+ *
+ * The `status` is:
+ *
+ * - 0: the text is the registration.
+ * - 1: the text is a message, which ends in a line feed.
+ * - 2: `shell` or one of the names is not UTF-8, and there is no text.
+ *
+ * Proved (`crates/complgen_c/src/registrations.rt`):
+ *
+ *     EndsAs (MakesRegistration safe shell.now (passed_names names.now)) room.old room.new
+ *     status.new result
+ */
+size_t lagvtsune_registration(bool safe, const uint8_t *shell, size_t shell_length,
+                              const lagvtsune_names *names,
+                              uint8_t *room, size_t room_length,
+                              uint8_t *status);
 
 /*
  * Answers the request of a shell to the program that the tree file `tree` describes: with the

@@ -1,7 +1,8 @@
 """Shell completions for Python programs, by the shared library liblagvtsune.so.0.
 
 `complete` answers a completion request of a shell, and `script` makes a script. Both take a tree file,
-as text or bytes. The library is looked up as the system does it, or the variable LAGVTSUNE_SO names it.
+as text or bytes. `registration` makes a registration, which needs no tree. The library is looked up as
+the system does it, or the variable LAGVTSUNE_SO names it.
 
 SPDX-License-Identifier: MIT OR Apache-2.0
 """
@@ -32,14 +33,21 @@ class Bytes(ctypes.Structure):
     _fields_ = [("start", ctypes.c_char_p), ("length", ctypes.c_size_t)]
 
 
+class Names(ctypes.Structure):
+    """The names in a registration."""
+
+    _fields_ = [(name, Bytes) for name in ("variable", "name", "bin", "completer")]
+
+
 SLICE = [ctypes.c_char_p, ctypes.c_size_t]
 SLICES = [ctypes.POINTER(Bytes), ctypes.c_size_t]
 ROOM = [ctypes.c_char_p, ctypes.c_size_t, ctypes.POINTER(ctypes.c_uint8)]
 
 library = ctypes.CDLL(os.environ.get("LAGVTSUNE_SO", "liblagvtsune.so.0"))
 library.lagvtsune_script.argtypes = SLICE * 3 + ROOM
+library.lagvtsune_registration.argtypes = [ctypes.c_bool, *SLICE, ctypes.POINTER(Names), *ROOM]
 library.lagvtsune_live.argtypes = SLICE + SLICES * 2 + SLICE * 2 + SLICES * 3 + ROOM
-for function in (library.lagvtsune_script, library.lagvtsune_live):
+for function in (library.lagvtsune_script, library.lagvtsune_registration, library.lagvtsune_live):
     function.restype = ctypes.c_size_t
 
 
@@ -49,11 +57,19 @@ class Failed(Exception):
 
 def script(shell, bin_name, tree):
     """Returns the script for a shell as text, of the command in a tree file. Raises `Failed`."""
-    arguments = [*_slice(shell), *_slice(bin_name), *_slice(tree)]
-    status, text = _call(library.lagvtsune_script, arguments)
-    if status != MADE:
-        raise _failure(status, text)
-    return text.decode()
+    return _made(library.lagvtsune_script, [*_slice(shell), *_slice(bin_name), *_slice(tree)])
+
+
+def registration(shell, bin_name, completer, variable="COMPLETE", name=None, safe=True):
+    """Returns the registration for a shell as text. Raises `Failed`.
+
+    It makes the shell run `completer` at a Tab in the words of the program `bin_name`, with `variable` set.
+    `name` is part of the names of functions, and is `bin_name` if you leave it out. If `safe` is false, it is
+    the registration of the original, whose names have to be plain.
+    """
+    texts = [_slice(text) for text in (variable, name or bin_name, bin_name, completer)]
+    names = Names(*(Bytes(*text) for text in texts))
+    return _made(library.lagvtsune_registration, [safe, *_slice(shell), ctypes.byref(names)])
 
 
 def answer(tree, words, variables, current_dir=None, output=b""):
@@ -112,6 +128,14 @@ def _output():
     with open(0, "rb", closefd=False) as stdin:
         output = stdin.read(MOST_OUTPUT + 1)
     return output if len(output) <= MOST_OUTPUT else output[: output.rfind(b"\n", 0, MOST_OUTPUT) + 1]
+
+
+def _made(called, arguments):
+    """Returns the text of a call. Raises `Failed`."""
+    status, text = _call(called, arguments)
+    if status != MADE:
+        raise _failure(status, text)
+    return text.decode()
 
 
 def _failure(status, text):

@@ -1,4 +1,4 @@
-/* The library's two functions for C programs on a POSIX system. SPDX-License-Identifier: MIT OR Apache-2.0 */
+/* Scripts and live requests for C programs on a POSIX system. SPDX-License-Identifier: MIT OR Apache-2.0 */
 #define _POSIX_C_SOURCE 200809L
 #include "lagvtsune_posix.h"
 #include <dirent.h>

@@ -39,6 +39,47 @@ extern "C" {
         status: *mut u8,
     ) -> usize;
 
+    /// Makes the registration for the shell with the name `shell`: the text by which that shell
+    /// runs the completer at a Tab. If `safe` is true, it is the one of the safe set, which
+    /// evaluates no name, no value and no typed word. Otherwise it is the original's. Returns the
+    /// length of the text, and copies the text to the start of `room` if it fits there. Otherwise
+    /// `room` stays unchanged, and you can call again with more room. You may pass any bytes.
+    ///
+    /// `names` has the names in the text:
+    ///
+    /// - `variable` requests completions, by the name of the shell as its value. `COMPLETE` is
+    ///   usual.
+    /// - `name` is the name of the command, which is part of the names of functions.
+    /// - `bin` is the program whose words are completed.
+    /// - `completer` is the program that the shell runs: a name that is looked up in `PATH`, or a
+    ///   path.
+    ///
+    /// The safe set quotes `bin` and `completer`, and writes the other two with `_` for each byte
+    /// that is not an ASCII letter, a digit or `_`. The original's set writes `variable` and `name`
+    /// without quotes, and in bash also `bin`. So pass only plain names there.
+    ///
+    /// The `status` is:
+    ///
+    /// - 0: the text is the registration.
+    /// - 1: the text is a message, which ends in a line feed.
+    /// - 2: `shell` or one of the names is not UTF-8, and there is no text.
+    ///
+    /// Proved (`crates/complgen_c/src/registrations.rt`):
+    ///
+    /// ```text
+    /// EndsAs (MakesRegistration safe shell.now (passed_names names.now)) room.old room.new
+    /// status.new result
+    /// ```
+    fn lagvtsune_registration(
+        safe: bool,
+        shell: *const u8,
+        shell_length: usize,
+        names: *const Names<'_>,
+        room: *mut u8,
+        room_length: usize,
+        status: *mut u8,
+    ) -> usize;
+
     /// Answers the request of a shell to the program that the tree file `tree` describes: with the
     /// registration, with the candidates, or with a command that lists values. Returns the length
     /// of the text, and copies the text to the start of `room` if it fits there. Otherwise `room`
@@ -120,6 +161,32 @@ impl<'b> From<&'b [u8]> for Bytes<'b> {
     }
 }
 
+/// The names in a registration, as C represents them.
+#[repr(C)]
+pub(crate) struct Names<'n> {
+    /// The variable that requests completions from the completer.
+    pub(crate) variable: Bytes<'n>,
+    /// The name of the command, which is part of the names of functions.
+    pub(crate) name: Bytes<'n>,
+    /// The program whose words are completed.
+    pub(crate) bin: Bytes<'n>,
+    /// The program that the shell runs at a Tab.
+    pub(crate) completer: Bytes<'n>,
+}
+
+impl<'n> Names<'n> {
+    pub(crate) fn of(
+        variable: &'n str,
+        name: &'n str,
+        bin: &'n str,
+        completer: &'n str,
+    ) -> Names<'n> {
+        let [variable, name, bin, completer] =
+            [variable, name, bin, completer].map(|text| text.as_bytes().into());
+        Names { variable, name, bin, completer }
+    }
+}
+
 /// The result of a function of the library.
 pub(crate) struct Returned {
     /// The end of the call: 0 with the text, 1 with an error message instead, 2 with neither,
@@ -156,6 +223,40 @@ pub(crate) fn script_in(
             bin.len(),
             tree.as_ptr(),
             tree.len(),
+            room.as_mut_ptr().cast(),
+            room.len(),
+            &raw mut status,
+        )
+    });
+    Returned { status, length }
+}
+
+/// Returns the registration for the shell `shell`, of the safe set or the original's, and its status.
+/// All bytes are allowed. The first room has `first` bytes.
+pub(crate) fn registration(
+    safe: bool,
+    shell: &[u8],
+    names: &Names<'_>,
+    first: usize,
+) -> (u8, Vec<u8>) {
+    with_room(first, |room| registration_in(safe, shell, names, room))
+}
+
+/// Writes such a registration to `room`. Allocates only the memory that the library requests.
+pub(crate) fn registration_in(
+    safe: bool,
+    shell: &[u8],
+    names: &Names<'_>,
+    room: &mut [MaybeUninit<u8>],
+) -> Returned {
+    let mut status = u8::MAX;
+    // SAFETY: as in `script_in`. Each `Bytes` in the names borrows its slice.
+    let length = memory::for_call(|| unsafe {
+        lagvtsune_registration(
+            safe,
+            shell.as_ptr(),
+            shell.len(),
+            names,
             room.as_mut_ptr().cast(),
             room.len(),
             &raw mut status,
