@@ -11,7 +11,7 @@ mod scripts;
 #[cfg(test)]
 mod tests;
 
-pub use crate::live::lagvtsune_live;
+pub use crate::live::{PassedRequest, lagvtsune_live};
 pub use crate::outcome::Outcome;
 pub use crate::registrations::{PassedNames, lagvtsune_registration};
 pub use crate::scripts::lagvtsune_script;

@@ -1,6 +1,6 @@
 //! A request of each status, from its bytes to the room, and a registration of each set.
 
-use crate::{PassedNames, lagvtsune_live, lagvtsune_registration};
+use crate::{PassedNames, PassedRequest, lagvtsune_live, lagvtsune_registration};
 use std::process::Abort;
 use std::test::Fail;
 
@@ -34,19 +34,17 @@ fn asked(
     ];
     let mut room = [0; 96];
     let mut status = u8::MAX;
-    let length = lagvtsune_live(
-        rt.alloc(),
-        TREE,
-        &words,
-        &variables,
-        &[],
+    let request = PassedRequest {
+        tree: TREE,
+        words: &words,
+        variables: &variables,
+        output: &[],
         listed,
         names,
         folders,
-        &[],
-        &mut room,
-        &mut status,
-    );
+        files: &[],
+    };
+    let length = lagvtsune_live(rt.alloc(), &request, &mut room, &mut status);
     (length, status, room)
 }
 
@@ -114,19 +112,17 @@ fn valued(
     ];
     let mut room = [0; 96];
     let mut status = u8::MAX;
-    let length = lagvtsune_live(
-        rt.alloc(),
-        COMMANDS,
-        &words,
-        &variables,
+    let request = PassedRequest {
+        tree: COMMANDS,
+        words: &words,
+        variables: &variables,
         output,
-        b"",
-        &[],
-        &[],
-        &[],
-        &mut room,
-        &mut status,
-    );
+        listed: b"",
+        names: &[],
+        folders: &[],
+        files: &[],
+    };
+    let length = lagvtsune_live(rt.alloc(), &request, &mut room, &mut status);
     (length, status, room)
 }
 
