@@ -7,10 +7,8 @@
 The source is crates/complgen_c/src. Each function that it exports must be declared in
 release/library/lagvtsune.h and in rust/lagvtsune/src/native.rs with these parameters, and neither file may
 declare another function. Its comment there must be the doc comment of the source, and the clause of its
-contract. A function must have one clause, and no precondition.
-
-It also compares the registrations of the original in rust/lagvtsune/src/env/registrations.rs with those in
-docs/TEXTS.md.
+contract. A function must have one clause, and no precondition. A record that a function takes must have the
+same fields there, in the same order.
 
 Prints a line for each difference. The status is 0 if there is none.
 """
@@ -24,21 +22,27 @@ TOP = pathlib.Path(__file__).resolve().parent.parent
 SOURCES = TOP / "crates/complgen_c/src"
 HEADER = TOP / "release/library/lagvtsune.h"
 NATIVE = TOP / "rust/lagvtsune/src/native.rs"
-REGISTRATIONS = TOP / "rust/lagvtsune/src/env/registrations.rs"
-TEXTS = TOP / "docs/TEXTS.md"
 
 # The declarations of a parameter and a result of each type.
 C = {
-    "&[u8]": "const uint8_t *{0}, size_t {0}_length", "&[&[u8]]": "const lagvtsune_bytes *{0}, size_t {0}_length",
-    "&mut [u8]": "uint8_t *{0}, size_t {0}_length", "&mut u8": "uint8_t *{0}", "Global": "", "usize": "size_t",
+    "&[u8]": "const uint8_t *{0}, size_t {0}_length", "&mut [u8]": "uint8_t *{0}, size_t {0}_length",
+    "&mut u8": "uint8_t *{0}", "Global": "", "usize": "size_t", "bool": "bool {0}",
+    "&PassedNames<'_>": "const lagvtsune_names *{0}", "&PassedRequest<'_>": "const lagvtsune_request *{0}",
 }
 RUST = {
-    "&[u8]": "{0}: *const u8, {0}_length: usize", "&[&[u8]]": "{0}: *const Bytes<'_>, {0}_length: usize",
-    "&mut [u8]": "{0}: *mut u8, {0}_length: usize", "&mut u8": "{0}: *mut u8", "Global": "", "usize": "usize",
+    "&[u8]": "{0}: *const u8, {0}_length: usize", "&mut [u8]": "{0}: *mut u8, {0}_length: usize",
+    "&mut u8": "{0}: *mut u8", "Global": "", "usize": "usize", "bool": "{0}: bool",
+    "&PassedNames<'_>": "{0}: *const Names<'_>", "&PassedRequest<'_>": "{0}: *const PassedRequest<'_>",
+}
+# The names of a record in the header and in native.rs, and the declarations of its fields.
+RECORDS = {"PassedNames": ("lagvtsune_names", "Names"), "PassedRequest": ("lagvtsune_request", "PassedRequest")}
+FIELDS = {
+    "&[u8]": ("lagvtsune_bytes {};", "{}: Bytes<'_>,"), "&[&[u8]]": ("lagvtsune_list {};", "{}: List<'_>,"),
 }
 EXPORT = re.compile(
-    r'((?:^///.*\n)+)#\[unsafe\(no_mangle\)\]\npub extern "C" fn (\w+)\(([^)]*)\) -> (\w+)\n(.*?)^\{', re.MULTILINE | re.DOTALL,
+    r'((?:^///[^\n]*\n)+)#\[unsafe\(no_mangle\)\]\npub extern "C" fn (\w+)\(([^)]*)\) -> (\w+)\n(.*?)^\{', re.MULTILINE | re.DOTALL,
 )
+RECORD = re.compile(r"#\[repr\(C\)\]\n(?:#[^\n]*\n)*pub struct (\w+)<'\w+> \{\n(.*?)^\}", re.MULTILINE | re.DOTALL)
 
 
 class Export:
@@ -88,10 +92,15 @@ def flat(text):
     return " ".join(text.split())
 
 
+def found_in_source(pattern):
+    """Returns what a pattern finds in the files of the source, each with its file."""
+    paths = sorted(SOURCES.glob("*.rt"))
+    return [(path, found) for path in paths for found in pattern.findall(path.read_text(encoding="utf-8"))]
+
+
 def exports():
     """Returns the functions that the source exports."""
-    paths = sorted(SOURCES.glob("*.rt"))
-    return [Export(path, found) for path in paths for found in EXPORT.findall(path.read_text(encoding="utf-8"))]
+    return [Export(path, found) for path, found in found_in_source(EXPORT)]
 
 
 def with_comments(header, native, found):
@@ -123,21 +132,27 @@ def faults(header, native, found):
     return lines
 
 
-def registration_faults():
-    """Returns the registrations in Rust that are not those of the document, in its order."""
-    section = TEXTS.read_text(encoding="utf-8").split("\n## Registrations\n")[1].split("\n## ")[0]
-    stated = re.findall(r"^```\n(.*?\n)```$", section, re.MULTILINE | re.DOTALL)
-    texts = re.findall(r"const (\w+): &\[Piece\] = &\[(.*?)^\];", REGISTRATIONS.read_text(encoding="utf-8"), re.MULTILINE | re.DOTALL)
-    if len(stated) != len(texts):
-        return [f"{TEXTS.name} has {len(stated)} registrations, {REGISTRATIONS.name} {len(texts)}"]
-    pairs = zip(texts, stated)
-    return [f"{REGISTRATIONS.name}: {name} is not the text in {TEXTS.name}" for (name, pieces), text in pairs if written(pieces) != text]
+def record_faults(header, native):
+    """Returns the records that the header or native.rs declares with other fields."""
+    lines = []
+    for _, (name, body) in found_in_source(RECORD):
+        fields = [(field, without_lifetimes(kind)) for field, kind in re.findall(r"^    pub (\w+): (.*),$", body, re.MULTILINE)]
+        for place, (file, text) in enumerate(((HEADER, header), (NATIVE, native))):
+            expected = " ".join(FIELDS[kind][place].format(field) for field, kind in fields)
+            if declared_fields(text, RECORDS[name][place]) != expected:
+                lines.append(f"{file.name} does not declare {RECORDS[name][place]} with the fields: {expected}")
+    return lines
 
 
-def written(pieces):
-    """Returns the text of a registration in Rust, as the document has it."""
-    found = re.findall(r'Text\(\s*(?:r#"(.*?)"#|"([^"\\]*)"),?\s*\)|\b(Var|Name|Bin|Completer)\b,', pieces, re.DOTALL)
-    return "".join(f"«{name.lower()}»" if name else raw or plain for raw, plain, name in found)
+def without_lifetimes(kind):
+    return re.sub(r"&'\w+ ", "&", kind)
+
+
+def declared_fields(text, name):
+    """Returns the fields of a record in the header or in native.rs, without comments."""
+    found = re.search(rf"\bstruct {name}\b[^{{]*\{{(.*?)^\}}", text, re.MULTILINE | re.DOTALL)
+    fields = re.sub(r"/\*.*?\*/|//[^\n]*|\bpub\(crate\) ", "", found[1] if found else "", flags=re.DOTALL)
+    return flat(re.sub(r"<'\w+>", "<'_>", fields))
 
 
 def main():
@@ -149,7 +164,7 @@ def main():
         header, native = with_comments(header, native, found)
         HEADER.write_text(header, encoding="utf-8")
         NATIVE.write_text(native, encoding="utf-8")
-    wrong = faults(header, native, found) + registration_faults()
+    wrong = faults(header, native, found) + record_faults(header, native)
     print("\n".join(wrong) or f"{len(found)} functions: the same in the source, the header and native.rs")
     return 1 if wrong else 0
 

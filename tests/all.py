@@ -82,6 +82,7 @@ def listed() -> List[Test]:
         ("tests/first-minutes", "the rest needs rt, and compiles complgen several times"),
         ("tests/compare.py", "needs another build of complgen"),
         ("tests/from_clap.py", "needs cargo and clap 4"),
+        ("tests/registrations.py", "needs the archive and cc"),
         ("tests/rust.py", "needs rt, cargo and clap 4"),
         ("tests/original.py", "needs the archive, cargo, clap 4 and the sources of clap_complete"),
         ("tests/genuine.py", "needs cargo, and debootstrap once"),

@@ -421,7 +421,8 @@ def library(files):
     root = files.unpacked("liblagvtsune-VERSION-x86_64-linux.tar.xz")
     exported = run(["nm", "-D", "--defined-only", "--format=just-symbols", f"{root}/lib/liblagvtsune.so"]).split()
     exported = [name for name in exported if not name.startswith("LAGVTSUNE")]
-    check([name.split("@")[0] for name in exported] == ["lagvtsune_live", "lagvtsune_script"], f"exported: {exported}")
+    names = ["lagvtsune_live", "lagvtsune_registration", "lagvtsune_script"]
+    check([name.split("@")[0] for name in exported] == names, f"exported: {exported}")
     used = run(["nm", "-u", "--format=just-symbols", f"{root}/lib/liblagvtsune.a"]).split()
     used = {name for name in used if not name.endswith(":")} - USED
     check(not used, f"liblagvtsune.a uses {sorted(used)}")
@@ -439,11 +440,12 @@ def library(files):
     numbers = own_memory(files, root, quiet)
     python = run_pack(root, ["--completions", "fish"], {})
     check("-l level" in python, "pack writes no script")
+    check(" --command pack\n" in run_pack(root, ["--register", "fish"], {}), "pack writes no registration")
     reply = run_pack(root, ["--", "pack", "add", "--level", ""], {"COMPLETE": "fish", "_COMPLGEN_VALUES": "ask"})
     check("fast" in reply and "best" in reply, f"pack replies {reply!r}")
     pack = [sys.executable, f"{root}/share/lagvtsune/examples/python/pack", "--", "pack", "add", "--owner", ""]
     values(pack, {"PATH": SYSTEM, **python_environment(root), "COMPLETE": "fish"})
-    return f"two exports, both C examples under valgrind, {numbers} refused allocations, Python"
+    return f"three exports, both C examples under valgrind, {numbers} refused allocations, Python"
 
 
 def values(command, environment, quiet=()):

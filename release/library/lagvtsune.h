@@ -1,9 +1,9 @@
 /*
  * lagvtsune.h - shell completions for a command that a tree file describes.
  *
- * The library has two functions: one makes scripts, the other one answers live requests of shells.
- * They are those of the crate complgen_c of the Lagvtsune project. The comment of each function is
- * that of its source, with its contract. The contract is proved for all arguments that meet the rules
+ * The library has three functions: they make scripts, make registrations, and answer live requests of
+ * shells. They are those of the crate complgen_c of the Lagvtsune project. The comment of each function
+ * is that of its source, with its contract. The contract is proved for all arguments that meet the rules
  * below. Nothing checks that your program meets these rules.
  *
  * release/declarations.py compares the comments, the contracts and the declarations with the source.
@@ -24,9 +24,9 @@ extern "C" {
 /*
  * Your program must meet these rules at each call:
  *
- * - Each pointer points to as many bytes, or elements, as the length that follows it says. They do not
- *   change until the function returns. No pointer is null, even if its length is 0. A length is at
- *   most PTRDIFF_MAX.
+ * - Each pointer points to as many bytes, or elements, as the length that follows it says. `names` and
+ *   `request` point to one record each. They do not change until the function returns. No pointer is
+ *   null, even if its length is 0. A length is at most PTRDIFF_MAX.
  * - `room` and `status` overlap neither each other nor another argument. They are memory that was
  *   written before, with any contents.
  * - The processor has the instructions of x86-64-v2. The library does not check that.
@@ -38,18 +38,44 @@ extern "C" {
  * the first `result` bytes of `room` if they fit there, and nothing else. It returns if the stack
  * suffices: each level of subcommands takes some of it.
  *
- * How to read a contract: `tree.now` is the bytes at `tree`, `room.old` and `room.new` are the bytes in
- * the room before and after the call, and `result` is what the function returns. `EndsAs` states that
- * an outcome exists that fits the arguments, and that the status, the length and the room are those of
- * this outcome. A text that is longer than the room leaves the room unchanged. The definitions are in
- * crates/complgen_c/specs.
+ * How to read a contract: `tree.now` is the bytes at `tree`, `request.now` is the record at `request`,
+ * `room.old` and `room.new` are the bytes in the room before and after the call, and `result` is what the
+ * function returns. `EndsAs` states that an outcome exists that fits the arguments, and that the status,
+ * the length and the room are those of this outcome. A text that is longer than the room leaves the room
+ * unchanged. The definitions are in crates/complgen_c/specs.
  */
 
-/* A slice in a list of slices. */
+/* A slice of bytes. */
 typedef struct lagvtsune_bytes {
     const uint8_t *start;
     size_t length;
 } lagvtsune_bytes;
+
+/* A list of such slices. */
+typedef struct lagvtsune_list {
+    const lagvtsune_bytes *start;
+    size_t length;
+} lagvtsune_list;
+
+/* The names in a registration. */
+typedef struct lagvtsune_names {
+    lagvtsune_bytes variable;  /* the variable that requests completions from the completer */
+    lagvtsune_bytes name;      /* the name of the command, which is part of the names of functions */
+    lagvtsune_bytes bin;       /* the program whose words are completed */
+    lagvtsune_bytes completer; /* the program that the shell runs at a Tab */
+} lagvtsune_names;
+
+/* A live request. The comment of lagvtsune_live explains its parts. */
+typedef struct lagvtsune_request {
+    lagvtsune_bytes tree;     /* the tree file */
+    lagvtsune_list words;     /* the program's arguments, starting with its name */
+    lagvtsune_list variables; /* names and values of variables, alternating */
+    lagvtsune_bytes output;   /* the output of a command */
+    lagvtsune_bytes listed;   /* the path of a directory */
+    lagvtsune_list names;     /* the names in that directory */
+    lagvtsune_list folders;   /* the paths of directories */
+    lagvtsune_list files;     /* the paths of files */
+} lagvtsune_request;
 
 /* The values of `*status`. */
 enum {
@@ -84,13 +110,47 @@ size_t lagvtsune_script(const uint8_t *shell, size_t shell_length,
                         uint8_t *status);
 
 /*
- * Answers the request of a shell to the program that the tree file `tree` describes: with the
- * registration, with the candidates, or with a command that lists values. Returns the length of the
- * text, and copies the text to the start of `room` if it fits there. Otherwise `room` stays
- * unchanged, and you can call again with more room. You may pass any bytes.
+ * Makes the registration for the shell with the name `shell`: the text by which that shell runs the
+ * completer at a Tab. If `safe` is true, it is the one of the safe set, which evaluates no name, no
+ * value and no typed word. Otherwise it is the original's. Returns the length of the text, and
+ * copies the text to the start of `room` if it fits there. Otherwise `room` stays unchanged, and
+ * you can call again with more room. You may pass any bytes.
  *
- * `words` are the program's arguments, starting with its name. `variables` are names and values,
- * alternating:
+ * `names` has the names in the text:
+ *
+ * - `variable` requests completions, by the name of the shell as its value. `COMPLETE` is usual.
+ * - `name` is the name of the command, which is part of the names of functions.
+ * - `bin` is the program whose words are completed.
+ * - `completer` is the program that the shell runs: a name that is looked up in `PATH`, or a path.
+ *
+ * The safe set quotes `bin` and `completer`, and writes the other two with `_` for each byte that
+ * is not an ASCII letter, a digit or `_`. The original's set writes `variable` and `name` without
+ * quotes, and in bash also `bin`. So pass only plain names there.
+ *
+ * The `status` is:
+ *
+ * - 0: the text is the registration.
+ * - 1: the text is a message, which ends in a line feed.
+ * - 2: `shell` or one of the names is not UTF-8, and there is no text.
+ *
+ * Proved (`crates/complgen_c/src/registrations.rt`):
+ *
+ *     EndsAs (MakesRegistration safe shell.now (passed_names names.now)) room.old room.new
+ *     status.new result
+ */
+size_t lagvtsune_registration(bool safe, const uint8_t *shell, size_t shell_length,
+                              const lagvtsune_names *names,
+                              uint8_t *room, size_t room_length,
+                              uint8_t *status);
+
+/*
+ * Answers the request of a shell to the program that a tree file describes: with the registration,
+ * with the candidates, or with a command that lists values. Returns the length of the text, and
+ * copies the text to the start of `room` if it fits there. Otherwise `room` stays unchanged, and
+ * you can call again with more room. You may pass any bytes.
+ *
+ * `request` has the following parts. `tree` is the tree file. `words` are the program's arguments,
+ * starting with its name. `variables` are names and values, alternating:
  *
  * - `COMPLETE` makes the request, and its value names the shell.
  * - `_COMPLGEN_VALUES`, `_COMPLGEN_ASCII`, `_COMPLGEN_KEPT` and `_COMPLGEN_QUOTE` have the values
@@ -122,18 +182,9 @@ size_t lagvtsune_script(const uint8_t *shell, size_t shell_length,
  *
  * Proved (`crates/complgen_c/src/live.rt`):
  *
- *     EndsAs (MakesReply tree.now (handed words.now) (handed variables.now) output.now (record {
- *     path = listed.now; names = handed names.now; folders = handed folders.now; files = handed
- *     files.now; })) room.old room.new status.new result
+ *     EndsAs (RepliesTo request.now) room.old room.new status.new result
  */
-size_t lagvtsune_live(const uint8_t *tree, size_t tree_length,
-                      const lagvtsune_bytes *words, size_t words_length,
-                      const lagvtsune_bytes *variables, size_t variables_length,
-                      const uint8_t *output, size_t output_length,
-                      const uint8_t *listed, size_t listed_length,
-                      const lagvtsune_bytes *names, size_t names_length,
-                      const lagvtsune_bytes *folders, size_t folders_length,
-                      const lagvtsune_bytes *files, size_t files_length,
+size_t lagvtsune_live(const lagvtsune_request *request,
                       uint8_t *room, size_t room_length,
                       uint8_t *status);
 

@@ -1,7 +1,8 @@
 """Shell completions for Python programs, by the shared library liblagvtsune.so.0.
 
 `complete` answers a completion request of a shell, and `script` makes a script. Both take a tree file,
-as text or bytes. The library is looked up as the system does it, or the variable LAGVTSUNE_SO names it.
+as text or bytes. `registration` makes a registration, which needs no tree. The library is looked up as
+the system does it, or the variable LAGVTSUNE_SO names it.
 
 SPDX-License-Identifier: MIT OR Apache-2.0
 """
@@ -27,19 +28,40 @@ MOST_DIRECTORIES = 4
 
 
 class Bytes(ctypes.Structure):
-    """A slice in a list of slices."""
+    """A slice of bytes."""
 
     _fields_ = [("start", ctypes.c_char_p), ("length", ctypes.c_size_t)]
 
 
+class List(ctypes.Structure):
+    """A list of such slices."""
+
+    _fields_ = [("start", ctypes.POINTER(Bytes)), ("length", ctypes.c_size_t)]
+
+
+class Names(ctypes.Structure):
+    """The names in a registration."""
+
+    _fields_ = [(name, Bytes) for name in ("variable", "name", "bin", "completer")]
+
+
+class Request(ctypes.Structure):
+    """A live request."""
+
+    _fields_ = [
+        ("tree", Bytes), ("words", List), ("variables", List), ("output", Bytes), ("listed", Bytes), ("names", List),
+        ("folders", List), ("files", List),
+    ]
+
+
 SLICE = [ctypes.c_char_p, ctypes.c_size_t]
-SLICES = [ctypes.POINTER(Bytes), ctypes.c_size_t]
 ROOM = [ctypes.c_char_p, ctypes.c_size_t, ctypes.POINTER(ctypes.c_uint8)]
 
 library = ctypes.CDLL(os.environ.get("LAGVTSUNE_SO", "liblagvtsune.so.0"))
 library.lagvtsune_script.argtypes = SLICE * 3 + ROOM
-library.lagvtsune_live.argtypes = SLICE + SLICES * 2 + SLICE * 2 + SLICES * 3 + ROOM
-for function in (library.lagvtsune_script, library.lagvtsune_live):
+library.lagvtsune_registration.argtypes = [ctypes.c_bool, *SLICE, ctypes.POINTER(Names), *ROOM]
+library.lagvtsune_live.argtypes = [ctypes.POINTER(Request), *ROOM]
+for function in (library.lagvtsune_script, library.lagvtsune_registration, library.lagvtsune_live):
     function.restype = ctypes.c_size_t
 
 
@@ -49,11 +71,18 @@ class Failed(Exception):
 
 def script(shell, bin_name, tree):
     """Returns the script for a shell as text, of the command in a tree file. Raises `Failed`."""
-    arguments = [*_slice(shell), *_slice(bin_name), *_slice(tree)]
-    status, text = _call(library.lagvtsune_script, arguments)
-    if status != MADE:
-        raise _failure(status, text)
-    return text.decode()
+    return _made(library.lagvtsune_script, [*_slice(shell), *_slice(bin_name), *_slice(tree)])
+
+
+def registration(shell, bin_name, completer, variable="COMPLETE", name=None, safe=True):
+    """Returns the registration for a shell as text. Raises `Failed`.
+
+    It makes the shell run `completer` at a Tab in the words of the program `bin_name`, with `variable` set.
+    `name` is part of the names of functions, and is `bin_name` if you leave it out. If `safe` is false, it is
+    the registration of the original, whose names have to be plain.
+    """
+    names = Names(*map(_bytes, (variable, name or bin_name, bin_name, completer)))
+    return _made(library.lagvtsune_registration, [safe, *_slice(shell), ctypes.byref(names)])
 
 
 def answer(tree, words, variables, current_dir=None, output=b""):
@@ -69,10 +98,12 @@ def answer(tree, words, variables, current_dir=None, output=b""):
     pairs = [text for pair in requests.items() for text in pair]
     listed, names, paths = "", [], []
     for _ in range(1 + MOST_DIRECTORIES):
-        lists = [names, [it for it in paths if os.path.isdir(it)], [it for it in paths if os.path.isfile(it)]]
-        arguments = [*_slice(tree), *_slices(words), *_slices(pairs), *_slice(output), *_slice(listed)]
-        arguments += [it for texts in lists for it in _slices(texts)]
-        status, text = _call(library.lagvtsune_live, arguments)
+        folders, files = ([it for it in paths if leads_to(it)] for leads_to in (os.path.isdir, os.path.isfile))
+        request = Request(
+            _bytes(tree), _list(words), _list(pairs), _bytes(output), _bytes(listed), _list(names), _list(folders),
+            _list(files),
+        )
+        status, text = _call(library.lagvtsune_live, [ctypes.byref(request)])
         if status != WANTS_FOLDER:
             break
         listed = os.fsdecode(text)
@@ -114,6 +145,14 @@ def _output():
     return output if len(output) <= MOST_OUTPUT else output[: output.rfind(b"\n", 0, MOST_OUTPUT) + 1]
 
 
+def _made(called, arguments):
+    """Returns the text of a call. Raises `Failed`."""
+    status, text = _call(called, arguments)
+    if status != MADE:
+        raise _failure(status, text)
+    return text.decode()
+
+
 def _failure(status, text):
     return Failed("an argument is not UTF-8" if status == NOT_UTF8 else text.decode(errors="replace").strip())
 
@@ -139,10 +178,14 @@ def _slice(text):
     return data, len(data)
 
 
-def _slices(texts):
-    slices = [Bytes(*_slice(text)) for text in texts]
+def _bytes(text):
+    return Bytes(*_slice(text))
+
+
+def _list(texts):
+    slices = [_bytes(text) for text in texts]
     # The pointer must not be null, even if there are no slices.
-    return (Bytes * max(len(slices), 1))(*slices), len(slices)
+    return List((Bytes * max(len(slices), 1))(*slices), len(slices))
 
 
 def _call(called, arguments):

@@ -1,4 +1,4 @@
-/* The library's two functions for C programs on a POSIX system. SPDX-License-Identifier: MIT OR Apache-2.0 */
+/* Scripts and live requests for C programs on a POSIX system. SPDX-License-Identifier: MIT OR Apache-2.0 */
 #define _POSIX_C_SOURCE 200809L
 #include "lagvtsune_posix.h"
 #include <dirent.h>
@@ -35,7 +35,7 @@ struct text {
     size_t size, length;
 };
 
-/* The arguments of lagvtsune_live. */
+/* What a live request is made of. */
 struct request {
     const char *tree;
     struct list words, variables, names, folders, files;
@@ -201,20 +201,27 @@ static bool list_directory(struct request *request, const struct text *path)
     return has_memory;
 }
 
-/* Returns the first slice of a list, which is never NULL. */
-static const lagvtsune_bytes *first(const struct list *list)
+/* Returns a list whose pointer is not NULL. */
+static lagvtsune_list slices(const struct list *list)
 {
-    return list->start != NULL ? list->start : &NOTHING;
+    return (lagvtsune_list){list->start != NULL ? list->start : &NOTHING, list->length};
 }
 
 static size_t call_live(const struct request *it, const struct text *text, uint8_t *status)
 {
     const char *listed = it->listed != NULL ? it->listed : "";
     const uint8_t *output = it->output.room != NULL ? it->output.room : NOTHING.start;
-    return lagvtsune_live(BYTES(it->tree), first(&it->words), it->words.length, first(&it->variables),
-        it->variables.length, output, it->output.length, BYTES(listed), first(&it->names), it->names.length,
-        first(&it->folders), it->folders.length, first(&it->files), it->files.length, text->room, text->size,
-        status);
+    const lagvtsune_request request = {
+        .tree = {BYTES(it->tree)},
+        .words = slices(&it->words),
+        .variables = slices(&it->variables),
+        .output = {output, it->output.length},
+        .listed = {BYTES(listed)},
+        .names = slices(&it->names),
+        .folders = slices(&it->folders),
+        .files = slices(&it->files),
+    };
+    return lagvtsune_live(&request, text->room, text->size, status);
 }
 
 /* Provides a room of at least this size. Returns whether there was memory. */

@@ -1,5 +1,5 @@
 /*
- * lagvtsune_posix.h - the library's two functions for C programs on a POSIX system.
+ * lagvtsune_posix.h - scripts and live requests for C programs on a POSIX system.
  *
  * Compile lagvtsune_posix.c with your program. It passes the environment, the names in directories and
  * the output of a command to the library, and repeats a call that needs more room or another directory.

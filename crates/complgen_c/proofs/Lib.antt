@@ -1,5 +1,6 @@
 mod Failures
 mod PathSets
+mod RegistrationLemmas
 mod ReplyLemmas
 mod RequestLemmas
 mod SameFacts

@@ -14,8 +14,9 @@ use Rattle.complgen_commands.specs.declared.refusals.Refusal.{Refusal}
 use Rattle.complgen_live.specs.Answers.{AnswersRequest, Parts}
 use Rattle.complgen_live.specs.declared.reply_errors.ReplyError.{ReplyError}
 use Rattle.complgen_live.specs.declared.reply_errors.ReplyError.TheVariants.{Library, Tree}
-use Rattle.complgen_c.specs.Listings.{Listing, facts_of}
+use Rattle.complgen_c.specs.Listings.{Listing, facts_of, handed}
 use Rattle.complgen_c.specs.Requests.{HoldsVariables, NotUtf8Texts}
+use Rattle.complgen_c.specs.declared.live.PassedRequest.{PassedRequest}
 use Rattle.complgen_c.specs.declared.outcome.Outcome.{Outcome}
 use Rattle.complgen_c.specs.declared.outcome.Outcome.TheVariants.{Failed, Made, NotRequested, NotUtf8, Run, WantsFolder}
 
@@ -95,3 +96,14 @@ pub data MakesReply (tree : List ℕ) (words variables : List (List ℕ)) (outpu
       → AnswersOver tree words env output (facts_of listing (value_of home_name env)) listing.path
       outcome
       → MakesReply tree words variables output listing outcome
+
+-- the same for what the caller passes
+abbrev pub RepliesTo : PassedRequest → Outcome → Type 0
+RepliesTo passed =
+    MakesReply passed.tree.now (handed passed.words.now) (handed passed.variables.now)
+    passed.output.now (record {
+      path = passed.listed.now;
+      names = handed passed.names.now;
+      folders = handed passed.folders.now;
+      files = handed passed.files.now;
+    })

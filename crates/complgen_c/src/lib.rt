@@ -1,15 +1,17 @@
-//! The library for programs in other languages. Its functions make a script or answer a live
-//! request, and accept any bytes.
+//! The library for programs in other languages. Its functions make a script or a registration, or
+//! answer a live request. They accept any bytes.
 #![tactic(auto)]
 
 mod listed;
 mod live;
 mod outcome;
+mod registrations;
 mod requests;
 mod scripts;
 #[cfg(test)]
 mod tests;
 
-pub use crate::live::lagvtsune_live;
+pub use crate::live::{PassedRequest, lagvtsune_live};
 pub use crate::outcome::Outcome;
+pub use crate::registrations::{PassedNames, lagvtsune_registration};
 pub use crate::scripts::lagvtsune_script;

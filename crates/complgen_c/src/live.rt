@@ -8,7 +8,7 @@ ghost use Rattle.cc_replies.specs.Environment.{value_of};
 ghost use Rattle.complgen_live.specs.Answers.{seen_request};
 ghost use Rattle.complgen_live.specs.declared.reply_errors.ReplyError.TheVariants.{Library};
 ghost use Rattle.complgen_c.specs.Listings.{facts_of, handed, listing_of};
-ghost use Rattle.complgen_c.specs.Live.{AnswersOver, EndsBy, MakesReply, ReportsReply, RunsWords};
+ghost use Rattle.complgen_c.specs.Live.{AnswersOver, EndsBy, RepliesTo, ReportsReply, RunsWords};
 ghost use Rattle.complgen_c.specs.Live.{Tells, home_name};
 ghost use Rattle.complgen_c.specs.Outcomes.{EndsAs};
 
@@ -32,22 +32,35 @@ const CURRENT_DIR: &str = "PWD";
 // The message for a tree file that describes no command.
 const NO_COMMAND: &str = "tree: describes no command\n";
 
-// What the caller passes for an answer, besides the request and the directory.
+/// A live request, as the caller passes it.
+#[repr(C)]
 #[derive(Drop)]
-struct Passed<'p> {
-    // the tree file
-    tree: &'p [u8],
-    // what a command printed
-    output: &'p [u8],
+pub struct PassedRequest<'p> {
+    /// The tree file.
+    pub tree: &'p [u8],
+    /// The program's arguments, starting with its name.
+    pub words: &'p [&'p [u8]],
+    /// Names and values of variables, alternating.
+    pub variables: &'p [&'p [u8]],
+    /// The output of a command.
+    pub output: &'p [u8],
+    /// The path of a directory.
+    pub listed: &'p [u8],
+    /// The names in that directory.
+    pub names: &'p [&'p [u8]],
+    /// The paths of directories.
+    pub folders: &'p [&'p [u8]],
+    /// The paths of files.
+    pub files: &'p [&'p [u8]],
 }
 
-/// Answers the request of a shell to the program that the tree file `tree` describes: with the
-/// registration, with the candidates, or with a command that lists values. Returns the length of
-/// the text, and copies the text to the start of `room` if it fits there. Otherwise `room` stays
-/// unchanged, and you can call again with more room. You may pass any bytes.
+/// Answers the request of a shell to the program that a tree file describes: with the registration,
+/// with the candidates, or with a command that lists values. Returns the length of the text, and
+/// copies the text to the start of `room` if it fits there. Otherwise `room` stays unchanged, and
+/// you can call again with more room. You may pass any bytes.
 ///
-/// `words` are the program's arguments, starting with its name. `variables` are names and values,
-/// alternating:
+/// `request` has the following parts. `tree` is the tree file. `words` are the program's arguments,
+/// starting with its name. `variables` are names and values, alternating:
 ///
 /// - `COMPLETE` makes the request, and its value names the shell.
 /// - `_COMPLGEN_VALUES`, `_COMPLGEN_ASCII`, `_COMPLGEN_KEPT` and `_COMPLGEN_QUOTE` have the values
@@ -79,54 +92,33 @@ struct Passed<'p> {
 #[unsafe(no_mangle)]
 pub extern "C" fn lagvtsune_live(
     alloc: Global,
-    tree: &[u8],
-    words: &[&[u8]],
-    variables: &[&[u8]],
-    output: &[u8],
-    listed: &[u8],
-    names: &[&[u8]],
-    folders: &[&[u8]],
-    files: &[&[u8]],
+    request: &PassedRequest<'_>,
     room: &mut [u8],
     status: &mut u8,
 ) -> usize
-    ensures { EndsAs (MakesReply tree.now (handed words.now) (handed variables.now) output.now
-        (record {
-          path = listed.now;
-          names = handed names.now;
-          folders = handed folders.now;
-          files = handed files.now;
-        })) room.old room.new status.new result }
+    ensures { EndsAs (RepliesTo request.now) room.old room.new status.new result }
 {
-    let passed = Passed { tree, output };
-    match read_request(alloc, words, variables, names) {
-        Ok(Some(request)) => {
-            answer_to(alloc, &passed, request, listed, folders, files).put(room, status)
-        }
+    match read_request(alloc, request.words, request.variables, request.names) {
+        Ok(Some(texts)) => answer_to(alloc, request, texts).put(room, status),
         Ok(None) => Outcome::NotUtf8.put(room, status),
         Err(failed) => Outcome::Failed(Refusal::from(failed)).put(room, status),
     }
 }
 
-// Returns the outcome of a request, over the directory that was passed with its names.
-fn answer_to<'r>(
-    alloc: Global,
-    passed: &Passed<'_>,
-    request: RequestTexts,
-    listed: &'r [u8],
-    folders: &[&'r [u8]],
-    files: &[&'r [u8]],
-) -> Outcome
-    ensures { AnswersOver passed.now.tree.now (map string_bytes request.words.items) request.env
+// Returns the outcome of a request, whose texts are `texts`, over the directory that was passed
+// with its names.
+fn answer_to(alloc: Global, passed: &PassedRequest<'_>, texts: RequestTexts) -> Outcome
+    ensures { AnswersOver passed.now.tree.now (map string_bytes texts.words.items) texts.env
         passed.now.output.now (facts_of (record {
-          path = listed.now;
-          names = map string_bytes request.names.items;
-          folders = handed folders.now;
-          files = handed files.now;
-        }) (value_of home_name request.env)) listed.now result }
+          path = passed.now.listed.now;
+          names = map string_bytes texts.names.items;
+          folders = handed passed.now.folders.now;
+          files = handed passed.now.files.now;
+        }) (value_of home_name texts.env)) passed.now.listed.now result }
 {
-    let RequestTexts { words, env, names } = request;
-    match Listed::new(alloc, listed, names, folders, files, env.get(HOME)) {
+    let RequestTexts { words, env, names } = texts;
+    let (folders, files) = (passed.folders, passed.files);
+    match Listed::new(alloc, passed.listed, names, folders, files, env.get(HOME)) {
         Ok(folder) => answer_in(alloc, passed, words.as_slice(), &env, folder),
         Err(failed) => Outcome::Failed(Refusal::from(failed)),
     }
@@ -135,7 +127,7 @@ fn answer_to<'r>(
 // Returns the outcome of a request in a directory.
 fn answer_in(
     alloc: Global,
-    passed: &Passed<'_>,
+    passed: &PassedRequest<'_>,
     words: &[String],
     env: &EnvValues,
     folder: Listed<'_, '_>,

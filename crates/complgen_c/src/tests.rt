@@ -1,6 +1,6 @@
-//! A request of each status, from its bytes to the room.
+//! A request of each status, from its bytes to the room, and a registration of each set.
 
-use crate::lagvtsune_live;
+use crate::{PassedNames, PassedRequest, lagvtsune_live, lagvtsune_registration};
 use std::process::Abort;
 use std::test::Fail;
 
@@ -34,19 +34,17 @@ fn asked(
     ];
     let mut room = [0; 96];
     let mut status = u8::MAX;
-    let length = lagvtsune_live(
-        rt.alloc(),
-        TREE,
-        &words,
-        &variables,
-        &[],
+    let request = PassedRequest {
+        tree: TREE,
+        words: &words,
+        variables: &variables,
+        output: &[],
         listed,
         names,
         folders,
-        &[],
-        &mut room,
-        &mut status,
-    );
+        files: &[],
+    };
+    let length = lagvtsune_live(rt.alloc(), &request, &mut room, &mut status);
     (length, status, room)
 }
 
@@ -114,19 +112,17 @@ fn valued(
     ];
     let mut room = [0; 96];
     let mut status = u8::MAX;
-    let length = lagvtsune_live(
-        rt.alloc(),
-        COMMANDS,
-        &words,
-        &variables,
+    let request = PassedRequest {
+        tree: COMMANDS,
+        words: &words,
+        variables: &variables,
         output,
-        b"",
-        &[],
-        &[],
-        &[],
-        &mut room,
-        &mut status,
-    );
+        listed: b"",
+        names: &[],
+        folders: &[],
+        files: &[],
+    };
+    let length = lagvtsune_live(rt.alloc(), &request, &mut room, &mut status);
     (length, status, room)
 }
 
@@ -167,5 +163,46 @@ fn no_values_where_commands_are_off(rt: HostRuntime) -> Result<(), Fail> {
 fn output_of_a_command_is_not_offered_for_a_file(rt: HostRuntime) -> Result<(), Fail> {
     let (length, status, _) = valued(&rt, b"stdin", b"", b"--user", b"main\n");
     same(&rt, (length, status), (0, 0));
+    Ok(())
+}
+
+// Makes the registration of a set for a shell, and returns the length, the status and the room.
+fn registered(rt: &HostRuntime, safe: bool, shell: &[u8], bin: &[u8]) -> (usize, u8, [u8; 1024]) {
+    let names = PassedNames {
+        variable: b"ASK",
+        name: b"app",
+        bin,
+        completer: b"/bin/app",
+    };
+    let mut room = [0; 1024];
+    let mut status = u8::MAX;
+    let length = lagvtsune_registration(rt.alloc(), safe, shell, &names, &mut room, &mut status);
+    (length, status, room)
+}
+
+#[test]
+fn the_original_s_registration_is_made(rt: HostRuntime) -> Result<(), Fail> {
+    let text = b"complete --keep-order --exclusive --command my-app --arguments \"(ASK=fish /bin/app -- (commandline --current-process --tokenize --cut-at-cursor) (commandline --current-token))\"\n";
+    let (length, status, room) = registered(&rt, false, b"fish", b"my-app");
+    same(&rt, (length, status), (text.len(), 0));
+    assert!(rt; room.starts_with(text));
+    Ok(())
+}
+
+#[test]
+fn the_safe_registration_is_made(rt: HostRuntime) -> Result<(), Fail> {
+    let (_, status, room) = registered(&rt, true, b"elvish", b"it's");
+    assert!(rt; status == 0);
+    assert!(rt; room.starts_with(b"for complgen-name ['it''s'] {\n"));
+    Ok(())
+}
+
+#[test]
+fn a_registration_needs_a_shell_and_texts(rt: HostRuntime) -> Result<(), Fail> {
+    let (_, status, room) = registered(&rt, true, b"tcsh", b"app");
+    assert!(rt; status == 1);
+    assert!(rt; room.starts_with(b"unknown shell `tcsh`, expected one of `bash`"));
+    let (length, status, _) = registered(&rt, false, b"fish", b"\xff");
+    same(&rt, (length, status), (0, 2));
     Ok(())
 }

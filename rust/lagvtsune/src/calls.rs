@@ -1,7 +1,7 @@
 //! Calls the library with enough room for its result.
 
 use crate::folder::Listing;
-use crate::native::{self, Bytes, Request};
+use crate::native::{self, Bytes, Names, Request};
 use std::io;
 
 /// The minimum size of the first room, in bytes. A longer text takes a second call.
@@ -20,10 +20,16 @@ const SCRIPT_LENGTHS: usize = 10;
 pub(crate) fn script(shell: &str, bin: &str, tree: &str) -> io::Result<Vec<u8>> {
     let (shell, bin, tree) = (shell.as_bytes(), bin.as_bytes(), tree.as_bytes());
     let first = LEAST_ROOM.max(SCRIPT_LENGTHS * tree.len());
-    match native::script(shell, bin, tree, first) {
-        (0, text) => Ok(text),
-        (other, text) => Err(refusal(other, &text)),
-    }
+    made(native::script(shell, bin, tree, first))
+}
+
+/// Returns the registration for the shell `shell`, of the safe set or the original's.
+///
+/// # Errors
+///
+/// The library's message, if there is no registration.
+pub(crate) fn registration(safe: bool, shell: &str, names: &Names<'_>) -> io::Result<Vec<u8>> {
+    made(native::registration(safe, shell.as_bytes(), names, LEAST_ROOM))
 }
 
 /// A live request.
@@ -42,7 +48,7 @@ pub(crate) struct LiveRequest {
 
 /// The library's answer to a live request.
 pub(crate) enum Answer {
-    /// The registration or the reply.
+    /// The reply.
     Text(Vec<u8>),
     /// The words of a command, as the registration reads them. The shell runs it.
     Run(Vec<u8>),
@@ -82,6 +88,14 @@ pub(crate) fn live(request: &LiveRequest) -> io::Result<Answer> {
 /// Converts texts to a list that the library accepts.
 pub(crate) fn slices<T: AsRef<[u8]>>(texts: &[T]) -> Vec<Bytes<'_>> {
     texts.iter().map(|text| text.as_ref().into()).collect()
+}
+
+/// Returns the text that was made, or the error for another status.
+fn made((status, text): (u8, Vec<u8>)) -> io::Result<Vec<u8>> {
+    match status {
+        0 => Ok(text),
+        other => Err(refusal(other, &text)),
+    }
 }
 
 /// Returns the error for a status without an answer.

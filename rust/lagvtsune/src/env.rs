@@ -13,13 +13,11 @@
 //! In PowerShell: `$env:COMPLETE = "powershell"; app | Out-String | Invoke-Expression; Remove-Item
 //! Env:\COMPLETE`.
 
-mod quoting;
-mod registrations;
-mod safe;
+mod adapters;
 mod shells;
 
-pub use safe::SafeShell;
-pub use shells::{Bash, Elvish, EnvCompleter, Fish, Powershell, Shells, Zsh};
+pub use adapters::{Bash, Elvish, Fish, Powershell, SafeShell, Zsh};
+pub use shells::{EnvCompleter, Shells};
 
 use crate::answering::{Request, REQUEST};
 use crate::engine::{Completer, SubcommandCandidates};

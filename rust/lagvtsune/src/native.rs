@@ -39,13 +39,54 @@ extern "C" {
         status: *mut u8,
     ) -> usize;
 
-    /// Answers the request of a shell to the program that the tree file `tree` describes: with the
+    /// Makes the registration for the shell with the name `shell`: the text by which that shell
+    /// runs the completer at a Tab. If `safe` is true, it is the one of the safe set, which
+    /// evaluates no name, no value and no typed word. Otherwise it is the original's. Returns the
+    /// length of the text, and copies the text to the start of `room` if it fits there. Otherwise
+    /// `room` stays unchanged, and you can call again with more room. You may pass any bytes.
+    ///
+    /// `names` has the names in the text:
+    ///
+    /// - `variable` requests completions, by the name of the shell as its value. `COMPLETE` is
+    ///   usual.
+    /// - `name` is the name of the command, which is part of the names of functions.
+    /// - `bin` is the program whose words are completed.
+    /// - `completer` is the program that the shell runs: a name that is looked up in `PATH`, or a
+    ///   path.
+    ///
+    /// The safe set quotes `bin` and `completer`, and writes the other two with `_` for each byte
+    /// that is not an ASCII letter, a digit or `_`. The original's set writes `variable` and `name`
+    /// without quotes, and in bash also `bin`. So pass only plain names there.
+    ///
+    /// The `status` is:
+    ///
+    /// - 0: the text is the registration.
+    /// - 1: the text is a message, which ends in a line feed.
+    /// - 2: `shell` or one of the names is not UTF-8, and there is no text.
+    ///
+    /// Proved (`crates/complgen_c/src/registrations.rt`):
+    ///
+    /// ```text
+    /// EndsAs (MakesRegistration safe shell.now (passed_names names.now)) room.old room.new
+    /// status.new result
+    /// ```
+    fn lagvtsune_registration(
+        safe: bool,
+        shell: *const u8,
+        shell_length: usize,
+        names: *const Names<'_>,
+        room: *mut u8,
+        room_length: usize,
+        status: *mut u8,
+    ) -> usize;
+
+    /// Answers the request of a shell to the program that a tree file describes: with the
     /// registration, with the candidates, or with a command that lists values. Returns the length
     /// of the text, and copies the text to the start of `room` if it fits there. Otherwise `room`
     /// stays unchanged, and you can call again with more room. You may pass any bytes.
     ///
-    /// `words` are the program's arguments, starting with its name. `variables` are names and
-    /// values, alternating:
+    /// `request` has the following parts. `tree` is the tree file. `words` are the program's
+    /// arguments, starting with its name. `variables` are names and values, alternating:
     ///
     /// - `COMPLETE` makes the request, and its value names the shell.
     /// - `_COMPLGEN_VALUES`, `_COMPLGEN_ASCII`, `_COMPLGEN_KEPT` and `_COMPLGEN_QUOTE` have the
@@ -79,34 +120,17 @@ extern "C" {
     /// Proved (`crates/complgen_c/src/live.rt`):
     ///
     /// ```text
-    /// EndsAs (MakesReply tree.now (handed words.now) (handed variables.now) output.now (record {
-    /// path = listed.now; names = handed names.now; folders = handed folders.now; files = handed
-    /// files.now; })) room.old room.new status.new result
+    /// EndsAs (RepliesTo request.now) room.old room.new status.new result
     /// ```
     fn lagvtsune_live(
-        tree: *const u8,
-        tree_length: usize,
-        words: *const Bytes<'_>,
-        words_length: usize,
-        variables: *const Bytes<'_>,
-        variables_length: usize,
-        output: *const u8,
-        output_length: usize,
-        listed: *const u8,
-        listed_length: usize,
-        names: *const Bytes<'_>,
-        names_length: usize,
-        folders: *const Bytes<'_>,
-        folders_length: usize,
-        files: *const Bytes<'_>,
-        files_length: usize,
+        request: *const PassedRequest<'_>,
         room: *mut u8,
         room_length: usize,
         status: *mut u8,
     ) -> usize;
 }
 
-/// A slice in a list of slices, as C represents them.
+/// A slice of bytes, as C represents it.
 #[repr(C)]
 pub(crate) struct Bytes<'b> {
     start: *const u8,
@@ -117,6 +141,46 @@ pub(crate) struct Bytes<'b> {
 impl<'b> From<&'b [u8]> for Bytes<'b> {
     fn from(bytes: &'b [u8]) -> Bytes<'b> {
         Bytes { start: bytes.as_ptr(), length: bytes.len(), borrowed: PhantomData }
+    }
+}
+
+/// A list of such slices, as C represents it.
+#[repr(C)]
+struct List<'l> {
+    start: *const Bytes<'l>,
+    length: usize,
+    borrowed: PhantomData<&'l [Bytes<'l>]>,
+}
+
+impl<'l> From<&'l Vec<Bytes<'l>>> for List<'l> {
+    fn from(slices: &'l Vec<Bytes<'l>>) -> List<'l> {
+        List { start: slices.as_ptr(), length: slices.len(), borrowed: PhantomData }
+    }
+}
+
+/// The names in a registration, as C represents them.
+#[repr(C)]
+pub(crate) struct Names<'n> {
+    /// The variable that requests completions from the completer.
+    pub(crate) variable: Bytes<'n>,
+    /// The name of the command, which is part of the names of functions.
+    pub(crate) name: Bytes<'n>,
+    /// The program whose words are completed.
+    pub(crate) bin: Bytes<'n>,
+    /// The program that the shell runs at a Tab.
+    pub(crate) completer: Bytes<'n>,
+}
+
+impl<'n> Names<'n> {
+    pub(crate) fn of(
+        variable: &'n str,
+        name: &'n str,
+        bin: &'n str,
+        completer: &'n str,
+    ) -> Names<'n> {
+        let [variable, name, bin, completer] =
+            [variable, name, bin, completer].map(|text| text.as_bytes().into());
+        Names { variable, name, bin, completer }
     }
 }
 
@@ -164,7 +228,41 @@ pub(crate) fn script_in(
     Returned { status, length }
 }
 
-/// A live request, as `lagvtsune_live` expects it.
+/// Returns the registration for the shell `shell`, of the safe set or the original's, and its status.
+/// All bytes are allowed. The first room has `first` bytes.
+pub(crate) fn registration(
+    safe: bool,
+    shell: &[u8],
+    names: &Names<'_>,
+    first: usize,
+) -> (u8, Vec<u8>) {
+    with_room(first, |room| registration_in(safe, shell, names, room))
+}
+
+/// Writes such a registration to `room`. Allocates only the memory that the library requests.
+pub(crate) fn registration_in(
+    safe: bool,
+    shell: &[u8],
+    names: &Names<'_>,
+    room: &mut [MaybeUninit<u8>],
+) -> Returned {
+    let mut status = u8::MAX;
+    // SAFETY: as in `script_in`. Each `Bytes` in the names borrows its slice.
+    let length = memory::for_call(|| unsafe {
+        lagvtsune_registration(
+            safe,
+            shell.as_ptr(),
+            shell.len(),
+            names,
+            room.as_mut_ptr().cast(),
+            room.len(),
+            &raw mut status,
+        )
+    });
+    Returned { status, length }
+}
+
+/// A live request.
 pub(crate) struct Request<'r> {
     pub(crate) tree: &'r [u8],
     /// The program's arguments, starting with its name.
@@ -182,6 +280,34 @@ pub(crate) struct Request<'r> {
     pub(crate) files: Vec<Bytes<'r>>,
 }
 
+/// The same, as C represents it.
+#[repr(C)]
+struct PassedRequest<'p> {
+    tree: Bytes<'p>,
+    words: List<'p>,
+    variables: List<'p>,
+    output: Bytes<'p>,
+    listed: Bytes<'p>,
+    names: List<'p>,
+    folders: List<'p>,
+    files: List<'p>,
+}
+
+impl<'p> From<&'p Request<'_>> for PassedRequest<'p> {
+    fn from(request: &'p Request<'_>) -> PassedRequest<'p> {
+        PassedRequest {
+            tree: request.tree.into(),
+            words: (&request.words).into(),
+            variables: (&request.variables).into(),
+            output: request.output.into(),
+            listed: request.listed.into(),
+            names: (&request.names).into(),
+            folders: (&request.folders).into(),
+            files: (&request.files).into(),
+        }
+    }
+}
+
 /// Returns the registration, the reply or the command that is requested, and the status. All bytes are
 /// allowed. The first room has `first` bytes.
 pub(crate) fn live(request: &Request<'_>, first: usize) -> (u8, Vec<u8>) {
@@ -190,30 +316,10 @@ pub(crate) fn live(request: &Request<'_>, first: usize) -> (u8, Vec<u8>) {
 
 /// Writes such a text to `room`. Allocates only the memory that the library requests.
 pub(crate) fn live_in(request: &Request<'_>, room: &mut [MaybeUninit<u8>]) -> Returned {
-    let mut status = u8::MAX;
-    // SAFETY: as in `script_in`. Each `Bytes` in the lists borrows its slice.
+    let (passed, mut status) = (PassedRequest::from(request), u8::MAX);
+    // SAFETY: as in `script_in`. Each part of the request borrows its slices.
     let length = memory::for_call(|| unsafe {
-        lagvtsune_live(
-            request.tree.as_ptr(),
-            request.tree.len(),
-            request.words.as_ptr(),
-            request.words.len(),
-            request.variables.as_ptr(),
-            request.variables.len(),
-            request.output.as_ptr(),
-            request.output.len(),
-            request.listed.as_ptr(),
-            request.listed.len(),
-            request.names.as_ptr(),
-            request.names.len(),
-            request.folders.as_ptr(),
-            request.folders.len(),
-            request.files.as_ptr(),
-            request.files.len(),
-            room.as_mut_ptr().cast(),
-            room.len(),
-            &raw mut status,
-        )
+        lagvtsune_live(&raw const passed, room.as_mut_ptr().cast(), room.len(), &raw mut status)
     });
     Returned { status, length }
 }

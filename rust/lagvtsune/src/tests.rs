@@ -5,10 +5,10 @@ use crate::calls::{self, slices};
 use crate::engine::{ArgValueCandidates, Completer, CompletionCandidate};
 use crate::folder::likely_folder;
 use crate::memory::in_chunks;
-use crate::native::{self, as_room, Request, Returned};
+use crate::native::{self, as_room, Names, Request, Returned};
 use crate::refusing::refused;
 use crate::sources::Sources;
-use crate::tree_file::{live_file, names_file, script_file, tree_file, Line, ValuesFrom};
+use crate::tree_file::{live_file, script_file, tree_file, Line, ValuesFrom};
 use crate::Shell;
 use clap::{value_parser, Arg, ArgAction, ArgGroup, Command, ValueEnum, ValueHint};
 use std::collections::hash_map::DefaultHasher;
@@ -365,21 +365,88 @@ fn requests_at_once_are_answered_as_one_by_one() {
     });
 }
 
+/// The names in a registration of these tests.
+fn names() -> Names<'static> {
+    Names::of("ASK_ME", "my-app", "my app", "/opt/it's")
+}
+
+/// What the registrations of the safe set and of the original's have at these names, by
+/// `docs/TEXTS.md`.
+const REGISTERED: [(bool, &str, &str); 11] = [
+    (
+        true,
+        "bash",
+        "complete -o nospace -o bashdefault -F _complgen_my_app -- 'my app'\n_complgen_my_app() {\n",
+    ),
+    (true, "elvish", " e:env ASK_ME=elvish _COMPLGEN_VALUES=$values '/opt/it''s' -- $@words\n"),
+    (true, "fish", " --arguments \"(__complgen_my_app)\" --command 'my app'\n"),
+    (true, "powershell", "-CommandName 'my app' -ScriptBlock {\n"),
+    (true, "pwsh", "| & '/opt/it''s' -- @words 2>$null }\n"),
+    (true, "zsh", "compdef _complgen_my_app 'my app'\n_complgen_my_app() {\n"),
+    (false, "bash", " ASK_ME=\"bash\" \\\n        \"/opt/it's\" -- \"${words[@]}\" \\\n"),
+    (false, "elvish", " ASK_ME=\"elvish\" '/opt/it'\\''s' -- $@words) | to-lines\n"),
+    (false, "fish", " --command 'my app' --arguments \"(ASK_ME=fish '/opt/it\\\\'s' -- "),
+    (false, "powershell_ise", "$env:ASK_ME = \"powershell\";\n"),
+    (false, "zsh", "#compdef 'my app'\nfunction _clap_dynamic_completer_my_app() {\n"),
+];
+
 #[test]
-fn a_registration_takes_the_names_alone() {
-    let flag = Arg::new("out").long("out").global(true);
-    let command = Command::new("app").version("1").arg(flag).subcommand(Command::new("run"));
-    for command in [command.clone(), command.bin_name("my-app")] {
-        let (name, bin) = (command.get_name(), command.get_bin_name());
-        let (names, whole) = (names_file(name, bin.unwrap_or(name)), tree_file(&command));
-        assert!(names.len() < whole.len());
-        for shell in LIVE_SHELLS {
-            for words in [&["app"][..], &["/bin/app", "--"]] {
-                let of = |tree: &str| answer_of(tree, shell, words);
-                assert_eq!(of(&names), of(&whole), "{shell} {words:?}");
-                assert_eq!(of(&names).0, 0);
-            }
+fn a_registration_has_its_names() {
+    for (safe, shell, part) in REGISTERED {
+        let text = String::from_utf8(calls::registration(safe, shell, &names()).unwrap()).unwrap();
+        assert!(text.contains(part), "{safe} {shell} {text}");
+        assert_eq!(text.contains("_COMPLGEN_VALUES"), safe, "{shell} {text}");
+    }
+}
+
+#[test]
+fn a_request_and_a_call_make_the_same_registration() {
+    for shell in LIVE_SHELLS {
+        let names = Names::of("COMPLETE", "app", "app", "/bin/app");
+        let made = calls::registration(true, shell, &names).unwrap();
+        assert_eq!((0, made), answer(shell, &["/bin/app"]));
+    }
+}
+
+#[test]
+fn a_registration_needs_a_shell_and_texts() {
+    let expected = "expected one of `bash`, `elvish`, `fish`, `powershell`, `zsh`";
+    for safe in [true, false] {
+        let error = calls::registration(safe, "nushell", &names()).unwrap_err();
+        assert_eq!(error.to_string(), format!("unknown shell `nushell`, {expected}"));
+        for place in 0..5 {
+            let mut texts = [&b"fish"[..]; 5];
+            texts[place] = b"fi\xff";
+            let [shell, variable, name, bin, completer] = texts;
+            let [variable, name, bin, completer] = [variable, name, bin, completer].map(Into::into);
+            let names = Names { variable, name, bin, completer };
+            assert_eq!(native::registration(safe, shell, &names, 0), (2, Vec::new()), "{place}");
         }
+    }
+}
+
+#[test]
+fn the_room_holds_a_registration_if_it_fits() {
+    let text = calls::registration(false, "fish", &names()).unwrap();
+    for size in [0, text.len() - 1, text.len(), text.len() + 3] {
+        let mut room = vec![b'.'; size];
+        let made = native::registration_in(false, b"fish", &names(), as_room(&mut room));
+        assert_eq!((made.status, made.length), (0, text.len()));
+        let written = if size < text.len() { &[][..] } else { &text };
+        assert_eq!(room, [written, &vec![b'.'; size - written.len()]].concat());
+    }
+}
+
+#[test]
+fn a_refused_allocation_of_a_registration_is_an_error_that_loses_nothing() {
+    for (safe, shell, _) in REGISTERED {
+        let text = calls::registration(safe, shell, &names()).unwrap();
+        let call = |room: &mut [u8]| {
+            native::registration_in(safe, shell.as_bytes(), &names(), as_room(room))
+        };
+        let blocks = refuse_each(0, &text, call);
+        let chunks = in_chunks(|| refuse_each(0, &text, call));
+        assert!(blocks > 0 && chunks > 0 && chunks <= blocks, "{blocks} blocks, {chunks} chunks");
     }
 }
 
@@ -649,6 +716,29 @@ fn any_bytes_end_with_a_status() {
         };
         let size = numbers.below(room.len());
         let call = || native::script_in(&shell, &bin, &tree, as_room(&mut room[..size]));
+        ends[each_second_in_chunks(number, call).status as usize] += 1;
+    }
+    assert!(ends.iter().all(|count| *count > 500), "{ends:?}");
+}
+
+#[test]
+fn any_names_end_with_a_status() {
+    let mut numbers = Numbers(4);
+    let mut ends = [0; 3];
+    let mut room = vec![0; 1 << 14];
+    for number in 0..20_000 {
+        let shell = match numbers.below(6) {
+            5 => numbers.bytes(8),
+            at => LIVE_SHELLS[at].as_bytes().to_vec(),
+        };
+        let texts = [(); 4].map(|()| match numbers.below(8) {
+            0 => numbers.bytes(20),
+            _ => b"it's \\ \xe2\x80\x99\n$(x)"[..numbers.below(9)].to_vec(),
+        });
+        let [variable, name, bin, completer] = texts.each_ref().map(|text| (&**text).into());
+        let names = Names { variable, name, bin, completer };
+        let (safe, size) = (numbers.below(2) == 0, numbers.below(room.len()));
+        let call = || native::registration_in(safe, &shell, &names, as_room(&mut room[..size]));
         ends[each_second_in_chunks(number, call).status as usize] += 1;
     }
     assert!(ends.iter().all(|count| *count > 500), "{ends:?}");

@@ -105,19 +105,6 @@ fn written(
     (out, sourced.into_inner())
 }
 
-/// Returns a tree file with only a command's name and bin name, which is all that a registration
-/// needs.
-#[allow(dead_code)] // a program that only writes tree files includes this file
-pub fn names_file(name: &str, bin_name: &str) -> String {
-    let mut out = String::new();
-    let mut object = Object::new(&mut out);
-    object.text("name", Some(name));
-    object.text("bin_name", Some(bin_name));
-    object.end();
-    out.push('\n');
-    out
-}
-
 /// The parts of a tree that are written. Each has the names, and how many values arguments take.
 #[derive(Clone, Copy, PartialEq, PartialOrd)]
 #[allow(dead_code)] // a program that only writes tree files includes this file

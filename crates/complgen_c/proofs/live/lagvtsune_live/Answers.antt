@@ -5,7 +5,7 @@ use Rattle.complgen_c.proofs.live.lagvtsune_live.Goals as goal
 pub returns-in-Ok-Some : goal.returns-in-Ok-Some
 returns-in-Ok-Some c = record {
   outcome = c.answer_to.result;
-  may_end = request_answered c.args.tree.now _ _ _ _ _ _ _ _ _
+  may_end = request_answered c.args.request.now.tree.now _ _ _ _ _ _ _ _ _
       (rw c.in-Ok-Some.field-0-is at c.in-Ok-Some.ensures) c.answer_to.ensures;
   returns = c.put.ensures;
 }

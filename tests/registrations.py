@@ -1,0 +1,139 @@
+#!/usr/bin/env python3
+"""Compares the registrations of the archive with docs/TEXTS.md.
+
+    tests/registrations.py [--archive FOLDER]
+
+It links the archive as a shared library, and calls that by release/library/lagvtsune.py. For each shell it
+makes the registrations of the safe set and of the original's, with plain names and with names full of signs.
+It takes the texts from docs/TEXTS.md, and fills in the names as the tables there say. --archive names the
+directory of the archive. Without it, that is crates/complgen_c/out, where `rt lib` leaves it.
+
+It prints each text that differs, and a summary. The status is 0 if all are equal. It needs `cc`.
+"""
+
+from __future__ import annotations
+
+import argparse
+import difflib
+import importlib
+import os
+import re
+import subprocess
+import sys
+import tempfile
+from types import ModuleType
+from typing import Callable, Dict, NamedTuple
+
+sys.path.append(os.path.join(os.path.dirname(os.path.realpath(__file__)), "..", "tools"))
+import common
+
+sys.dont_write_bytecode = True
+OWN = os.path.join(common.TOP, "release", "library")
+Quote = Callable[[str], str]
+
+
+class Names(NamedTuple):
+    """The names in a registration."""
+
+    variable: str
+    name: str
+    bin: str
+    completer: str
+
+
+PLAIN = Names("COMPLETE", "my-app", "my-app", "/usr/bin/my-app")
+SIGNS = Names("ASK-é", "my app;é", "it's $(x) \\ `y` \"", "/opt/a b's\n\"$HOME\" `z` \\ \u2019=,")
+
+
+# ---- how the tables of the document quote
+
+def posix(text: str) -> str:
+    return text if re.fullmatch(r"[A-Za-z0-9+\-./:@_]+", text) else "'" + text.replace("'", "'\\''") + "'"
+
+
+def fish(text: str) -> str:
+    return text if re.fullmatch(r"[A-Za-z0-9/_\-.,+=:@]+", text) else "'" + re.sub(r"[\\']", r"\\\g<0>", text) + "'"
+
+
+def fish_for_eval(text: str) -> str:
+    return re.sub(r'[\\"$]', r"\\\g<0>", fish(text))
+
+
+def bash_double(text: str) -> str:
+    return re.sub(r'[\\"$`]', r"\\\g<0>", text)
+
+
+def elvish(text: str) -> str:
+    return "'" + text.replace("'", "''").replace("\n", " ") + "'"
+
+
+def powershell(text: str) -> str:
+    return "'" + re.sub("['\u2019]", r"'\g<0>", text).replace("\n", " ") + "'"
+
+
+def identifier(text: str) -> str:
+    return re.sub(rb"[^A-Za-z0-9_]", b"_", text.encode()).decode()
+
+
+SAFE: Dict[str, Quote] = {"bash": posix, "zsh": posix, "fish": fish, "elvish": elvish, "powershell": powershell}
+
+
+def filled_safe(shell: str, names: Names) -> Dict[str, str]:
+    """Returns what is written for each name in a registration of the safe set."""
+    by = SAFE[shell]
+    variable, name = identifier(names.variable), identifier(names.name)
+    return {"var": variable, "name": name, "bins": by(names.bin), "completer": by(names.completer)}
+
+
+def filled_original(shell: str, names: Names) -> Dict[str, str]:
+    """Returns what is written for each name in a registration of the original's set."""
+    by_bin, by_completer = {"bash": (str, bash_double), "fish": (fish, fish_for_eval)}.get(shell, (posix, posix))
+    name = names.name.replace("-", "_")
+    return {"var": names.variable, "name": name, "bin": by_bin(names.bin), "completer": by_completer(names.completer)}
+
+
+# ---- the comparison
+
+def main() -> int:
+    parser = argparse.ArgumentParser(usage=common.usage(__doc__))
+    parser.add_argument("--archive", default=os.path.join(common.TOP, "crates", "complgen_c", "out"))
+    with tempfile.TemporaryDirectory() as work:
+        library = loaded(parser.parse_args().archive, work)
+        sets = (("Safe registrations", True, filled_safe), ("Registrations", False, filled_original))
+        equal = [
+            is_equal(library, shell, safe, names, re.sub(r"«(\w+)»", lambda found: fill(shell, names)[found[1]], text))
+            for section, safe, fill in sets for shell, text in stated(section).items() for names in (PLAIN, SIGNS)
+        ]
+    print(f"{len(equal)} registrations, {equal.count(False)} differ from docs/TEXTS.md")
+    return 0 if len(equal) == 4 * len(common.LIVE_SHELLS) and all(equal) else 1
+
+
+def loaded(archive: str, work: str) -> ModuleType:
+    """Links the archive as a shared library, and returns the module that calls it."""
+    made = os.path.join(work, "liblagvtsune.so")
+    whole = ["-Wl,--whole-archive", os.path.join(archive, "libcomplgen_c.a"), "-Wl,--no-whole-archive"]
+    subprocess.run(["cc", "-shared", "-fPIC", "-I", OWN, "-o", made, os.path.join(OWN, "memory.c"), *whole], check=True)
+    os.environ["LAGVTSUNE_SO"] = made
+    sys.path.append(OWN)
+    return importlib.import_module("lagvtsune")
+
+
+def stated(section: str) -> Dict[str, str]:
+    """Returns the texts in a section of the document, by their shells."""
+    with open(os.path.join(common.TOP, "docs", "TEXTS.md"), encoding="utf-8") as file:
+        text = file.read().split(f"\n## {section}\n")[1].split("\n## ")[0]
+    found = re.findall(r"^(\w+)[^\n]*:\n\n```\n(.*?\n)```$", text, re.MULTILINE | re.DOTALL)
+    return {shell.lower(): block for shell, block in found}
+
+
+def is_equal(library: ModuleType, shell: str, safe: bool, names: Names, expected: str) -> bool:
+    """Tells whether the library makes this text, and prints how its own one differs."""
+    variable, name, program, completer = (text.encode() for text in names)
+    made = library.registration(shell, program, completer, variable, name, safe)
+    rows = difflib.unified_diff(expected.splitlines(), made.splitlines(), "docs/TEXTS.md", shell, lineterm="", n=0)
+    print("\n".join(rows), end="" if made == expected else "\n")
+    return made == expected
+
+
+if __name__ == "__main__":
+    sys.exit(main())
