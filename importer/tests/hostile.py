@@ -29,7 +29,7 @@ SHAPES = (
     ("  -a <X>  ", "one of "), ("  -a <X>  ", "one of a, "), ("  -a <X>  one of ", "a#,"), ("  -a <X>  ", "(a|"), ("  -a <X>  ", "(a|b)x"),
     ("  -a <X>  ", "[possible values: "), ("  -a <X>  ", "can be 'a' or "), ("  -a <X>  ", "one of a, b. c "), ("  -a <X>  ", "X is 'a', "),
     ("  -a <X>  ", "values: " + "a or " * 180 + ". "), ("  -a <X>  ", "(default"), ("  -a <X>  one of a", "(default)"),
-    ("  -a <X>  ", "{a|"), ("  -a <X>  ", "{#|"), ("  -a <X>  ", "one of " * 140 + "a."),
+    ("  -a <X>  ", "{a|"), ("  -a <X>  ", "{#|"),
     # Usages.
     ("usage: app ", "[-a] "), ("usage: app", " [--a# X]"), ("usage: app ", "[-a "), ("usage: app [", "-a|"), ("usage: app", " A#"),
     ("usage: app ", "[" ), ("usage: app ", "a|"), ("usage: app ", "<"), ("usage: app A ", "[ "), ("usage: app ", "{a,"), ("usage: app ", "-"),
@@ -46,6 +46,11 @@ SHAPES = (
     ("", "-a "), ("", "a\t"), ("", "\t"), ("  -a\t", "a\t"), ("", "\b"), ("", "a\b"), ("", "\r"), ("", "\x1b["), ("", "\x1b]"), ("", "\x1b"),
     ("", "\xff"), ("", "\xc2\x9b"), ("", "\xe2\x80\xa8"), ("", "\xe2\x80\xae"), ("", "\xc3\xa9"), ("", "\xf0\x9f\x98\x80"), ("", "\0"),
 )
+# Parts that are long themselves, so that only texts of 1 MiB have many of them.
+LONG_SHAPES = (
+    ("", "  -a" * 600 + "\n"), ("", "  -a <X>  " * 6000 + "\n"), ("  -a <X>  ", "one of " * 140 + "a."),
+)
+ALL_SHAPES = SHAPES + LONG_SHAPES
 
 
 def text_of(head, unit, size):
@@ -80,13 +85,13 @@ def loop_seconds():
 def main(words):
     """Prints a row for each shape, each measured in a process of its own, or measures the shape with this number."""
     if words[:1] == ["--shape"]:
-        times = [seconds(text_of(*SHAPES[int(words[1])], size)) for size in SIZES]
+        times = [seconds(text_of(*ALL_SHAPES[int(words[1])], size)) for size in SIZES]
         memory = resource.getrusage(resource.RUSAGE_SELF).ru_maxrss / 1024
         print("".join(f"{it:8.2f}" for it in times) + f"{memory:8.0f}")
         return
     print(f"A loop of ten million rounds takes {loop_seconds():.2f} s, on an idle machine about 0.25 s.")
     print(f"{'begins':24}{'repeated':28}  64 KiB 256 KiB   1 MiB      MB")
-    for number, (head, unit) in enumerate(SHAPES):
+    for number, (head, unit) in enumerate(ALL_SHAPES):
         if words and not re.search(words[0], head + unit):
             continue
         ran = subprocess.run([sys.executable, "-m", "importer.tests.hostile", "--shape", str(number)], stdout=subprocess.PIPE,
