@@ -49,7 +49,7 @@ def listed():
         ["tests/first-minutes", "--without-rt"],
         ["tests/shell_syntax.py"], ["tests/bash_texts.py"], ["tests/check.py"], ["tests/folders"], ["tests/offered.py"],
         ["tests/live"], ["tests/hostile.py"], ["tests/running.py"], ["tests/refusals.py", *whole_runs()],
-        ["tests/safe_live.py"], ["tests/values_from.py"], ["tests/import.py"],
+        ["tests/safe_live.py"], ["tests/values_from.py"], ["tests/import_parsers.py"], ["tests/import.py"],
     ]
     skipped = [
         ("tests/first-minutes", "the rest needs rt, and compiles complgen several times"),
