@@ -118,4 +118,4 @@ def data_folders() -> List[str]:
 
 def first_file(paths: Iterable[str]) -> Optional[str]:
     """Returns the first of some paths that is a file."""
-    return next(filter(os.path.isfile, paths), None)
+    return next((it for it in paths if os.path.isfile(it)), None)

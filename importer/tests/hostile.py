@@ -1,8 +1,10 @@
 """Texts that try to take long: `python3 -m importer.tests.hostile` prints the seconds and the memory that each takes.
 
 Each shape is a beginning, and a part that is repeated up to the size of the text. `#` in it is a number that counts up.
+With the words `--search SECONDS`, random shapes of the same signs are tried for so long, and the slowest are printed.
 """
 
+import random
 import re
 import resource
 import subprocess
@@ -13,6 +15,8 @@ from importer.read import read_help
 from importer.tree import tree_of, written
 
 SIZES = (1 << 16, 1 << 18, 1 << 20)
+# How many times the search repeats a sign.
+TIMES = (1, 1, 1, 2, 8, 150, 10_000)
 SHAPES = (
     # Lines.
     ("", "-\n"), ("", "-a\n"), ("", "\n"), ("", "\n\n \n"), ("", "x\n"), ("", "  -a\n"), ("", "  -a\n\n"), ("", "  --a=\n"),
@@ -29,7 +33,7 @@ SHAPES = (
     ("  -a <X>  ", "one of "), ("  -a <X>  ", "one of a, "), ("  -a <X>  one of ", "a#,"), ("  -a <X>  ", "(a|"), ("  -a <X>  ", "(a|b)x"),
     ("  -a <X>  ", "[possible values: "), ("  -a <X>  ", "can be 'a' or "), ("  -a <X>  ", "one of a, b. c "), ("  -a <X>  ", "X is 'a', "),
     ("  -a <X>  ", "values: " + "a or " * 180 + ". "), ("  -a <X>  ", "(default"), ("  -a <X>  one of a", "(default)"),
-    ("  -a <X>  ", "{a|"), ("  -a <X>  ", "{#|"), ("  -a <X>  ", "one of " * 140 + "a."),
+    ("  -a <X>  ", "{a|"), ("  -a <X>  ", "{#|"),
     # Usages.
     ("usage: app ", "[-a] "), ("usage: app", " [--a# X]"), ("usage: app ", "[-a "), ("usage: app [", "-a|"), ("usage: app", " A#"),
     ("usage: app ", "[" ), ("usage: app ", "a|"), ("usage: app ", "<"), ("usage: app A ", "[ "), ("usage: app ", "{a,"), ("usage: app ", "-"),
@@ -46,14 +50,19 @@ SHAPES = (
     ("", "-a "), ("", "a\t"), ("", "\t"), ("  -a\t", "a\t"), ("", "\b"), ("", "a\b"), ("", "\r"), ("", "\x1b["), ("", "\x1b]"), ("", "\x1b"),
     ("", "\xff"), ("", "\xc2\x9b"), ("", "\xe2\x80\xa8"), ("", "\xe2\x80\xae"), ("", "\xc3\xa9"), ("", "\xf0\x9f\x98\x80"), ("", "\0"),
 )
+# Parts that are long themselves, so that only texts of 1 MiB have many of them.
+LONG_SHAPES = (
+    ("", "  -a" * 600 + "\n"), ("", "  -a <X>  " * 6000 + "\n"), ("  -a <X>  ", "one of " * 140 + "a."),
+)
+ALL_SHAPES = SHAPES + LONG_SHAPES
 
 
 def text_of(head, unit, size):
     """Returns the bytes of a text of this shape and size."""
     if "#" in unit:
-        parts = (unit.replace("#", str(number)) for number in range(size // max(len(unit), 2)))
+        parts = (unit.replace("#", str(number)) for number in range(size // max(len(unit), 2) + 1))
     else:
-        parts = [unit] * (size // len(unit))
+        parts = [unit] * (size // len(unit) + 1)
     return (head + "".join(parts))[:size].encode("latin-1")
 
 
@@ -77,16 +86,31 @@ def loop_seconds():
     return time.process_time() - began
 
 
+def search(most_seconds):
+    """Prints the slowest of random shapes, which repeat signs of the shapes above many times."""
+    chance, slowest, end = random.Random(), [], time.monotonic() + most_seconds
+    signs = sorted({part for shape in SHAPES for part in shape if part})
+    while time.monotonic() < end:
+        repeated = [(chance.choice(signs), chance.choice(TIMES)) for _ in range(chance.randint(1, 5))]
+        head, unit = chance.choice(SHAPES)[0], "".join(sign * times for sign, times in repeated)
+        slowest.append((seconds(text_of(head, unit, SIZES[-1])), head, repeated))
+        slowest = sorted(slowest, reverse=True)[:10]
+    for took, head, repeated in slowest:
+        print(f"{took:8.2f}  {head!r} and then {' + '.join(f'{sign!r} * {times}' for sign, times in repeated)}")
+
+
 def main(words):
-    """Prints a row for each shape, each measured in a process of its own, or measures the shape with this number."""
+    """Prints a row for each shape, each measured in a process of its own, or measures the shape with this number, or
+    searches for slow shapes."""
+    if words[:1] == ["--search"]:
+        return search(float(words[1]))
     if words[:1] == ["--shape"]:
-        times = [seconds(text_of(*SHAPES[int(words[1])], size)) for size in SIZES]
+        times = [seconds(text_of(*ALL_SHAPES[int(words[1])], size)) for size in SIZES]
         memory = resource.getrusage(resource.RUSAGE_SELF).ru_maxrss / 1024
-        print("".join(f"{it:8.2f}" for it in times) + f"{memory:8.0f}")
-        return
+        return print("".join(f"{it:8.2f}" for it in times) + f"{memory:8.0f}")
     print(f"A loop of ten million rounds takes {loop_seconds():.2f} s, on an idle machine about 0.25 s.")
     print(f"{'begins':24}{'repeated':28}  64 KiB 256 KiB   1 MiB      MB")
-    for number, (head, unit) in enumerate(SHAPES):
+    for number, (head, unit) in enumerate(ALL_SHAPES):
         if words and not re.search(words[0], head + unit):
             continue
         ran = subprocess.run([sys.executable, "-m", "importer.tests.hostile", "--shape", str(number)], stdout=subprocess.PIPE,
