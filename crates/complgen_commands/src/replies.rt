@@ -3,8 +3,7 @@
 ghost use Rattle.std.specs.Prelude.{◌≡◌, IfErr, IfOk, Some, codes, length, map, string_bytes};
 ghost use Rattle.std.specs.Option.{option_copied};
 ghost use Rattle.cc_engine.specs.Paths.{PathsOf};
-ghost use Rattle.complgen_commands.specs.Ends.{EndsReply};
-ghost use Rattle.complgen_commands.specs.Replies.{AreFound, FindsNone};
+ghost use Rattle.complgen_commands.specs.Replies.{AreFound, EndsReply, FindsNone};
 
 use crate::refusals::{Refusal, error_refusal};
 use crate::tree_files::tree;
@@ -27,7 +26,7 @@ pub(crate) const CURRENT_DIR: &str = ".";
 ///
 /// A refusal with status 1 if the file cannot be read or describes no command, if `index` is out of
 /// range, if a write fails, or if an allocation fails.
-pub(crate) fn reply<D: Folder, W: Sink>(
+pub fn reply<D: Folder, W: Sink>(
     alloc: Global,
     words: &[String],
     index: usize,
