@@ -60,9 +60,9 @@ Ends taken failed Finds (Scripts bin out_dir tree) file values old new result = 
     (EndsScripts taken failed (string_bytes bin) (string_bytes out_dir) (string_bytes tree) old new
     file) result
 
--- What holds once a plan ends with this exit status. The script, or each of the scripts, reads back.
--- If `check` ends with 0, each premise of the promises about scripts holds. For the other plans, the
--- outcomes above include that the text reads back.
+-- The script, or each of the scripts, reads back. If `check` ends with the status 0, each premise of
+-- the promises about scripts holds. For the other plans, the outcomes above include that the text
+-- reads back.
 abbrev pub ReadsBack : Plan → Option (List ℕ) → ℕ → Type 0
 ReadsBack (Script shell bin tree) file status =
     NamedScriptReads (string_bytes shell) (string_bytes bin) file

@@ -1,4 +1,4 @@
-//! What a plan is carried out over.
+//! The bytes and the folder over which a plan is carried out.
 
 /// The bytes of the files that a plan reads, and the folder in which it completes paths.
 #[derive(Drop)]

@@ -1,6 +1,6 @@
 //! Carries out each plan.
 
-ghost use Rattle.std.specs.Prelude.{◌≡◌, IfOk, Some, codes, string_bytes};
+ghost use Rattle.std.specs.Prelude.{◌≡◌, IfOk, Some, codes, option_map, string_bytes};
 ghost use Rattle.std.specs.Option.{option_copied};
 ghost use Rattle.cc_engine.specs.Paths.{PathsOf};
 ghost use Rattle.complgen_plans.specs.Ends.{Ends, ReadsBack};
@@ -56,44 +56,51 @@ pub fn carry_out<R: Files, D: Folder, W: Sink>(
             words,
             ..
         } => {
-            let word = word_at(words, *index);
+            let word = word_at(words.as_slice(), *index);
             write_candidates(alloc, values.as_str(), word, given, out).and(Ok(0))
         }
         Plan::Wanted(index, _, words) => {
-            write_wanted(alloc, word_at(words, *index), given.tree, out).and(Ok(0))
+            let word = word_at(words.as_slice(), *index);
+            write_wanted(alloc, word, given.tree, out).and(Ok(0))
         }
         Plan::Check { bin, json, tree } => {
-            let bin = bin.as_ref().map(|bin| bin.as_str());
-            write_findings(alloc, bin, *json, tree_file(tree, given.tree), out)
+            let bin = text_of(bin);
+            let tree = tree_file(tree.as_str(), given.tree);
+            write_findings(alloc, bin, *json, tree, out)
         }
         Plan::Man { bin, tree } => {
-            write_man_page(alloc, bin.as_str(), tree_file(tree, given.tree), out).and(Ok(0))
+            let tree = tree_file(tree.as_str(), given.tree);
+            write_man_page(alloc, bin.as_str(), tree, out).and(Ok(0))
         }
         Plan::Scripts { bin, out_dir, tree } => {
-            let tree = tree_file(tree, given.tree);
+            let tree = tree_file(tree.as_str(), given.tree);
             scripts(files, alloc, bin.as_str(), out_dir.as_str(), tree, out).and(Ok(0))
         }
     }
 }
 
-// Returns the word at the index.
-fn word_at(words: &Vec<String>, index: usize) -> WordAt<'_>
-    ensures words { result.entry.words.now ≡ words.now.items }
-    ensures index { result.entry.index ≡ index }
+// Returns the text, if there is one.
+fn text_of(text: &Option<String>) -> Option<&str>
+    ensures { option_copied result ≡ option_map string_bytes text.now }
 {
-    WordAt {
-        words: words.as_slice(),
-        index,
+    match text {
+        Some(text) => Some(text.as_str()),
+        None => None,
     }
 }
 
-// Returns the tree file at `path`.
-fn tree_file<'f>(path: &'f String, bytes: Option<&'f [u8]>) -> TreeFile<'f>
-    ensures path { result.entry.path.now ≡ string_bytes path.now }
-    ensures bytes { option_copied result.entry.bytes ≡ option_copied bytes.entry }
+// Returns the word at the index.
+fn word_at(words: &[String], index: usize) -> WordAt<'_>
+    ensures words { result.words.now ≡ words.now }
+    ensures index { result.index ≡ index }
 {
-    TreeFile {
-        path: path.as_str(),
-        bytes,
-    }
+    WordAt { words, index }
+}
+
+// Returns the tree file at `path`.
+fn tree_file<'f>(path: &'f str, bytes: Option<&'f [u8]>) -> TreeFile<'f>
+    ensures path { result.path.now ≡ path.now }
+    ensures bytes { option_copied result.bytes ≡ option_copied bytes.entry }
+{
+    TreeFile { path, bytes }
 }

@@ -18,6 +18,4 @@ mod runs;
 #[cfg(test)]
 mod scripts;
 #[cfg(test)]
-mod values;
-#[cfg(test)]
 mod writers;

@@ -1,11 +1,14 @@
 //! Tree files that no document of cases can contain.
 
 use crate::checks::same;
-use crate::runs::{run, script};
+use crate::runs::{plan_of, run};
 use cc_base::Collected;
 use std::convert::AsStr;
 use std::process::Abort;
 use std::rt::Files;
+
+// The command line of a script.
+const SCRIPT: &[&str] = &["complgen", "script", "--shell", "elvish", "--bin", "app", "tree"];
 
 // A tree with a child.
 const PARENT: &str = "{\"name\": \"app\", \"disable_help_flag\": true, \"subcommands\": [
@@ -14,7 +17,7 @@ const PARENT: &str = "{\"name\": \"app\", \"disable_help_flag\": true, \"subcomm
 // Fails unless a script of this file ends with status 1 because it is not JSON, and nothing is
 // written.
 fn is_not_json<R: Abort + AllocGlobal + Files>(rt: &R, file: &[u8]) {
-    let plan = script(rt.alloc(), "elvish").expect(rt, "no plan");
+    let plan = plan_of(rt.alloc(), SCRIPT).expect(rt, "no plan");
     let mut out = Collected::new(rt.alloc());
     match run(rt, &plan, file, &mut out) {
         Ok(_) => panic!(rt; "it is carried out"),

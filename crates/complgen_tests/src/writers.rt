@@ -2,7 +2,7 @@
 //! bytes.
 
 use crate::checks::same;
-use crate::runs::{candidates, registration, run, script};
+use crate::runs::{plan_of, run};
 use cc_base::{Collected, Counted};
 use cc_fixtures::writers::Narrow;
 use complgen_commands::{Plan, Refusal};
@@ -12,7 +12,8 @@ use std::io::ErrorKind;
 use std::process::Abort;
 use std::rt::Files;
 
-const TREE: &[u8] = br#"{"name": "app", "subcommands": [{"name": "run"}]}"#;
+// A command whose argument has values from a command, which `check` notes.
+const TREE: &[u8] = br#"{"name": "app", "args": [{"id": "branch", "values_from": ["git", "branch"]}]}"#;
 
 // Carries out a plan over a writer with this room. Returns its end, and the bytes that the writer
 // then holds.
@@ -52,8 +53,8 @@ fn fails_in<R: Abort + AllocGlobal + Files>(rt: &R, plan: &Plan, room: usize, wh
 }
 
 // The same for every room; with room for everything, the plan is carried out.
-fn fails_to_write<R: Abort + AllocGlobal + Files>(rt: &R, plan: Result<Plan, AllocError>) {
-    let plan = plan.expect(rt, "no plan");
+fn fails_to_write<R: Abort + AllocGlobal + Files>(rt: &R, words: &[&str]) {
+    let plan = plan_of(rt.alloc(), words).expect(rt, "no plan");
     let whole = whole_of(rt, &plan).expect(rt, "no text");
     for room in 0..whole.len() {
         fails_in(rt, &plan, room, whole.as_str());
@@ -67,16 +68,35 @@ fn fails_to_write<R: Abort + AllocGlobal + Files>(rt: &R, plan: Result<Plan, All
 }
 
 #[test]
-fn a_script_reports_that_writing_failed(rt: HostRuntime) {
-    fails_to_write(&rt, script(rt.alloc(), "elvish"));
+fn scripts_and_registrations_report_that_writing_failed(rt: HostRuntime) {
+    fails_to_write(
+        &rt,
+        &["complgen", "script", "--shell", "elvish", "--bin", "app", "tree"],
+    );
+    fails_to_write(
+        &rt,
+        &["complgen", "register", "--shell", "zsh", "--bin", "app", "tree"],
+    );
+    fails_to_write(&rt, &["complgen", "man", "--bin", "app", "tree"]);
 }
 
 #[test]
-fn a_registration_reports_that_writing_failed(rt: HostRuntime) {
-    fails_to_write(&rt, registration(rt.alloc(), "zsh", "app"));
+fn replies_report_that_writing_failed(rt: HostRuntime) {
+    fails_to_write(
+        &rt,
+        &["complgen", "candidates", "--index", "1", "tree", "--", "app", ""],
+    );
+    fails_to_write(
+        &rt,
+        &["complgen", "candidates", "--index", "1", "--values", "lines", "tree", "--", "app", ""],
+    );
+    fails_to_write(
+        &rt,
+        &["complgen", "wanted", "--index", "1", "tree", "--", "app", ""],
+    );
 }
 
 #[test]
-fn candidates_report_that_writing_failed(rt: HostRuntime) {
-    fails_to_write(&rt, candidates(rt.alloc(), 1, &["app", ""]));
+fn check_reports_that_writing_failed(rt: HostRuntime) {
+    fails_to_write(&rt, &["complgen", "check", "tree"]);
 }
