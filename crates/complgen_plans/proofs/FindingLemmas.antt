@@ -36,9 +36,12 @@ module _ {S : Type 0} (taken : S → List ℕ) (failed : S → Failures) (bin : 
       → EndsFindings taken failed bin json path old new file (Ok status)
   findings_told old new file bytes report clean status is form tells ends = subst
       (λ (f : Option (List ℕ)). EndsFindings taken failed bin json path old new f (Ok status))
-      (sym is)
-      (clean, tells, subst (λ (r : Report).
-      EndsCheck taken failed bin r old new (Some bytes) (Ok clean)) form ends)
+      (sym is) (
+        clean,
+        tells,
+        subst (λ (r : Report).
+            EndsCheck taken failed bin r old new (Some bytes) (Ok clean)) form ends,
+      )
 
 -- if the status is 0, the premises hold
 pub findings_sound : (bin : Option (List ℕ)) (file : Option (List ℕ)) (bytes : List ℕ) (clean : Bool)

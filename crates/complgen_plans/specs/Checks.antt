@@ -1,5 +1,5 @@
 -- The outcomes of `check`, with its exit status.
-use Rattle.std.specs.Prelude.{⊥, ◌≡◌, ℕ, Bool, true, false, List, Option, None, Some, Result, Ok, Err}
+use Rattle.std.specs.Prelude.{◌≡◌, ℕ, Bool, true, false, List, Option, None, Some, Result, Ok, Err}
 use Rattle.cc_base.specs.declared.failures.Failures.{Failures}
 use Rattle.complgen_check.specs.Checking.{EndsCheck}
 use Rattle.complgen_check.specs.declared.report.Report.{Report}

@@ -1,5 +1,5 @@
 -- The outcomes of carrying out a plan.
-use Rattle.std.specs.Prelude.{⊤, ⊥, ◌≡◌, ℕ, List, Option, None, Some, Result, Ok, Err, map, option_map, string_bytes}
+use Rattle.std.specs.Prelude.{⊤, ◌≡◌, ℕ, List, Option, None, Some, Result, Ok, Err, map, option_map, string_bytes}
 use Rattle.cc_base.specs.declared.failures.Failures.{Failures}
 use Rattle.cc_shell.specs.declared.shell.Shell.{Shell}
 use Rattle.complgen_check.specs.Checking.{AreSound}

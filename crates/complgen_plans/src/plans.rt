@@ -48,7 +48,8 @@ pub fn carry_out<R: Files, D: Folder, W: Sink>(
             register(alloc, shell.as_str(), bin.as_str(), given.tree, out).and(Ok(0))
         }
         Plan::Candidates(index, _, words) => {
-            reply(alloc, words.as_slice(), *index, given.tree, given.folder, out).and(Ok(0))
+            let word = word_at(words.as_slice(), *index);
+            reply(alloc, word, given.tree, given.folder, out).and(Ok(0))
         }
         Plan::CandidatesWith {
             values,

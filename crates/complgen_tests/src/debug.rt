@@ -7,8 +7,8 @@ use std::alloc::AllocError;
 use std::process::Abort;
 
 // Fails unless this is the text of the plan of a command line.
-fn shows<R: Abort + AllocGlobal>(rt: &R, words: &[&str], wanted: &str) {
-    let plan = plan_of(rt.alloc(), words).expect(rt, "no plan");
+fn shows<R: Abort + AllocGlobal>(rt: &R, line: &str, wanted: &str) {
+    let plan = plan_of(rt.alloc(), line).expect(rt, "no plan");
     is(rt, format!(in rt.alloc(); "{plan:?}"), wanted);
 }
 
@@ -16,7 +16,7 @@ fn shows<R: Abort + AllocGlobal>(rt: &R, words: &[&str], wanted: &str) {
 fn debug_shows_each_field(rt: HostRuntime) {
     shows(
         &rt,
-        &["complgen", "script", "--shell", "elvish", "--bin", "app", "tree"],
+        "complgen script --shell elvish --bin app tree",
         "Script(\"elvish\", \"app\", \"tree\")",
     );
     let refusal = Refusal::from(AllocError);
@@ -28,7 +28,7 @@ fn debug_shows_each_field(rt: HostRuntime) {
 fn debug_shows_the_words(rt: HostRuntime) {
     shows(
         &rt,
-        &["complgen", "candidates", "--index", "1", "tree", "--", "app", ""],
+        "complgen candidates --index 1 tree -- app ",
         "Candidates(1, \"tree\", [\"app\", \"\"])",
     );
 }
@@ -37,7 +37,7 @@ fn debug_shows_the_words(rt: HostRuntime) {
 fn debug_shows_the_file_of_values(rt: HostRuntime) {
     shows(
         &rt,
-        &["complgen", "candidates", "--index", "1", "--values", "lines", "tree", "--", "app"],
+        "complgen candidates --index 1 --values lines tree -- app",
         "CandidatesWith { values: \"lines\", index: 1, tree: \"tree\", words: [\"app\"] }",
     );
 }

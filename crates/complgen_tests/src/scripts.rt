@@ -8,7 +8,7 @@ use std::process::Abort;
 use std::rt::Files;
 
 // The command line of a script.
-const SCRIPT: &[&str] = &["complgen", "script", "--shell", "elvish", "--bin", "app", "tree"];
+const SCRIPT: &str = "complgen script --shell elvish --bin app tree";
 
 // A tree with a child.
 const PARENT: &str = "{\"name\": \"app\", \"disable_help_flag\": true, \"subcommands\": [

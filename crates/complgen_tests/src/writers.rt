@@ -13,7 +13,8 @@ use std::process::Abort;
 use std::rt::Files;
 
 // A command whose argument has values from a command, which `check` notes.
-const TREE: &[u8] = br#"{"name": "app", "args": [{"id": "branch", "values_from": ["git", "branch"]}]}"#;
+const TREE: &[u8] =
+    br#"{"name": "app", "args": [{"id": "branch", "values_from": ["git", "branch"]}]}"#;
 
 // Carries out a plan over a writer with this room. Returns its end, and the bytes that the writer
 // then holds.
@@ -53,8 +54,8 @@ fn fails_in<R: Abort + AllocGlobal + Files>(rt: &R, plan: &Plan, room: usize, wh
 }
 
 // The same for every room; with room for everything, the plan is carried out.
-fn fails_to_write<R: Abort + AllocGlobal + Files>(rt: &R, words: &[&str]) {
-    let plan = plan_of(rt.alloc(), words).expect(rt, "no plan");
+fn fails_to_write<R: Abort + AllocGlobal + Files>(rt: &R, line: &str) {
+    let plan = plan_of(rt.alloc(), line).expect(rt, "no plan");
     let whole = whole_of(rt, &plan).expect(rt, "no text");
     for room in 0..whole.len() {
         fails_in(rt, &plan, room, whole.as_str());
@@ -69,34 +70,22 @@ fn fails_to_write<R: Abort + AllocGlobal + Files>(rt: &R, words: &[&str]) {
 
 #[test]
 fn scripts_and_registrations_report_that_writing_failed(rt: HostRuntime) {
-    fails_to_write(
-        &rt,
-        &["complgen", "script", "--shell", "elvish", "--bin", "app", "tree"],
-    );
-    fails_to_write(
-        &rt,
-        &["complgen", "register", "--shell", "zsh", "--bin", "app", "tree"],
-    );
-    fails_to_write(&rt, &["complgen", "man", "--bin", "app", "tree"]);
+    fails_to_write(&rt, "complgen script --shell elvish --bin app tree");
+    fails_to_write(&rt, "complgen register --shell zsh --bin app tree");
+    fails_to_write(&rt, "complgen man --bin app tree");
 }
 
 #[test]
 fn replies_report_that_writing_failed(rt: HostRuntime) {
+    fails_to_write(&rt, "complgen candidates --index 1 tree -- app ");
     fails_to_write(
         &rt,
-        &["complgen", "candidates", "--index", "1", "tree", "--", "app", ""],
+        "complgen candidates --index 1 --values lines tree -- app ",
     );
-    fails_to_write(
-        &rt,
-        &["complgen", "candidates", "--index", "1", "--values", "lines", "tree", "--", "app", ""],
-    );
-    fails_to_write(
-        &rt,
-        &["complgen", "wanted", "--index", "1", "tree", "--", "app", ""],
-    );
+    fails_to_write(&rt, "complgen wanted --index 1 tree -- app ");
 }
 
 #[test]
 fn check_reports_that_writing_failed(rt: HostRuntime) {
-    fails_to_write(&rt, &["complgen", "check", "tree"]);
+    fails_to_write(&rt, "complgen check tree");
 }
