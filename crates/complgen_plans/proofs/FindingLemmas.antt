@@ -1,5 +1,5 @@
 -- The outcomes of writing what is wrong with a tree file.
-use Rattle.std.proofs.Common.{◌≡◌, ℕ, Bool, true, false, IsTrue, List, Option, None, Some, Result, Ok, Err, refl, subst, sym}
+use Rattle.std.proofs.Common.{◌≡◌, ℕ, Bool, true, false, IsTrue, List, Option, None, Some, Ok, Err, refl, subst, sym}
 use Rattle.cc_base.specs.declared.failures.Failures.{Failures}
 use Rattle.complgen_check.specs.Checking.{AreSound, EndsCheck}
 use Rattle.complgen_check.specs.declared.report.Report.{Report}
