@@ -26,7 +26,9 @@ from source import CLAUSE, aliases, exported, find, implementations, items, priv
 
 LIST = os.path.join(common.TOP, "tools", "calls.txt")
 MODULES = ["", "aot", "aot::utils", "command", "describe", "engine", "env", "parser", "program", "quote"]
-CRATES = ["complgen_tree_file", "complgen_command_line", "complgen_commands", "complgen_check", "complgen_c"]
+CRATES = [
+    "complgen_tree_file", "complgen_command_line", "complgen_commands", "complgen_check", "complgen_plans", "complgen_c",
+]
 LAW = {"Model", "Drop"}
 SHOWN = {"ThisError": "Error"}
 

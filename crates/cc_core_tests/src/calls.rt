@@ -3,13 +3,10 @@
 
 use crate::arguments::with_shorts;
 use crate::checks::{is, same};
-use crate::fixtures::{build, tree};
-use cc_arg::{Arg, ArgAction};
+use cc_arg::{Arg, ArgAction, conflicting_ids};
 use cc_base::{Error, Text};
 use cc_command::Command;
-use cc_fixtures::trees::NESTED;
 use std::alloc::Global;
-use std::process::Abort;
 
 // Adds the texts, with a space after each.
 fn push_all(line: &mut String, texts: &[Text]) -> Result<(), Error> {
@@ -20,12 +17,13 @@ fn push_all(line: &mut String, texts: &[Text]) -> Result<(), Error> {
     Ok(())
 }
 
-// Returns the visible longs, the hidden longs and the value names.
+// Returns the visible longs, the hidden longs, the value names and the ids in conflict.
 fn names(alloc: Global, arg: &Arg) -> Result<String, Error> {
     let mut line = String::new(alloc);
     push_all(&mut line, arg.get_visible_aliases())?;
     push_all(&mut line, arg.get_aliases())?;
     push_all(&mut line, arg.get_value_names())?;
+    push_all(&mut line, conflicting_ids(arg))?;
     Ok(line)
 }
 
@@ -38,9 +36,11 @@ fn file(alloc: Global) -> Result<Arg, Error> {
     flag.visible_alias(path)?.alias(old)
 }
 
+// Returns this flag with the name of a value and a conflict.
 fn with_value_name(alloc: Global) -> Result<Arg, Error> {
     let name = String::from_str(alloc, "FILE")?;
-    file(alloc)?.value_name(name)
+    let other = String::from_str(alloc, "other")?;
+    file(alloc)?.value_name(name)?.conflicts_with(other)
 }
 
 #[test]
@@ -49,7 +49,7 @@ fn an_argument_keeps_its_names_and_is_copied(rt: HostRuntime) {
     same(&rt, arg.get_visible_short_aliases(), ['p'].as_slice());
     same(&rt, arg.get_short_aliases(), ['q'].as_slice());
     let copy = arg.try_clone(rt.alloc()).expect(&rt, "no copy");
-    is(&rt, names(rt.alloc(), &copy), "path old FILE ");
+    is(&rt, names(rt.alloc(), &copy), "path old FILE other ");
     drop(copy);
     drop(arg);
 }
@@ -91,18 +91,4 @@ fn a_command_keeps_its_aliases_and_its_arguments(rt: HostRuntime) {
     is(&rt, aliases(rt.alloc(), &command), "tests t ");
     same(&rt, command.get_arguments().len(), 1);
     drop(command);
-}
-
-// Returns a command that is ready for generators: with a bin name, and built.
-fn ready(rt: &impl Abort, alloc: Global, text: &str) -> Command {
-    let bin_name = String::from_str(alloc, "app").expect(rt, "no name");
-    build(rt, alloc, tree(rt, alloc, text).bin_name(bin_name))
-}
-
-#[test]
-fn a_command_keeps_its_children_and_is_built(rt: HostRuntime) {
-    let command = ready(&rt, rt.alloc(), NESTED);
-    let state = (command.get_subcommands().len(), command.is_ready());
-    drop(command);
-    same(&rt, state, (1, true));
 }

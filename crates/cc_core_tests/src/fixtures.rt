@@ -28,14 +28,6 @@ pub(crate) const APP_WITH_INPUT: &str = r#"{"name": "app", "args": [
     {"id": "verbose", "short": "v", "long": "verbose", "help": "Be loud", "action": "SetTrue"},
     {"id": "out", "long": "out", "action": "Set"}, {"id": "input"}]}"#;
 
-/// `app` with a child `run`, as in `NESTED`, and a child `list`. Nothing is generated.
-pub(crate) const NESTED_AND_LIST: &str = r#"{"name": "app", "disable_help_flag": true,
-    "disable_help_subcommand": true, "subcommands": [
-        {"name": "run", "disable_help_flag": true, "disable_help_subcommand": true,
-            "visible_aliases": ["r"], "subcommands": [
-                {"name": "job", "disable_help_flag": true, "disable_help_subcommand": true}]},
-        {"name": "list", "disable_help_flag": true, "disable_help_subcommand": true}]}"#;
-
 /// `myapp` with the bin name `my-cmd`, a version and the children `test` and `hello`. `test` has a
 /// flag and the child `config`.
 pub(crate) const MY_APP: &str = r#"{"name": "myapp", "bin_name": "my-cmd", "version": "3.0",

@@ -1,63 +1,11 @@
-//! Tests of the arguments and names that a command lists by kind, and of the commands that are
-//! plain or have quiet values.
+//! Tests of the commands that are plain or have quiet values.
 
-use crate::checks::same;
 use crate::fixtures::{APP_WITH_INPUT, built_tree, tree};
-use cc_arg::Arg;
 use cc_base::is_plain_name;
 use cc_command::Command;
-use cc_fixtures::trees::{NESTED, QUOTED};
+use cc_fixtures::trees::QUOTED;
 use std::alloc::Global;
 use std::process::Abort;
-
-// Returns the id, or an empty text if there is no argument.
-fn id(argument: Option<&Arg>) -> &str {
-    match argument {
-        Some(argument) => argument.get_id(),
-        None => "",
-    }
-}
-
-fn has_each_kind(rt: &impl Abort, app: &Command) {
-    let mut options = app.get_opts();
-    same(rt, id(options.next()), "out");
-    assert!(rt; options.next().is_none());
-    let mut flags = app.get_flags();
-    same(rt, id(flags.next()), "verbose");
-    same(rt, id(flags.next()), "help");
-    assert!(rt; flags.next().is_none());
-    let mut positionals = app.get_positionals();
-    same(rt, id(positionals.next()), "input");
-    assert!(rt; positionals.next().is_none());
-}
-
-#[test]
-fn arguments_are_listed_by_kind(rt: HostRuntime) {
-    let app = built_tree(&rt, rt.alloc(), APP_WITH_INPUT);
-    has_each_kind(&rt, &app);
-    drop(app);
-}
-
-// Returns the child to which a word leads, or the command itself if the word names no child.
-fn child<'a>(command: &'a Command, word: &str) -> &'a Command {
-    command.find_subcommand(word).unwrap_or(command)
-}
-
-fn is_run(rt: &impl Abort, run: &Command) {
-    let mut names = run.get_name_and_visible_aliases();
-    same(rt, names.next(), Some("run"));
-    same(rt, names.next(), Some("r"));
-    same(rt, names.next(), None);
-    assert!(rt; run.has_subcommands());
-    assert!(rt; !child(run, "job").has_subcommands());
-}
-
-#[test]
-fn a_command_is_shown_by_its_name_and_visible_aliases(rt: HostRuntime) {
-    let app = tree(&rt, rt.alloc(), NESTED);
-    is_run(&rt, child(&app, "r"));
-    drop(app);
-}
 
 fn is_plain(command: Command) -> bool {
     let plain = command.is_plain();

@@ -1,5 +1,4 @@
-//! Tests of scripts and their parts: sinks, texts, arguments, trees, tree files, lists, visits and
-//! quoted words.
+//! Tests of scripts and their parts: sinks, arguments, trees, tree files, lists and quoted words.
 #![tactic(auto)]
 
 #[cfg(test)]
@@ -17,10 +16,6 @@ mod kinds;
 #[cfg(test)]
 mod lists;
 #[cfg(test)]
-mod lookup;
-#[cfg(test)]
-mod pieces;
-#[cfg(test)]
 mod quoting;
 #[cfg(test)]
 mod scripts;
@@ -34,7 +29,3 @@ mod tree_file;
 mod trees;
 #[cfg(test)]
 mod values;
-#[cfg(test)]
-mod visits;
-#[cfg(test)]
-mod warnings;

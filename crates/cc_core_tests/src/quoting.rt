@@ -1,14 +1,13 @@
 //! Tests of the writers and readers of quoted words.
 
 use crate::checks::{is, is_none, same};
-use cc_base::{Collected, Error};
+use cc_base::Error;
 use cc_quote::{
-    ElvishEscape, PowershellEscape, bash_double, bash_double_word, elvish_escape, elvish_word,
-    fish_double, fish_escape, fish_help_for_eval, fish_quote, fish_quote_for_eval, fish_word,
-    posix_quote, posix_word, powershell_escape, powershell_word, push_escaped, put_escaped,
-    zsh_escape_help, zsh_escape_value, zsh_reply_help, zsh_reply_value, zsh_unescape,
+    bash_double, bash_double_word, elvish_escape, elvish_word, fish_double, fish_escape,
+    fish_help_for_eval, fish_quote, fish_quote_for_eval, fish_word, posix_quote, posix_word,
+    powershell_escape, powershell_word, zsh_escape_help, zsh_escape_value, zsh_reply_help,
+    zsh_reply_value, zsh_unescape,
 };
-use std::alloc::{AllocError, Global};
 use std::process::Abort;
 
 // Fails unless the word `word` was read, followed by the text `rest`.
@@ -62,28 +61,6 @@ fn elvish_reads_words(rt: HostRuntime) {
     );
     reads(&rt, elvish_word(alloc, "it's more"), "it's", " more");
     is_none(&rt, elvish_word(alloc, "'it''s"));
-}
-
-// Returns what escapes write to a sink.
-fn escape(alloc: Global) -> Result<String, Error> {
-    let mut sink = Collected::new(alloc);
-    put_escaped(&mut sink, &ElvishEscape, "it's\n’")?;
-    put_escaped(&mut sink, &PowershellEscape, "’it's\n'")?;
-    Ok(String::from_utf8_lossy(alloc, sink.as_slice())?)
-}
-
-// Returns a text to which two escapes appended.
-fn append_escaped(alloc: Global) -> Result<String, AllocError> {
-    let mut made = String::from_str(alloc, "'")?;
-    push_escaped(&PowershellEscape, "’'–“b”", &mut made)?;
-    push_escaped(&ElvishEscape, "’'", &mut made)?;
-    Ok(made)
-}
-
-#[test]
-fn an_escape_is_written_and_appended(rt: HostRuntime) {
-    is(&rt, escape(rt.alloc()), "it''s ’'’it''s ''");
-    is(&rt, append_escaped(rt.alloc()), "''’''–“b”’''");
 }
 
 #[test]

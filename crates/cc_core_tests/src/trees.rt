@@ -1,52 +1,14 @@
 //! Tests of trees, as their getters return them.
 
 use crate::checks::{is, same};
-use crate::fixtures::{EXCLUDING, MY_APP, build, built_tree, tree};
+use crate::fixtures::{EXCLUDING, build, tree};
 use cc_base::Error;
 use cc_command::Command;
-use cc_fixtures::trees::{APP, GLOBAL, NESTED};
+use cc_fixtures::trees::NESTED;
 use cc_generator::utils::find_subcommand_with_path;
 use std::alloc::Global;
 use std::fmt::Write;
 use std::process::Abort;
-
-// Returns the ids of the arguments, with a space after each.
-fn ids(alloc: Global, command: &Command) -> Result<String, Error> {
-    let mut ids = String::new(alloc);
-    for argument in command.get_arguments() {
-        ids.push_str(argument.get_id())?;
-        ids.push(' ')?;
-    }
-    Ok(ids)
-}
-
-#[test]
-fn building_twice_adds_help_once(rt: HostRuntime) {
-    let once = built_tree(&rt, rt.alloc(), APP);
-    is(&rt, ids(rt.alloc(), &once), "verbose out help ");
-    let twice = build(&rt, rt.alloc(), once);
-    is(&rt, ids(rt.alloc(), &twice), "verbose out help ");
-    drop(twice);
-}
-
-// Returns the ids of the arguments of the command to which a path leads, or `none` if it leads to
-// none.
-fn ids_at(alloc: Global, command: &Command, path: &[&str]) -> Result<String, Error> {
-    match find_subcommand_with_path(command, path) {
-        Some(found) => ids(alloc, found),
-        None => Ok(String::from_str(alloc, "none")?),
-    }
-}
-
-#[test]
-fn a_global_argument_goes_to_the_children_that_were_given(rt: HostRuntime) {
-    let command = built_tree(&rt, rt.alloc(), GLOBAL);
-    is(&rt, ids_at(rt.alloc(), &command, &["run"]), "json help ");
-    is(&rt, ids_at(rt.alloc(), &command, &["help"]), "");
-    is(&rt, ids_at(rt.alloc(), &command, &["help", "run"]), "");
-    is(&rt, ids_at(rt.alloc(), &command, &["help", "help"]), "");
-    drop(command);
-}
 
 // Returns a command that was built, and then built again under another name.
 fn rename(rt: &impl Abort, alloc: Global, command: Command) -> Command {
@@ -80,13 +42,6 @@ fn a_path_of_names_and_aliases_leads_to_a_command(rt: HostRuntime) {
     same(&rt, name_at(&command, &["r", "job"]), Some("job"));
     same(&rt, name_at(&command, &["job"]), None);
     same(&rt, name_at(&command, &[]), Some("app"));
-    drop(command);
-}
-
-#[test]
-fn a_path_leads_through_unbuilt_commands(rt: HostRuntime) {
-    let command = tree(&rt, rt.alloc(), MY_APP);
-    same(&rt, name_at(&command, &["test", "config"]), Some("config"));
     drop(command);
 }
 

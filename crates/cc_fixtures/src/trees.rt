@@ -45,28 +45,9 @@ pub const COLORED: &str = r#"{"name": "app", "args": [
         "possible_values": [{"name": "auto"}, {"name": "never", "hide": true}]}],
     "subcommands": [{"name": "run"}]}"#;
 
-/// A tree file: `app` with a global flag `--json`, which conflicts with `yaml`, a flag `--yaml` and
-/// a child `run`.
-pub const GLOBAL: &str = r#"{"name": "app", "args": [
-    {"id": "json", "long": "json", "action": "SetTrue", "global": true,
-        "conflicts_with": ["yaml"]},
-    {"id": "yaml", "long": "yaml", "action": "SetTrue"}],
-    "subcommands": [{"name": "run"}]}"#;
-
-/// A tree file: `app` with an option `--opt`, a positional `first` that accepts words with hyphens,
-/// and a positional `second` that is `x` or `y`.
-pub const HYPHENS: &str = r#"{"name": "app", "args": [
-    {"id": "opt", "long": "opt", "action": "Set"},
-    {"id": "first", "allow_hyphen_values": true},
-    {"id": "second", "possible_values": [{"name": "x"}, {"name": "y"}]}]}"#;
-
 /// A tree file: `app` with a positional that is the path of a file, and without a flag.
 pub const FILE: &str = r#"{"name": "app", "disable_help_flag": true, "args": [
     {"id": "file", "value_hint": "FilePath"}]}"#;
-
-/// A tree file: `app` with a positional that is any path, and without a flag.
-pub const ANY: &str = r#"{"name": "app", "disable_help_flag": true, "args": [
-    {"id": "path", "value_hint": "AnyPath"}]}"#;
 
 /// Reads the command in the tree file `text`.
 ///

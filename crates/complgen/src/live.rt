@@ -57,12 +57,12 @@ struct TreeFile {
 /// A refusal with status 1.
 pub(crate) fn complete<R: Env + Files + Input + Print + Eprint + AllocGlobal>(
     rt: &R,
-    env: &EnvValues,
     words: Vec<String>,
 ) -> Result<u8, Refusal> {
-    let folders = tree_folders(rt.alloc(), env)?;
+    let env = variables(rt, &VARIABLES)?;
+    let folders = tree_folders(rt.alloc(), &env)?;
     let folder = RealFolder::new(rt, home(rt)?).with_modes();
-    print(rt, env, words.as_slice(), folders.as_slice(), &folder)
+    print(rt, &env, words.as_slice(), folders.as_slice(), &folder)
 }
 
 // Writes what a shell requests, over tree files in `folders` and paths in `folder`.
@@ -210,13 +210,4 @@ fn built_in(alloc: Global, word: &str) -> Result<TreeFile, AllocError> {
         bytes = Some(String::from_str(alloc, OWN_TREE)?.into_bytes());
     }
     Ok(TreeFile { path, bytes })
-}
-
-/// Returns the values of the environment variables on which a request depends.
-///
-/// # Errors
-///
-/// `AllocError` if an allocation fails.
-pub(crate) fn environment<R: Env + AllocGlobal>(rt: &R) -> Result<EnvValues, AllocError> {
-    variables(rt, &VARIABLES)
 }

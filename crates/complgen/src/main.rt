@@ -7,6 +7,7 @@ mod output;
 mod plans;
 
 use crate::plans::carry_out_plan;
+use cc_replies::variables;
 use complgen_command_line::{is_shell_request, plan};
 use complgen_commands::{Refusal, WRITE_FAILED};
 use std::alloc::AllocError;
@@ -31,12 +32,13 @@ fn main(rt: HostRuntime) -> ExitCode {
     }
 }
 
-// Replies to a shell, or carries out what the command line asks for. Returns the exit status.
+// Replies to a shell, or carries out what the command line asks for. Returns the exit status. Most
+// environment variables are read only for a reply.
 fn carry_out<R: Env + Files + Input + Print + Eprint + AllocGlobal>(rt: &R) -> Result<u8, Refusal> {
     let words = words(rt)?;
-    let env = live::environment(rt)?;
+    let env = variables(rt, &["COMPLETE"])?;
     if is_shell_request(&env, words.as_slice()) {
-        return live::complete(rt, &env, words);
+        return live::complete(rt, words);
     }
     let plan = plan(rt.alloc(), words.as_slice())?;
     carry_out_plan(rt, &plan)

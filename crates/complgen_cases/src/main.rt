@@ -47,7 +47,7 @@ fn failures_of<R: Files + Print + AllocGlobal>(rt: &R, name: &str) -> io::Result
 
 // Runs the cases of a document. Returns the number of failed cases, plus one for each line that is
 // not read.
-fn failures_in<R: Print + AllocGlobal>(rt: &R, document: &Document) -> io::Result<usize> {
+fn failures_in<R: Files + Print + AllocGlobal>(rt: &R, document: &Document) -> io::Result<usize> {
     for line in &document.strays {
         println!(rt; "not read: {line}")?;
     }
@@ -61,9 +61,13 @@ fn failures_in<R: Print + AllocGlobal>(rt: &R, document: &Document) -> io::Resul
 }
 
 // Runs a case, and prints the actual output if it fails. Returns whether it passed.
-fn is_kept<R: Print + AllocGlobal>(rt: &R, document: &Document, case: &Case) -> io::Result<bool> {
+fn is_kept<R: Files + Print + AllocGlobal>(
+    rt: &R,
+    document: &Document,
+    case: &Case,
+) -> io::Result<bool> {
     let alloc = rt.alloc();
-    let Ok(outcome) = run_line(alloc, document, case.command.as_str()) else {
+    let Ok(outcome) = run_line(rt, alloc, document, case.command.as_str()) else {
         println!(rt; "{}: {}\nout of memory", case.title, case.command)?;
         return Ok(false);
     };

@@ -8,14 +8,16 @@ use cc_env::{CompleteEnv, EnvCompleter};
 use cc_paths::MemoryFolder;
 use cc_quote::posix_word;
 use cc_replies::EnvValues;
-use complgen_check::{Report, check};
 use complgen_command_line::plan;
-use complgen_commands::{
-    Plan, Refusal, WordAt, reply_with, run, unreadable, unreadable_values, write_wanted,
-};
+use complgen_commands::{Plan, Refusal};
+use complgen_plans::{Given, carry_out};
 use complgen_tree_file::read_tree;
 use std::alloc::{AllocError, Global};
 use std::convert::AsStr;
+use std::rt::Files;
+
+// The exit status of a plan that writes files, which no case carries out.
+const WRITES_FILES: u8 = 3;
 
 /// The output of a command line, on stdout and stderr, and its exit status.
 #[derive(Drop)]
@@ -27,7 +29,7 @@ pub(crate) struct Outcome {
 }
 
 /// Runs a command line: words quoted as for a shell, after variables such as `NAME=VALUE`. The
-/// files are those of the document.
+/// files are those of the document. `complgen scripts` is not carried out, since it writes files.
 ///
 /// `complgen` is the program with that name. Any other program completes itself. The variable
 /// `TREE` names the tree of its command, `PWD` is its current directory, and `BIN` and `COMPLETER`
@@ -37,7 +39,8 @@ pub(crate) struct Outcome {
 /// # Errors
 ///
 /// `Memory` if an allocation fails.
-pub(crate) fn run_line(
+pub(crate) fn run_line<R: Files>(
+    files: &R,
     alloc: Global,
     document: &Document,
     command: &str,
@@ -48,7 +51,7 @@ pub(crate) fn run_line(
         .first()
         .is_some_and(|word| word.as_str() == "complgen");
     if is_complgen {
-        return Ok(complgen(alloc, document, words.as_slice())?);
+        return Ok(complgen(files, alloc, document, words.as_slice())?);
     }
     completed(alloc, document, &variables, words)
 }
@@ -99,9 +102,14 @@ fn variable(alloc: Global, word: &str) -> Result<Option<(String, String)>, Alloc
 }
 
 // Returns the output of `complgen` for these words.
-fn complgen(alloc: Global, document: &Document, words: &[String]) -> Result<Outcome, AllocError> {
+fn complgen<R: Files>(
+    files: &R,
+    alloc: Global,
+    document: &Document,
+    words: &[String],
+) -> Result<Outcome, AllocError> {
     let mut out = Collected::new(alloc);
-    let carried_out = carry_out(alloc, document, words, &mut out);
+    let carried_out = carry_out_words(files, alloc, document, words, &mut out);
     let mut text = String::from_utf8_lossy(alloc, out.as_slice())?;
     match carried_out {
         Ok(status) => Ok(Outcome { status, text }),
@@ -114,54 +122,23 @@ fn complgen(alloc: Global, document: &Document, words: &[String]) -> Result<Outc
 }
 
 // Does what the words request, and returns the exit status. No case writes files.
-fn carry_out(
+fn carry_out_words<R: Files>(
+    files: &R,
     alloc: Global,
     document: &Document,
     words: &[String],
     out: &mut Collected,
 ) -> Result<u8, Refusal> {
     let plan = plan(alloc, words)?;
-    let file = document.file(plan.tree());
-    match &plan {
-        Plan::Check { bin, json, tree } => {
-            if file.is_none() {
-                return Err(unreadable(alloc, tree.as_str()));
-            }
-            let bin = bin.as_ref().map(|bin| bin.as_str());
-            let report = if *json { Report::Json } else { Report::Lines };
-            let is_clean = check(alloc, bin, report, file, out)?;
-            Ok(u8::from(!is_clean))
-        }
-        Plan::Scripts { .. } | Plan::Man { .. } => Ok(3),
-        Plan::CandidatesWith {
-            values,
-            index,
-            words,
-            ..
-        } => {
-            let Some(lines) = document.file(values.as_str()) else {
-                return Err(unreadable_values(alloc, values.as_str()));
-            };
-            let word = WordAt {
-                words: words.as_slice(),
-                index: *index,
-            };
-            reply_with(alloc, word, lines, file, &folders(), out)?;
-            Ok(0)
-        }
-        Plan::Wanted(index, _, words) => {
-            let word = WordAt {
-                words: words.as_slice(),
-                index: *index,
-            };
-            write_wanted(alloc, word, file, out)?;
-            Ok(0)
-        }
-        Plan::Script(..) | Plan::Register(..) | Plan::Candidates(..) => {
-            run(alloc, &plan, file, &folders(), out)?;
-            Ok(0)
-        }
+    if matches!(&plan, Plan::Scripts { .. }) {
+        return Ok(WRITES_FILES);
     }
+    let given = Given {
+        tree: document.file(plan.tree()),
+        values: plan.values().and_then(|path| document.file(path)),
+        folder: &folders(),
+    };
+    carry_out(files, alloc, &plan, &given, out)
 }
 
 // Returns the output of a program that completes itself.

@@ -1,10 +1,8 @@
 -- The outcomes of writing the candidates for a word.
 use Rattle.std.proofs.Common.{◌≡◌, ◌∙◌, ap, refl, subst, sym, ℕ, List, Option, Result, Ok, Err}
-use Rattle.std.proofs.Common.{Global, String, Vec, [], false, true, length, map, IfErr, IfOk, OnOk, inl, inr}
+use Rattle.std.proofs.Common.{Global, String, [], false, true, length, map, IfErr, IfOk, OnOk, inl, inr}
 use Rattle.std.proofs.lemmas.List.{length-map}
 use Rattle.std.specs.String.{string_bytes}
-use Rattle.complgen_commands.specs.declared.plans.Plan.{Plan}
-use Rattle.complgen_commands.specs.declared.plans.Plan.TheVariants.{Candidates}
 use Rattle.complgen_commands.specs.declared.refusals.Refusal.{Refusal}
 use Rattle.cc_asking.specs.Completion.{CompletesWith, RefusesWith}
 use Rattle.cc_gather.specs.Values.{MayReturn}
@@ -19,10 +17,9 @@ use Rattle.cc_base.specs.declared.failures.Failures.{Failures}
 use Rattle.cc_command.specs.Tree.{Tree}
 use Rattle.cc_base.specs.Writes.{IsWrite, Writes}
 use Rattle.cc_replies.specs.Reply.{LinesRead, lines_reply}
-use Rattle.complgen_commands.specs.Ends.{Ends, EndsReply}
 use Rattle.complgen_commands.specs.Refusals.{Reports}
 use Rattle.complgen_commands.specs.GivenReplies.{AreFoundWith}
-use Rattle.complgen_commands.specs.Replies.{AreFound, FindsNone, IsOutOfRange, IsReply, IsReplyOf, Paths, only_paths}
+use Rattle.complgen_commands.specs.Replies.{AreFound, EndsReply, FindsNone, IsOutOfRange, IsReply, IsReplyOf, Paths, only_paths}
 use Rattle.complgen_commands.specs.Writing.{Finishes}
 use Rattle.complgen_commands.proofs.WritingLemmas.{ends_cut_off, ends_rejected, ends_unwritten}
 use Rattle.complgen_commands.proofs.WritingLemmas.{ends_written, same}
@@ -72,18 +69,6 @@ are_found items Finds sources words index old new (Ok found) is completes built 
       (subst (λ l. Completes l new (map string_bytes words) index (items found)) is completes);
 }
 are_found items Finds sources words index old new (Err e) is completes built ranges = tt
-
--- the outcomes of carrying out a plan of candidates for these words
-pub ends_plan : {S : Type 0} (taken : S → List ℕ) (failed : S → Failures) (Finds : Paths)
-    (plan : Plan) (index : ℕ) (path : String Global) (words : Vec (String Global) Global)
-    (passed : List (String Global)) (file : Option (List ℕ)) (old new : S)
-    (result : Result (Unit {0}) Refusal) → plan ≡ Candidates index path words → passed ≡ words.items
-    → EndsReply taken failed Finds (map string_bytes passed) index file old new result
-    → Ends taken failed Finds plan file old new result
-ends_plan taken failed Finds plan index path words passed file old new result is all ends =
-    subst (λ p. Ends taken failed Finds p file old new result) (sym is)
-    (subst (λ ws. EndsReply taken failed Finds (map string_bytes ws) index file old new result)
-    all ends)
 
 -- the same over given lines
 pub are_found_with : {A : Type 0} (items : A → List CompletionCandidate) (Finds : Paths)

@@ -1,5 +1,4 @@
 pub mod AllScripts
-pub mod Ends
 pub mod GivenReplies
 pub mod Plans
 pub mod Refusals

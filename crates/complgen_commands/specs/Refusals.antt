@@ -68,10 +68,6 @@ bad_form_at path = checked_line path (codes "tree: bad form")
 abbrev pub out_of_memory_line : List ℕ
 out_of_memory_line = codes "out of memory\n"
 
--- the plan is not one of `script`, `register` and `candidates`
-abbrev pub other_plan_line : List ℕ
-other_plan_line = codes "plan: not carried out by run\n"
-
 -- ---- which refusal it is
 
 -- what is printed

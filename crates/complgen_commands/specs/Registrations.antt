@@ -12,6 +12,7 @@ use Rattle.cc_command.specs.Tree.{Tree}
 use Rattle.complgen_commands.specs.Refusals.{IsRefusal}
 use Rattle.complgen_commands.specs.declared.refusals.Refusal.{Refusal}
 use Rattle.complgen_commands.specs.Refusals.{error_line}
+use Rattle.complgen_commands.specs.ScriptEnds.{EndsFor}
 use Rattle.complgen_commands.specs.Writing.{Finishes, Untouched}
 
 -- the environment variable that makes a program reply to a shell
@@ -65,3 +66,10 @@ pub data Registers {S : Type 0} (taken : S → List ℕ) (failed : S → Failure
       → Finishes taken failed true (λ tree refusal. ⊥) (IsRegistration registration Reads bin) old
       new file result
       → Registers taken failed Reads message bin file old new (Some registration) result
+
+-- the outcomes of writing a registration for the shell with this name
+abbrev pub EndsRegistration : {S : Type 0} → (S → List ℕ) → (S → Failures) → List ℕ → List ℕ
+    → Option (List ℕ) → S → S → Result (Unit {0}) Refusal → Type 0
+EndsRegistration taken failed name bin file old new result = EndsFor taken failed name old new
+    (λ shell. Registers taken failed (RegistrationReads shell) (no_registration_text shell) bin file
+    old new (registration_for shell)) result

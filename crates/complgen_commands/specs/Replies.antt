@@ -1,17 +1,19 @@
 -- The candidates for a word of a command line without completers, and the reply with them.
-use Rattle.std.specs.Prelude.{⊤, ◌≡◌, ℕ, List, [], true, false, length}
+use Rattle.std.specs.Prelude.{⊤, ◌≡◌, ℕ, List, [], Option, Result, true, false, length}
 use Rattle.cc_gather.specs.Values.{MayReturn}
 use Rattle.cc_command.specs.Built.{built_tree}
 use Rattle.cc_engine.specs.Completion.{Completes, is_in_range}
 use Rattle.cc_candidates.specs.declared.candidate.CompletionCandidate.{CompletionCandidate}
 use Rattle.cc_base.specs.declared.error.Error.{Error}
 use Rattle.cc_base.specs.declared.error.Error.TheVariants.{Memory, NoCompletion}
+use Rattle.cc_base.specs.declared.failures.Failures.{Failures}
 use Rattle.cc_command.specs.Tree.{Tree}
 use Rattle.cc_arg.specs.declared.value_hint.ValueHint.{ValueHint}
 use Rattle.complgen_commands.specs.Refusals.{IsRefusal}
 use Rattle.complgen_commands.specs.declared.refusals.Refusal.{Refusal}
 use Rattle.cc_replies.specs.Reply.{LinesRead, lines_reply}
 use Rattle.complgen_commands.specs.Refusals.{error_line}
+use Rattle.complgen_commands.specs.Writing.{Finishes}
 
 -- the paths that may be found for a value hint and a text
 abbrev pub Paths : Type 1
@@ -53,3 +55,9 @@ pub record IsReplyOf (MayFind : Tree → List CompletionCandidate → Type 0) (t
 -- the same for the candidates for the word at the index
 abbrev pub IsReply : Paths → List (List ℕ) → ℕ → Tree → List ℕ → Type 0
 IsReply Finds words index = IsReplyOf (AreFound Finds words index)
+
+-- the outcomes of writing them
+abbrev pub EndsReply : {S : Type 0} → (S → List ℕ) → (S → Failures) → Paths → List (List ℕ) → ℕ
+    → Option (List ℕ) → S → S → Result (Unit {0}) Refusal → Type 0
+EndsReply taken failed Finds words index file old new result = Finishes taken failed false
+    (IsOutOfRange (length words) index) (IsReply Finds words index) old new file result

@@ -1,20 +1,4 @@
-//! The tasks that the command line asks for. Carries out those that write one text.
-
-ghost use Rattle.std.specs.Prelude.{OnOk, Some, codes};
-ghost use Rattle.std.specs.Option.{option_copied};
-ghost use Rattle.cc_engine.specs.Paths.{PathsOf};
-ghost use Rattle.complgen_commands.specs.Ends.{Ends, ReadsBack};
-
-use crate::one_script::script;
-use crate::refusals::Refusal;
-use crate::registrations::register;
-use crate::replies::reply;
-use cc_base::Sink;
-use cc_command::Release;
-use cc_paths::Folder;
-use std::alloc::Global;
-
-const OTHER_PLAN: &str = "plan: not carried out by run\n";
+//! The tasks that the command line asks for.
 
 /// A task that the command line asks for.
 #[derive(Debug, Drop)]
@@ -70,7 +54,8 @@ pub enum Plan {
 
 impl Plan {
     ghost use Rattle.std.specs.Prelude.{◌≡◌};
-    ghost use Rattle.complgen_commands.specs.Plans.{tree_of};
+    ghost use Rattle.std.specs.Option.{option_copied};
+    ghost use Rattle.complgen_commands.specs.Plans.{tree_of, values_of};
 
     /// Returns the path of the tree file.
     pub fn tree(&self) -> &str
@@ -87,47 +72,20 @@ impl Plan {
             Plan::Scripts { tree, .. } => tree.as_str(),
         }
     }
-}
 
-/// Carries out a plan of `script`, `register` or `candidates` over the bytes of its tree file, or
-/// `None` if that file cannot be read, and writes to `out`. Looks up the shell before it parses the
-/// tree. Completes paths from `folder`, in which the current directory is `.`. Leaves the memory of
-/// the tree to the end of the process.
-///
-/// # Errors
-///
-/// A refusal with status 1 and the text of the error. Refuses all other plans, and writes nothing:
-/// they have functions of their own.
-pub fn run<D: Folder, W: Sink>(
-    alloc: Global,
-    plan: &Plan,
-    file: Option<&[u8]>,
-    folder: &D,
-    out: &mut W,
-) -> Result<(), Refusal>
-    ensures ends { Ends W.taken W.failed (PathsOf (D.facts folder.now) (Some (codes "."))) plan.now
-        (option_copied file.entry) out.old out.new result }
-    ensures read_back { OnOk result (ReadsBack plan.now (option_copied file.entry)) }
-{
-    match plan {
-        Plan::Script(shell, bin, _) => {
-            script(
-                alloc,
-                shell.as_str(),
-                bin.as_str(),
-                file,
-                Release::AtExit,
-                out,
-            )
+    /// Returns the path of the file with values, if the plan reads one.
+    pub fn values(&self) -> Option<&str>
+        ensures { option_copied result ≡ values_of self.now }
+    {
+        match self {
+            Plan::CandidatesWith { values, .. } => Some(values.as_str()),
+            Plan::Script(..)
+            | Plan::Register(..)
+            | Plan::Candidates(..)
+            | Plan::Wanted(..)
+            | Plan::Check { .. }
+            | Plan::Man { .. }
+            | Plan::Scripts { .. } => None,
         }
-        Plan::Register(shell, bin, _) => register(alloc, shell.as_str(), bin.as_str(), file, out),
-        Plan::Candidates(index, _, words) => {
-            reply(alloc, words.as_slice(), *index, file, folder, out)
-        }
-        Plan::CandidatesWith { .. }
-        | Plan::Wanted(..)
-        | Plan::Check { .. }
-        | Plan::Man { .. }
-        | Plan::Scripts { .. } => Err(Refusal::from_static(1, OTHER_PLAN)),
     }
 }

@@ -5,8 +5,8 @@ ghost use Rattle.std.specs.Option.{option_copied};
 ghost use Rattle.cc_env.specs.Builtins.{all_builtins, builtin_spec};
 ghost use Rattle.cc_base.specs.declared.error.Error.TheVariants.{UnknownShell};
 ghost use Rattle.cc_shell.specs.Shells.{shell_text};
-ghost use Rattle.complgen_commands.specs.Ends.{EndsRegistration};
-ghost use Rattle.complgen_commands.specs.Registrations.{IsRegistration, Registers, RegistrationReads};
+ghost use Rattle.complgen_commands.specs.Registrations.{EndsRegistration, IsRegistration, Registers};
+ghost use Rattle.complgen_commands.specs.Registrations.{RegistrationReads};
 ghost use Rattle.complgen_commands.specs.Registrations.{RegistrationReadsBy, no_registration_text, registration_by};
 ghost use Rattle.complgen_commands.specs.Registrations.{registration_for};
 ghost use Rattle.complgen_commands.specs.Refusals.{error_line};
@@ -42,7 +42,7 @@ macro_rules! no_registration {
 ///
 /// A refusal with status 1 and the text of the error. A shell without a registration is reported
 /// before the tree is parsed.
-pub(crate) fn register<W: Sink>(
+pub fn register<W: Sink>(
     alloc: Global,
     name: &str,
     bin: &str,

@@ -3,11 +3,11 @@
 ghost use Rattle.std.specs.Prelude.{◌≡◌, IfErr, IfOk, Some, codes, length, map, string_bytes};
 ghost use Rattle.std.specs.Option.{option_copied};
 ghost use Rattle.cc_engine.specs.Paths.{PathsOf};
-ghost use Rattle.complgen_commands.specs.Ends.{EndsReply};
-ghost use Rattle.complgen_commands.specs.Replies.{AreFound, FindsNone};
+ghost use Rattle.complgen_commands.specs.Replies.{AreFound, EndsReply, FindsNone};
 
 use crate::refusals::{Refusal, error_refusal};
 use crate::tree_files::tree;
+use crate::word_at::WordAt;
 use cc_base::{Error, Sink};
 use cc_candidates::{Completers, CompletionCandidate};
 use cc_command::{Command, Release, discard};
@@ -19,28 +19,28 @@ use std::alloc::{AllocError, Global};
 /// The directory in which relative paths begin.
 pub(crate) const CURRENT_DIR: &str = ".";
 
-/// Writes the candidates for the word of `words` at `index` to `out`, in the form of a reply to
-/// fish. `file` has the bytes of the tree file, or is `None` if it cannot be read. Leaves the memory
-/// of the tree to the end of the process.
+/// Writes the candidates for `word` to `out`, in the form of a reply to fish. `file` has the bytes
+/// of the tree file, or is `None` if it cannot be read. Leaves the memory of the tree to the end of
+/// the process.
 ///
 /// # Errors
 ///
-/// A refusal with status 1 if the file cannot be read or describes no command, if `index` is out of
-/// range, if a write fails, or if an allocation fails.
-pub(crate) fn reply<D: Folder, W: Sink>(
+/// A refusal with status 1 if the file cannot be read or describes no command, if the index is out
+/// of range, if a write fails, or if an allocation fails.
+pub fn reply<D: Folder, W: Sink>(
     alloc: Global,
-    words: &[String],
-    index: usize,
+    word: WordAt<'_>,
     file: Option<&[u8]>,
     folder: &D,
     out: &mut W,
 ) -> Result<(), Refusal>
     ensures { EndsReply W.taken W.failed (PathsOf (D.facts folder.now) (Some (codes ".")))
-        (map string_bytes words.now) index (option_copied file.entry) out.old out.new result }
+        (map string_bytes word.entry.words.now) word.entry.index (option_copied file.entry)
+        out.old out.new result }
 {
     let command = tree(alloc, file)?;
-    let words = copies(alloc, words)?;
-    let found = match candidates(alloc, command, words, index, folder) {
+    let words = copies(alloc, word.words)?;
+    let found = match candidates(alloc, command, words, word.index, folder) {
         Ok(found) => found,
         Err(error) => return Err(error_refusal(alloc, &error)),
     };

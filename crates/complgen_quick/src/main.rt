@@ -69,12 +69,7 @@ fn carry_out_plan<R: Files + Print + AllocGlobal>(
             let is_clean = check(alloc, bin, report, file, &mut out)?;
             Ok(u8::from(!is_clean))
         }
-        Plan::Register(..)
-        | Plan::Candidates(..)
-        | Plan::CandidatesWith { .. }
-        | Plan::Wanted(..)
-        | Plan::Man { .. }
-        | Plan::Scripts { .. } => Err(Refusal::from_static(1, NEEDS_PROOF)),
+        _ => Err(Refusal::from_static(1, NEEDS_PROOF)),
     }
 }
 

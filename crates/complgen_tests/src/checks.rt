@@ -14,9 +14,3 @@ pub(crate) fn is<E: Debug + Drop>(rt: &impl Abort, text: Result<String, E>, want
     let text = text.expect(rt, "no text");
     same(rt, text.as_str(), wanted);
 }
-
-/// Fails unless `text` is a text that contains this part.
-pub(crate) fn has<E: Debug + Drop>(rt: &impl Abort, text: Result<String, E>, part: &str) {
-    let text = text.expect(rt, "no text");
-    assert!(rt; text.as_str().contains(part), "{part:?} is not in {text}");
-}

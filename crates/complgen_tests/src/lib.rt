@@ -1,5 +1,6 @@
 //! Tests of the parts of the program that no case of `complgen_cases` can express: `Debug` texts,
-//! the built-in tree, files that are not text or very large, memory, and writers that fail.
+//! the built-in tree, requests of shells, files that are not text or very large, and writers that
+//! fail.
 #![tactic(auto)]
 
 #[cfg(test)]
@@ -11,14 +12,10 @@ mod debug;
 #[cfg(test)]
 mod live;
 #[cfg(test)]
-mod man_page;
-#[cfg(test)]
 mod own_tree;
 #[cfg(test)]
 mod runs;
 #[cfg(test)]
 mod scripts;
-#[cfg(test)]
-mod values;
 #[cfg(test)]
 mod writers;

@@ -1,84 +1,39 @@
-//! Carries out plans over a tree file and directories in memory.
+//! Plans, and what carrying them out over a tree file writes.
 
-use crate::checks::same;
-use cc_base::Collected;
-use cc_fixtures::words::to_strings;
+use cc_base::Sink;
 use cc_paths::MemoryFolder;
-use complgen_commands::{Plan, Refusal, run};
+use complgen_command_line::plan;
+use complgen_commands::{Plan, Refusal};
+use complgen_plans::{Given, carry_out};
 use std::alloc::{AllocError, Global};
-use std::convert::AsStr;
-use std::process::Abort;
+use std::rt::Files;
 
-/// The plan of a script for `app`.
-pub(crate) fn script(alloc: Global, shell: &str) -> Result<Plan, AllocError> {
-    let bin = String::from_str(alloc, "app")?;
-    let tree = String::from_str(alloc, "tree.json")?;
-    Ok(Plan::Script(String::from_str(alloc, shell)?, bin, tree))
+/// Returns the plan of a command line, in which each space ends a word.
+pub(crate) fn plan_of(alloc: Global, line: &str) -> Result<Plan, Refusal> {
+    let words = words_of(alloc, line)?;
+    plan(alloc, words.as_slice())
 }
 
-/// The plan of a registration for a program with this bin name.
-pub(crate) fn registration(alloc: Global, shell: &str, bin: &str) -> Result<Plan, AllocError> {
-    let bin = String::from_str(alloc, bin)?;
-    let tree = String::from_str(alloc, "tree.json")?;
-    Ok(Plan::Register(String::from_str(alloc, shell)?, bin, tree))
+fn words_of(alloc: Global, line: &str) -> Result<Vec<String>, AllocError> {
+    let mut words = Vec::new(alloc);
+    for word in line.split(' ') {
+        words.push(String::from_str(alloc, word)?)?;
+    }
+    Ok(words)
 }
 
-/// The plan of candidates for the word at the index.
-pub(crate) fn candidates(alloc: Global, index: usize, words: &[&str]) -> Result<Plan, AllocError> {
-    let words = to_strings(alloc, words)?;
-    Ok(Plan::Candidates(index, String::from_str(alloc, "tree.json")?, words))
-}
-
-/// The plan of candidates for the word at the index, over the lines of a file.
-pub(crate) fn candidates_with(
-    alloc: Global,
-    values: &str,
-    index: usize,
-    words: &[&str],
-) -> Result<Plan, AllocError> {
-    let words = to_strings(alloc, words)?;
-    let tree = String::from_str(alloc, "tree.json")?;
-    let values = String::from_str(alloc, values)?;
-    Ok(Plan::CandidatesWith {
-        values,
-        index,
-        tree,
-        words,
-    })
-}
-
-/// Returns the output of the plan over this tree file, with these directories.
-pub(crate) fn output_in(
-    alloc: Global,
+/// Carries out the plan over this tree file and two values, without any other files.
+pub(crate) fn run<R: Files + AllocGlobal, W: Sink>(
+    rt: &R,
     plan: &Plan,
     file: &[u8],
-    folder: &MemoryFolder,
-) -> Result<String, Refusal> {
-    let mut out = Collected::new(alloc);
-    run(alloc, plan, Some(file), folder, &mut out)?;
-    Ok(String::from_utf8_lossy(alloc, out.as_slice())?)
-}
-
-/// Returns the output of the plan over this tree file, without any other files.
-pub(crate) fn output_of(alloc: Global, plan: &Plan, file: &[u8]) -> Result<String, Refusal> {
-    output_in(alloc, plan, file, &MemoryFolder::new(&[], &[]))
-}
-
-/// Fails unless the plan, over this tree file, ends with this text and status 1, and writes
-/// nothing.
-pub(crate) fn fails(
-    rt: &impl Abort,
-    alloc: Global,
-    plan: Result<Plan, AllocError>,
-    file: Option<&[u8]>,
-    wanted: &str,
-) {
-    let plan = plan.expect(rt, "no plan");
-    let mut out = Collected::new(alloc);
+    out: &mut W,
+) -> Result<u8, Refusal> {
     let folder = MemoryFolder::new(&[], &[]);
-    match run(alloc, &plan, file, &folder, &mut out) {
-        Ok(()) => panic!(rt; "it is carried out"),
-        Err(refusal) => same(rt, (refusal.status, refusal.text.as_str()), (1, wanted)),
-    }
-    assert!(rt; out.as_slice().is_empty());
+    let given = Given {
+        tree: Some(file),
+        values: Some(b"dev\nmain\n"),
+        folder: &folder,
+    };
+    carry_out(rt, rt.alloc(), plan, &given, out)
 }

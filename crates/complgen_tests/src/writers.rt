@@ -2,36 +2,32 @@
 //! bytes.
 
 use crate::checks::same;
-use crate::runs::{candidates, output_of, registration, script};
-use cc_base::Counted;
+use crate::runs::{plan_of, run};
+use cc_base::{Collected, Counted};
 use cc_fixtures::writers::Narrow;
-use cc_paths::MemoryFolder;
-use complgen_commands::{Plan, Refusal, run};
+use complgen_commands::{Plan, Refusal};
 use std::alloc::{AllocError, Global};
 use std::convert::AsStr;
 use std::io::ErrorKind;
 use std::process::Abort;
+use std::rt::Files;
 
-const TREE: &[u8] = br#"{"name": "app", "subcommands": [{"name": "run"}]}"#;
+// A command whose argument has values from a command, which `check` notes.
+const TREE: &[u8] =
+    br#"{"name": "app", "args": [{"id": "branch", "values_from": ["git", "branch"]}]}"#;
 
 // Carries out a plan over a writer with this room. Returns its end, and the bytes that the writer
 // then holds.
-fn end_of(
-    alloc: Global,
+fn end_of<R: AllocGlobal + Files>(
+    rt: &R,
     plan: &Plan,
     room: usize,
     kind: Option<ErrorKind>,
 ) -> Result<(String, String), AllocError> {
+    let alloc = rt.alloc();
     let mut out = Counted::new(Narrow::new(alloc, room, kind));
-    let ended = run(
-        alloc,
-        plan,
-        Some(TREE),
-        &MemoryFolder::new(&[], &[]),
-        &mut out,
-    );
-    let ended = match ended {
-        Ok(()) => String::from_str(alloc, "carried out")?,
+    let ended = match run(rt, plan, TREE, &mut out) {
+        Ok(_) => String::from_str(alloc, "carried out")?,
         Err(refusal) => text_of(alloc, &refusal)?,
     };
     Ok((ended, String::from_utf8_lossy(alloc, &out.get_ref().held)?))
@@ -41,23 +37,30 @@ fn text_of(alloc: Global, refusal: &Refusal) -> Result<String, AllocError> {
     format!(in alloc; "{} {}", refusal.status, refusal.text.as_str())
 }
 
+// Returns all that the plan writes.
+fn whole_of<R: AllocGlobal + Files>(rt: &R, plan: &Plan) -> Result<String, Refusal> {
+    let mut out = Collected::new(rt.alloc());
+    run(rt, plan, TREE, &mut out)?;
+    Ok(String::from_utf8_lossy(rt.alloc(), out.as_slice())?)
+}
+
 // Fails unless the plan ends with `write failed`, and everything that fits is written.
-fn fails_in(rt: &impl Abort, alloc: Global, plan: &Plan, room: usize, whole: &str) {
+fn fails_in<R: Abort + AllocGlobal + Files>(rt: &R, plan: &Plan, room: usize, whole: &str) {
     for kind in [Some(ErrorKind::BrokenPipe), None] {
-        let (ended, held) = end_of(alloc, plan, room, kind).expect(rt, "out of memory");
+        let (ended, held) = end_of(rt, plan, room, kind).expect(rt, "out of memory");
         same(rt, ended.as_str(), "1 write failed\n");
         same(rt, whole.get(..room), Some(held.as_str()));
     }
 }
 
 // The same for every room; with room for everything, the plan is carried out.
-fn fails_to_write(rt: &impl Abort, alloc: Global, plan: Result<Plan, AllocError>) {
-    let plan = plan.expect(rt, "no plan");
-    let whole = output_of(alloc, &plan, TREE).expect(rt, "no text");
+fn fails_to_write<R: Abort + AllocGlobal + Files>(rt: &R, line: &str) {
+    let plan = plan_of(rt.alloc(), line).expect(rt, "no plan");
+    let whole = whole_of(rt, &plan).expect(rt, "no text");
     for room in 0..whole.len() {
-        fails_in(rt, alloc, &plan, room, whole.as_str());
+        fails_in(rt, &plan, room, whole.as_str());
     }
-    let (ended, held) = end_of(alloc, &plan, whole.len(), None).expect(rt, "out of memory");
+    let (ended, held) = end_of(rt, &plan, whole.len(), None).expect(rt, "out of memory");
     same(
         rt,
         (ended.as_str(), held.as_str()),
@@ -66,16 +69,23 @@ fn fails_to_write(rt: &impl Abort, alloc: Global, plan: Result<Plan, AllocError>
 }
 
 #[test]
-fn a_script_reports_that_writing_failed(rt: HostRuntime) {
-    fails_to_write(&rt, rt.alloc(), script(rt.alloc(), "elvish"));
+fn scripts_and_registrations_report_that_writing_failed(rt: HostRuntime) {
+    fails_to_write(&rt, "complgen script --shell elvish --bin app tree");
+    fails_to_write(&rt, "complgen register --shell zsh --bin app tree");
+    fails_to_write(&rt, "complgen man --bin app tree");
 }
 
 #[test]
-fn a_registration_reports_that_writing_failed(rt: HostRuntime) {
-    fails_to_write(&rt, rt.alloc(), registration(rt.alloc(), "zsh", "app"));
+fn replies_report_that_writing_failed(rt: HostRuntime) {
+    fails_to_write(&rt, "complgen candidates --index 1 tree -- app ");
+    fails_to_write(
+        &rt,
+        "complgen candidates --index 1 --values lines tree -- app ",
+    );
+    fails_to_write(&rt, "complgen wanted --index 1 tree -- app ");
 }
 
 #[test]
-fn candidates_report_that_writing_failed(rt: HostRuntime) {
-    fails_to_write(&rt, rt.alloc(), candidates(rt.alloc(), 1, &["app", ""]));
+fn check_reports_that_writing_failed(rt: HostRuntime) {
+    fails_to_write(&rt, "complgen check tree");
 }

@@ -1,0 +1,3 @@
+mod FindingLemmas
+mod PageLemmas
+mod PlanLemmas

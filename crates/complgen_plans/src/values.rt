@@ -1,0 +1,36 @@
+//! Writes the candidates for a word, with the lines of a file as the values that it asks for.
+
+ghost use Rattle.std.specs.Prelude.{Some, codes, map, string_bytes};
+ghost use Rattle.std.specs.Option.{option_copied};
+ghost use Rattle.cc_engine.specs.Paths.{PathsOf};
+ghost use Rattle.complgen_plans.specs.Ends.{EndsValues};
+
+use crate::given::Given;
+use cc_base::Sink;
+use cc_paths::Folder;
+use complgen_commands::{Refusal, WordAt, reply_with, unreadable_values};
+use std::alloc::Global;
+
+/// Writes the candidates for `word` to `out`, with the lines of the given file as the values that
+/// it asks for. `path` is the path of that file.
+///
+/// # Errors
+///
+/// A refusal with status 1 if one of the files cannot be read, if the tree file describes no
+/// command, if the index is out of range, if a write fails, or if an allocation fails.
+pub(crate) fn write_candidates<D: Folder, W: Sink>(
+    alloc: Global,
+    path: &str,
+    word: WordAt<'_>,
+    given: &Given<'_, D>,
+    out: &mut W,
+) -> Result<(), Refusal>
+    ensures { EndsValues W.taken W.failed (PathsOf (D.facts given.now.folder.now) (Some (codes ".")))
+        path.now (map string_bytes word.entry.words.now) word.entry.index
+        (option_copied given.now.tree) out.old out.new (option_copied given.now.values) result }
+{
+    let Some(lines) = given.values else {
+        return Err(unreadable_values(alloc, path));
+    };
+    reply_with(alloc, word, lines, given.tree, given.folder, out)
+}
