@@ -1,6 +1,6 @@
--- What clap refuses about the arguments of a command together with the global arguments of the
--- commands above it.
-use Rattle.std.specs.Prelude.{ℕ, suc, Bool, true, false, not, ◌||◌, List, [], ◌∷◌, ◌++◌, codes, filter, is_some, map, Option, Some, None}
+-- Findings about the arguments of a command together with the global arguments of the commands above
+-- it: names that another one has, and unknown conflicts.
+use Rattle.std.specs.Prelude.{ℕ, Bool, true, false, not, ◌||◌, List, [], ◌∷◌, ◌++◌, codes, filter, is_some, Option, Some, None}
 use Rattle.std.specs.Borrow.{Bor}
 use Rattle.std.specs.BTreeMap.{BTreeMap}
 use Rattle.std.specs.List.{list_any}
@@ -8,18 +8,16 @@ use Rattle.std.specs.Str.{bytes_eq}
 use Rattle.cc_arg.specs.declared.parts.ArgParts.{ArgParts as Arg}
 use Rattle.cc_command.specs.Built.{globals}
 use Rattle.cc_command.specs.Names.{has_id}
-use Rattle.cc_command.specs.Tree.{Forest, none, more, Tree}
 use Rattle.complgen_lints.specs.ArgumentNames.{all_names, taken_of}
 use Rattle.complgen_lints.specs.PlacedNames.{owner_in, owner_with}
-use Rattle.complgen_lints.specs.Findings.{placed, some_finding}
-use Rattle.complgen_lints.specs.Walk.{each_from}
-use Rattle.complgen_lints.specs.declared.found.Finding.{Finding}
+use Rattle.complgen_lints.specs.Findings.{some_finding}
+use Rattle.complgen_lints.specs.Lists.{each_from}
 use Rattle.complgen_lints.specs.declared.found.Spot.TheVariants.{Argument}
 use Rattle.complgen_lints.specs.declared.names.PlacedName.{PlacedName}
 use Rattle.complgen_lints.specs.declared.names.Named.TheVariants as named
 use Rattle.complgen_lints.specs.declared.place.Key.TheVariants.{ConflictsWith}
 use Rattle.complgen_lints.specs.declared.warning.Kind.{Kind}
-use Rattle.complgen_lints.specs.declared.warning.Kind.TheVariants.{UnknownConflict, SelfConflict}
+use Rattle.complgen_lints.specs.declared.warning.Kind.TheVariants.{UnknownConflict}
 use Rattle.complgen_lints.specs.declared.warning.Warning.{Warning}
 
 -- what a command with these arguments inherits: the others without those whose id it has itself
@@ -30,21 +28,18 @@ inherited_with arguments others = filter (λ other. not (has_id arguments other.
 abbrev pub passed_on : List Arg → List Arg → List Arg
 passed_on inherited arguments = inherited ++ globals arguments
 
--- what is wrong with an id in an argument's list of conflicts; the tests are whether the id is
--- known, and whether it is the argument's own
-abbrev pub conflict_kind : Bool → Bool → List ℕ → Option Kind
-conflict_kind false same id = Some (UnknownConflict id)
-conflict_kind true true id = Some SelfConflict
-conflict_kind true false id = None
+-- what is wrong with an id in a list of conflicts, by whether the id is known
+abbrev pub conflict_kind : Bool → List ℕ → Option Kind
+conflict_kind true id = None
+conflict_kind false id = Some (UnknownConflict id)
 
-abbrev pub conflict_list : ℕ → ℕ → Option Kind → List Finding
+abbrev pub conflict_list : ℕ → ℕ → Option Kind → List Warning
 conflict_list index item kind = some_finding (Argument index) ConflictsWith (Some item) kind
 
 -- findings about the conflicts of an argument, if these ids are known
-abbrev pub conflicts_of : (List ℕ → Bool) → ℕ → Arg → List Finding
+abbrev pub conflicts_of : (List ℕ → Bool) → ℕ → Arg → List Warning
 conflicts_of known index argument = each_from (λ item id.
-    conflict_list index item (conflict_kind (known id) (bytes_eq id argument.id) id))
-    0 argument.conflicts
+    conflict_list index item (conflict_kind (known id) id)) 0 argument.conflicts
 
 -- the id is among the names, or is that of a flag that building may add
 abbrev pub is_known : List PlacedName → List ℕ → Bool
@@ -64,34 +59,15 @@ has_conflicts (id ∷ ids) = true
 abbrev pub have_conflicts : List Arg → Bool
 have_conflicts arguments = list_any (λ argument. has_conflicts argument.conflicts) arguments
 
--- conflicts of a command's arguments with unknown ids, and conflicts of an argument with itself
-abbrev pub all_conflicts : List Arg → List Arg → List Finding
+-- conflicts of a command's arguments with unknown ids
+abbrev pub all_conflicts : List Arg → List Arg → List Warning
 all_conflicts inherited arguments = each_from (conflicts_of
     (is_known (all_names named.Id inherited ++ all_names named.Id arguments))) 0 arguments
 
 -- findings about the arguments of a command: ids that an earlier one has; longs, then shorts that
 -- an earlier one or an inherited one has; and conflicts
-abbrev pub together_list : List Arg → List Arg → List Finding
+abbrev pub together_list : List Arg → List Arg → List Warning
 together_list inherited arguments = ((taken_of named.Id [] arguments
     ++ taken_of named.Long inherited arguments)
     ++ taken_of named.Short inherited arguments)
     ++ all_conflicts inherited arguments
-
--- the warnings about the arguments of each sibling from this index on, which may inherit these
--- arguments, and about all below them
-abbrev pub scopes_list : List Arg → List ℕ → ℕ → Forest → List Warning
-scopes_list others path index none = []
-scopes_list others path index (more node below rest) =
-    (map (placed (path ++ index ∷ []))
-    (together_list (inherited_with node.arguments others) node.arguments)
-    ++ scopes_list (passed_on (inherited_with node.arguments others) node.arguments)
-    (path ++ index ∷ []) 0 below)
-    ++ scopes_list others path (suc index) rest
-
--- the same for one command
-abbrev pub scope_list : List Arg → List ℕ → Tree → List Warning
-scope_list others path tree =
-    map (placed path)
-    (together_list (inherited_with tree.node.arguments others) tree.node.arguments)
-    ++ scopes_list (passed_on (inherited_with tree.node.arguments others) tree.node.arguments)
-    path 0 tree.children

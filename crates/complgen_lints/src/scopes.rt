@@ -1,85 +1,34 @@
-//! Finds what clap refuses about the arguments of a command together with the global arguments of
-//! the commands above it.
+//! Finds names that two arguments of a command have, also if it inherits one of them, and conflicts
+//! with ids that no argument has.
 
-ghost use Rattle.std.specs.Prelude.{◌≡◌, ◌++◌, [], IfOk, OnOk, map};
-ghost use Rattle.std.specs.Str.{bytes_eq};
-ghost use Rattle.cc_command.specs.Tree.{forest_of};
+ghost use Rattle.std.specs.Prelude.{◌≡◌, ◌++◌, IfOk, OnOk, map};
 ghost use Rattle.complgen_lints.specs.ArgumentNames.{all_names, taken_of};
-ghost use Rattle.complgen_lints.specs.Findings.{placed};
 ghost use Rattle.complgen_lints.specs.Scopes.{all_conflicts, conflict_kind, conflict_list};
 ghost use Rattle.complgen_lints.specs.Scopes.{conflicts_of, has_conflicts, have_conflicts};
 ghost use Rattle.complgen_lints.specs.Scopes.{inherited_with, is_known_in, passed_on};
-ghost use Rattle.complgen_lints.specs.Scopes.{scope_list, scopes_list, together_list};
-ghost use Rattle.complgen_lints.specs.Walk.{each_from};
+ghost use Rattle.complgen_lints.specs.Scopes.{together_list};
+ghost use Rattle.complgen_lints.specs.Lists.{each_from};
 
 use crate::found::{Added, Found, Spot};
 use crate::names::{Named, PlacedName, push_all_names, push_names_of, push_taken, seen_of};
 use crate::place::Key;
-use crate::walk::{At, child_path, place_all};
-use crate::warning::{Kind, Warning};
+use crate::warning::Kind;
 use cc_arg::{Arg, conflicting_ids};
 use cc_base::{Text, TextRef};
 use cc_command::{Command, has_id};
 use std::alloc::{AllocError, Global};
 use std::collections::BTreeMap;
 
-/// Adds the warnings about the arguments of `command` together with those of `others` that it
-/// inherits, then the warnings about each subcommand.
-#[cycle(scopes)]
-pub(crate) fn push_scope<'a>(
-    warnings: &mut Vec<Warning>,
-    at: At<'_>,
-    others: &[&'a Arg],
-    command: &'a Command,
-) -> Added
-    ensures { OnOk result (warnings.new.items ≡ warnings.old.items
-        ++ scope_list (map (λ other. other.now) others.now) at.entry.path.now command.now) }
+/// Adds warnings about the arguments of `command` together with those that it inherits.
+pub(crate) fn push_scope(found: &mut Found, inherited: &[&Arg], command: &Command) -> Added
+    ensures { OnOk result (found.new ≡ found.old ++ together_list
+        (map (λ other. other.now) inherited.now) command.now.node.arguments) }
 {
-    let arguments = command.get_arguments();
-    let mut inherited = inherited_with(at.alloc, arguments, others)?;
-    place_together(warnings, at, &inherited, arguments)?;
-    push_globals(&mut inherited, arguments)?;
-    push_scopes(warnings, at, &inherited, command.get_subcommands())
+    push_together(found, inherited, command.get_arguments())
 }
 
-#[cycle(scopes)]
-fn push_scopes<'a>(
-    warnings: &mut Vec<Warning>,
-    at: At<'_>,
-    others: &[&'a Arg],
-    children: &'a [Command],
-) -> Added
-    ensures { OnOk result (warnings.new.items ≡ warnings.old.items
-        ++ scopes_list (map (λ other. other.now) others.now) at.entry.path.now 0
-        (forest_of children.now)) }
-{
-    for (index, child) in children.iter().enumerate() {
-        let path = child_path(at, index)?;
-        let below = At {
-            alloc: at.alloc,
-            path: path.as_slice(),
-        };
-        push_scope(warnings, below, others, child)?;
-    }
-    Ok(())
-}
-
-fn place_together(
-    warnings: &mut Vec<Warning>,
-    at: At<'_>,
-    inherited: &[&Arg],
-    arguments: &[Arg],
-) -> Added
-    ensures { OnOk result (warnings.new.items ≡ warnings.old.items ++ map (placed at.entry.path.now)
-        (together_list (map (λ other. other.now) inherited.now) arguments.now)) }
-{
-    let mut found = Found::new(at.alloc);
-    push_together(&mut found, inherited, arguments)?;
-    place_all(warnings, at, found)
-}
-
-// Returns `others` without those whose id one of `arguments` has.
-fn inherited_with<'a>(
+/// Returns `others` without those whose id one of `arguments` has.
+pub(crate) fn inherited_with<'a>(
     alloc: Global,
     arguments: &[Arg],
     others: &[&'a Arg],
@@ -97,8 +46,8 @@ fn inherited_with<'a>(
     Ok(kept)
 }
 
-// Adds the global ones among `arguments`.
-fn push_globals<'a>(inherited: &mut Vec<&'a Arg>, arguments: &'a [Arg]) -> Added
+/// Adds the global ones among `arguments`.
+pub(crate) fn push_globals<'a>(inherited: &mut Vec<&'a Arg>, arguments: &'a [Arg]) -> Added
     ensures { OnOk result (map (λ other. other.now) inherited.new.items
         ≡ passed_on (map (λ other. other.now) inherited.old.items) arguments.now) }
 {
@@ -111,7 +60,7 @@ fn push_globals<'a>(inherited: &mut Vec<&'a Arg>, arguments: &'a [Arg]) -> Added
     Ok(())
 }
 
-// Adds findings about taken ids, then longs, then shorts, and then about conflicts.
+// Adds findings about taken ids, then longs, then shorts, and then about unknown conflicts.
 fn push_together(found: &mut Found, inherited: &[&Arg], arguments: &[Arg]) -> Added
     ensures { OnOk result (found.new ≡ found.old
         ++ together_list (map (λ other. other.now) inherited.now) arguments.now) }
@@ -149,7 +98,7 @@ fn push_inherited_names<'a>(
     Ok(())
 }
 
-// Adds findings about conflicts. Collects ids only if an argument has conflicts.
+// Adds findings about unknown conflicts. Collects ids only if an argument has conflicts.
 fn push_conflicts_if_any(found: &mut Found, inherited: &[&Arg], arguments: &[Arg]) -> Added
     ensures { OnOk result (found.new ≡ found.old
         ++ all_conflicts (map (λ other. other.now) inherited.now) arguments.now) }
@@ -205,7 +154,7 @@ fn push_conflicts_of(
 {
     let ids = conflicting_ids(argument);
     for (index, id) in ids.iter().enumerate() {
-        let kind = conflict_kind(found.allocator(), seen, argument, id.as_str())?;
+        let kind = conflict_kind(found.allocator(), seen, id.as_str())?;
         push_conflict(found, argument_index, index, kind)?;
     }
     Ok(())
@@ -225,23 +174,18 @@ fn push_conflict(found: &mut Found, argument: usize, item: usize, kind: Option<K
     }
 }
 
-// Returns what is wrong with `id`, a conflict of `argument`, if anything is.
+// Returns what is wrong with `id`, a conflict of an argument, if anything is.
 fn conflict_kind(
     alloc: Global,
     seen: &BTreeMap<&str, TextRef<'_>>,
-    argument: &Arg,
     id: &str,
 ) -> Result<Option<Kind>, AllocError>
-    ensures { IfOk result (λ kind. kind ≡ conflict_kind (is_known_in seen.now id.now)
-        (bytes_eq id.now argument.now.id) id.now) }
+    ensures { IfOk result (λ kind. kind ≡ conflict_kind (is_known_in seen.now id.now) id.now) }
 {
-    if !is_known(seen, id) {
-        return Ok(Some(Kind::UnknownConflict(Text::copy_of(alloc, id)?)));
+    if is_known(seen, id) {
+        return Ok(None);
     }
-    if id == argument.get_id() {
-        return Ok(Some(Kind::SelfConflict));
-    }
-    Ok(None)
+    Ok(Some(Kind::UnknownConflict(Text::copy_of(alloc, id)?)))
 }
 
 // Returns whether `id` is in `seen`, or is the id of a flag that building may add.
