@@ -17,6 +17,8 @@ import shells
 
 RULES = {"bash": in_bash, "zsh": in_zsh, "fish": in_fish, "elvish": in_elvish}
 OUTCOMES = ("as expected", "listed difference", "unexplained")
+# The row of docs/DIFFERENCES.md about hidden names.
+HIDDEN = 37
 
 
 class Seen(NamedTuple):
@@ -106,8 +108,9 @@ def fault(line: model.Line, wanted: model.Expected, found: Seen) -> str:
 def tried(shell: shells.Shell, root: model.Node, line: model.Line, version: str) -> Outcome:
     """Types a line, and once more if it is not as expected."""
     wanted, told = RULES[shell.name].expected(root, line, version), ""
+    rows = wanted.rows + ((HIDDEN,) if root.hidden_names() & set(wanted.words) else ())
     for _ in range(2):
         told = fault(line, wanted, seen(shell, line))
         if not told:
-            return Outcome("listed difference" if wanted.rows else "as expected", "", wanted.rows)
-    return Outcome("unexplained", told, wanted.rows)
+            return Outcome("listed difference" if rows else "as expected", "", rows)
+    return Outcome("unexplained", told, rows)

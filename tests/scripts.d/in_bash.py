@@ -12,8 +12,7 @@ from typing import List, Tuple
 from model import Expected, Json, Line, Node, after_tab, counts, dashed, files, shown_values
 
 # Rows of docs/DIFFERENCES.md.
-HIDDEN_SHOWN, BLANKS, HINTS_ARE_FILES, POSITIONALS, AFTER_EQUALS, HIDDEN_VALUES, BEHIND_DASHES, WORDS_SELECT = (
-    37, 38, 39, 40, 41, 42, 43, 44)
+BLANKS, HINTS_ARE_FILES, POSITIONALS, AFTER_EQUALS, HIDDEN_VALUES, BEHIND_DASHES, WORDS_SELECT = range(38, 45)
 PATHS = ("Unknown", "Other", "AnyPath", "FilePath", "DirPath", "ExecutablePath")
 
 
@@ -23,17 +22,19 @@ def expected(root: Node, line: Line, version: str) -> Expected:
         found = files(current, hidden=True)
         return Expected(found, after_tab(line.text, current, found), ())
     node, level = root, 1
-    for word in words[1:]:
+    rows: Tuple[int, ...] = ()
+    for at, word in enumerate(words[1:]):
         below = node.child(word)
         if below:
+            rows += (WORDS_SELECT,) if words[at] in option_names(node) else ()
             node, level = below, level + 1
-    rows: Tuple[int, ...] = ()
     option = next((arg for arg in node.options if previous in dashed(arg)), None)
     if current.startswith("-") or len(words) == level or not option:
         found, ending = [word for word in offered(node) if word.startswith(current)], " "
         rows += rows_of_names(node, line, current, found)
     else:
-        found, ending, rows = values(option, current)
+        found, ending, more = values(option, current)
+        rows += more
     if not found:
         found, ending = files(current, hidden=True), " "
     return Expected(found, after_tab(line.text, current, found, ending), rows)
@@ -65,6 +66,10 @@ def reversed_names(arg: Json) -> List[str]:
     return shorts[1:] + shorts[:1] + longs[1:] + longs[:1]
 
 
+def option_names(node: Node) -> List[str]:
+    return [name for arg in node.options for name in dashed(arg)]
+
+
 def rows_of_names(node: Node, line: Line, current: str, found: List[str]) -> Tuple[int, ...]:
     rows = []
     if line.current.partition("=")[2] and line.current.startswith("--"):
@@ -73,6 +78,9 @@ def rows_of_names(node: Node, line: Line, current: str, found: List[str]) -> Tup
         rows.append(BEHIND_DASHES)
     if not node.children and not current.startswith("-"):
         rows.append(POSITIONALS)
+    hidden = {value["name"] for arg in node.positionals for value in arg.get("possible_values", ()) if value.get("hide")}
+    if hidden & set(found):
+        rows.append(HIDDEN_VALUES)
     return tuple(rows)
 
 

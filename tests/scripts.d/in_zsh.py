@@ -107,22 +107,28 @@ def completed(node: Node, parent: Optional[Node], words: List[str], current: str
             if not below:
                 return Found([], current)
         elif not node.children and many is not None and state.plain >= many:
-            return rest(node.positionals[many], current, first=False)
+            return rest(node.positionals[many], state, current)
         elif not node.children and state.plain >= len(node.positionals) and not node.external:
             return Found([], current)
         state.plain += 1
     if below:
         return in_child(state, below, current)
     if many is not None and not node.children and state.plain >= many and not state.after_option:
-        return rest(node.positionals[many], current, first=True)
+        return rest(node.positionals[many], state, current)
     return at_word(state, current)
 
 
-def rest(arg: Json, current: str, first: bool) -> Found:
+def rest(arg: Json, state: Read, current: str) -> Found:
     """Returns what is offered for a word of a positional that takes many, after another word: no options."""
-    if arg.get("value_hint") == "CommandWithArguments" and not first:
+    return value_of(arg, state, current)._replace(rows=(MANY,) if current.startswith("-") else ())
+
+
+def value_of(arg: Json, state: Read, current: str) -> Found:
+    """Returns what is offered as a value of a positional. The hint `CommandWithArguments` takes the first word for the
+    name of a program, and completes further ones for it."""
+    if arg.get("value_hint") == "CommandWithArguments" and state.plain:
         arg = {"id": "of another program"}
-    return value(arg, current)._replace(rows=(MANY,) if current.startswith("-") else ())
+    return value(arg, current)
 
 
 def in_child(state: Read, below: Node, current: str) -> Found:
@@ -178,13 +184,13 @@ def at_word(state: Read, current: str) -> Found:
             return after_shorts(state, current)
         found = options(state, current)
         other = [part for action in positionals(state)[0] if isinstance(action, dict)
-                 for part in value(action, current).words]
+                 for part in value_of(action, state, current).words]
         rows = (STALE,) if is_stale(state) else ()
         return found._replace(words=found.words + other, more=bool(rows), rows=rows)
     actions, rows = positionals(state)
     if not actions:
         return options(state, current) if not state.ended else Found([], current)
-    parts = [action if isinstance(action, Found) else value(action, current) for action in actions]
+    parts = [action if isinstance(action, Found) else value_of(action, state, current) for action in actions]
     words = [word for part in parts for word in part.words if word.startswith(current)]
     if is_stale(state):
         return Found(words, current, " ", (STALE,), True)
@@ -195,8 +201,10 @@ def is_stale(state: Read) -> bool:
     """Returns whether the script, at the name of a child, looks at words that the parent has read: if the command has
     positionals, or a child of its own name."""
     node = state.node
-    at_child = state.parent and node.children and state.plain == len(node.positionals)
-    return bool(at_child and (node.positionals or set(node.names) & set(node.child_names())))
+    if not state.parent or not node.children or state.plain != len(node.positionals):
+        return False
+    namesakes = [child for child in node.children if set(child.names) & set(node.names)]
+    return bool(node.positionals) or any(child.args or child.children for child in namesakes)
 
 
 def positionals(state: Read) -> Tuple[list, Tuple[int, ...]]:
@@ -238,7 +246,7 @@ def after_shorts(state: Read, current: str) -> Found:
     if takes_values(before[name]):
         kept = current[:current.index(name[1]) + 1]
         found = value(before[name], current[len(kept):])
-        return found._replace(words=[kept + word for word in found.words], start=current)
+        return found._replace(words=[] if found.more else [kept + word for word in found.words], start=current)
     return Found([current + name[1] for name in state.left if len(name) == 2], current, "")
 
 

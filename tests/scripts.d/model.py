@@ -8,7 +8,7 @@ from __future__ import annotations
 
 import os
 import random
-from typing import Any, Dict, Iterable, Iterator, List, NamedTuple, Optional, Tuple
+from typing import Any, Dict, Iterable, Iterator, List, NamedTuple, Optional, Set, Tuple
 
 Json = Dict[str, Any]
 
@@ -27,8 +27,10 @@ folder_of_programs = ""
 class Node:
     """A command. `names` are its visible names, the name itself first."""
 
-    def __init__(self, names: List[str], about: Optional[str], args: List[Json], children: List[Node], external: bool):
-        self.names, self.about, self.args, self.children, self.external = names, about, args, children, external
+    def __init__(self, tree: Json, names: List[str], args: List[Json], children: List[Node]):
+        self.names, self.args, self.children = names, args, children
+        self.about, self.hidden = tree.get("about"), tree.get("hide", False)
+        self.external = tree.get("allow_external_subcommands", False)
         self.options = [arg for arg in args if is_option(arg) and takes_values(arg)]
         self.flags = [arg for arg in args if is_option(arg) and not takes_values(arg)]
         self.positionals = [arg for arg in args if not is_option(arg)]
@@ -49,6 +51,13 @@ class Node:
         for name in names:
             node = node.child(name) if node else None
         return node
+
+    def hidden_names(self) -> Set[str]:
+        """Returns the hidden names in the tree."""
+        own = {name for arg in self.args if arg.get("hide") for name in dashed(arg)}
+        for child in self.children:
+            own |= child.hidden_names() | set(child.names if child.hidden else ())
+        return own
 
     def paths(self, before: Tuple[str, ...] = ()) -> Iterator[Tuple[Tuple[str, ...], Node]]:
         """Yields all visible paths, with the nodes that they lead to."""
@@ -105,19 +114,17 @@ def built(tree: Json, inherited: Iterable[Json] = ()) -> Node:
              for name in (child["name"], *child.get("visible_aliases", ()), *child.get("aliases", ()))}
     if children and not tree.get("disable_help_subcommand") and "help" not in taken:
         children.append(help_node([help_copy(child) for child in tree["subcommands"]]))
-    return Node([tree["name"], *tree.get("visible_aliases", ())], tree.get("about"), args, children,
-                tree.get("allow_external_subcommands", False))
+    return Node(tree, [tree["name"], *tree.get("visible_aliases", ())], args, children)
 
 
 def help_node(children: List[Node]) -> Node:
-    about = "Print this message or the help of the given subcommand(s)"
-    last = [Node(["help"], about, [], [], False)] if children else []
-    return Node(["help"], about, [], children + last, False)
+    tree = {"about": "Print this message or the help of the given subcommand(s)"}
+    return Node(tree, ["help"], [], [*children, Node(tree, ["help"], [], [])])
 
 
 def help_copy(tree: Json) -> Node:
     """Returns the copy of a command below a generated `help`: the names, without aliases and arguments."""
-    return Node([tree["name"]], tree.get("about"), [], [help_copy(it) for it in tree.get("subcommands", ())], False)
+    return Node({"about": tree.get("about")}, [tree["name"]], [], [help_copy(it) for it in tree.get("subcommands", ())])
 
 
 # ---- the command lines
@@ -185,6 +192,8 @@ def lines_at(words: Tuple[str, ...], node: Node) -> Iterator[Line]:
             yield Line(words, names[0], "short")
     for arg in node.flags:
         yield Line((*words, dashed(arg)[-1]), "-", "after a flag")
+    for arg in node.options[:1] if node.children else []:
+        yield Line((*words, dashed(arg)[-1], node.children[0].names[0]), "-", "a value that is a name")
     for arg in node.options:
         yield from lines_of_value(words, arg)
     if not node.children:
