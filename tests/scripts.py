@@ -18,8 +18,9 @@ The parts:
 - planted: errors are planted in scripts, one after the other. The lines have to show each.
 
 For each shell, a line tells how many lines were typed, how many of them were as expected, how many show a difference
-that docs/DIFFERENCES.md lists, and how many nothing explains. --verbose counts those of each number. The status is 0
-if all lines are explained, each script is loaded, and each planted error is found.
+that docs/DIFFERENCES.md lists, and how many nothing explains. With --verbose, further lines count those of each number,
+and those for which the model only says what has to be offered at least. The status is 0 if all lines are explained,
+each script is loaded, and each planted error is found.
 """
 
 from __future__ import annotations
@@ -87,11 +88,12 @@ def has_lines(name: str, complgen: str, paths: Dict[str, str], options: argparse
     for title, path in paths.items():
         type_lines(name, title, path, complgen, options, counts, rows)
     texts = [f"{counts[outcome]} {outcome}" for outcome in compared.OUTCOMES]
-    seconds = f"{time.monotonic() - started:.0f} s"
-    print(f"{name} {compared.version_of(name)}: {sum(counts.values())} lines, {', '.join(texts)}, {seconds}", flush=True)
+    total, seconds = sum(counts[outcome] for outcome in compared.OUTCOMES), time.monotonic() - started
+    print(f"{name} {compared.version_of(name)}: {total} lines, {', '.join(texts)}, {seconds:.0f} s", flush=True)
     if options.verbose:
         print("  by number: " + ", ".join(f"{row}: {count}" for row, count in sorted(rows.items())))
-    return counts["unexplained"] == 0 and bool(counts)
+        print(f"  further words were allowed in {counts['open']} lines")
+    return counts["unexplained"] == 0 and total > 0
 
 
 def type_lines(name: str, title: str, path: str, complgen: str, options: argparse.Namespace,
@@ -104,6 +106,7 @@ def type_lines(name: str, title: str, path: str, complgen: str, options: argpars
             for line in model.drawn(root, program, options.lines, options.seed):
                 outcome = compared.tried(shell, root, line, version)
                 counts[outcome.name] += 1
+                counts["open"] += outcome.is_open
                 rows.update(outcome.rows)
                 if outcome.told:
                     print(f"  {name}, {title}: {line.text!r} ({line.kind}): {outcome.told}", flush=True)

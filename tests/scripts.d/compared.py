@@ -6,7 +6,7 @@ import json
 import os
 import re
 import subprocess
-from typing import Dict, List, NamedTuple, Optional, Set
+from typing import Dict, List, NamedTuple, Optional, Set, Tuple
 
 import in_bash
 import in_elvish
@@ -30,11 +30,13 @@ class Seen(NamedTuple):
 
 
 class Outcome(NamedTuple):
-    """How a line ends, by a name of `OUTCOMES`, and what is not as expected."""
+    """How a line ends, by a name of `OUTCOMES`, what is not as expected, the rows of docs/DIFFERENCES.md that it shows,
+    and whether further words were allowed."""
 
     name: str
     told: str
-    rows: tuple
+    rows: Tuple[int, ...]
+    is_open: bool
 
 
 def scratch_with_files() -> shells.Scratch:
@@ -97,7 +99,7 @@ def fault(line: model.Line, wanted: model.Expected, found: Seen) -> str:
     more, less = sorted(offered - expected), sorted(expected - offered)
     if less or more and not wanted.more:
         return f"offers more {more[:9]}, less {less[:9]}"
-    if found.line != wanted.line and not wanted.more:
+    if found.line not in (wanted.line, wanted.other_line) and not wanted.more:
         return f"the line becomes {found.line!r}, not {wanted.line!r}"
     for name, text in found.texts.items():
         if wanted.texts.get(name) is not None and wanted.texts[name] != text:
@@ -112,5 +114,5 @@ def tried(shell: shells.Shell, root: model.Node, line: model.Line, version: str)
     for _ in range(2):
         told = fault(line, wanted, seen(shell, line))
         if not told:
-            return Outcome("listed difference" if rows else "as expected", "", rows)
-    return Outcome("unexplained", told, rows)
+            return Outcome("listed difference" if rows else "as expected", "", rows, wanted.more)
+    return Outcome("unexplained", told, rows, wanted.more)

@@ -2,27 +2,34 @@
 its own functions.
 
 A record counts if its condition holds. fish offers options only after a hyphen, and files unless a record that counts
-says `-f`, or if there is nothing else. The value of an option is offered if the record says `-r`.
+says `-f`. The value of an option is offered if the record says `-r`.
+
+fish 3 offers the longs that begin with what was typed. fish 4.0 also offers those that have its letters in their
+order, and later versions do so if nothing begins with it. fish 4.0 reads a condition on words as a pattern, in which
+only the first word is bound to the beginning of a name, and the last one to its end.
 """
 
 from __future__ import annotations
 
-from typing import Dict, Iterator, List, Optional, Set, Tuple
+import re
+from typing import Callable, Dict, Iterator, List, Optional, Set, Tuple
 
 from model import COMMAND, DIRECTORY, HOST, USER, Expected, Json, Line, Node, after_tab, counts, dashed, files, shown_values
 from model import takes_values
 
 # Rows of docs/DIFFERENCES.md.
-HELP, OTHER_PATHS, VALUES_OF_ROOT, POSITIONALS, AFTER_EQUALS = 9, 48, 49, 50, 51
-# After `--long=`, the functions for these hints write the option too, so that it is inserted twice.
+HELP, OTHER_PATHS, VALUES_OF_ROOT, POSITIONALS, AFTER_EQUALS, PATTERN = 9, 48, 49, 50, 51, 59
+# After `--long=`, the functions of fish 3 for these hints write the option too, so that it is inserted twice.
 DOUBLED = ("DirPath", "CommandName", "CommandString")
 
 
 class Offers:
     """What is offered: the words with their descriptions, and whether files are offered too."""
 
-    def __init__(self) -> None:
+    def __init__(self, version: str) -> None:
+        self.version = version
         self.words: Dict[str, Optional[str]] = {}
+        self.loose: Dict[str, Optional[str]] = {}
         self.files, self.forced, self.more = True, False, False
         self.rows: Set[int] = set()
 
@@ -31,9 +38,12 @@ def expected(root: Node, line: Line, version: str) -> Expected:
     words = line.before[1:] if line.before[0] == "sudo" else line.before
     tokens, current = list(words[1:]), line.current
     parsed, command = argparse(root, tokens)
-    active = list(records(root, tokens, parsed, command))
-    offers = Offers()
+    is_seen = seen_by(tokens, version)
+    active = list(records(root, is_seen, parsed, command))
+    offers = Offers(version)
     rows = offers.rows
+    if len(active) != len(list(records(root, tokens.__contains__, parsed, command))):
+        rows.add(PATTERN)
     if not parsed:
         rows.add(VALUES_OF_ROOT)
     if "help" in tokens:
@@ -48,14 +58,41 @@ def expected(root: Node, line: Line, version: str) -> Expected:
         offer_names(root, active, current, switches, offers)
     begin, sign, rest = current.rpartition("=") if current.startswith("-") else ("", "", current)
     found = list(offers.words)
+    loose = loosely_offered(offers, current)
     if offers.forced or offers.files:
         found += [begin + sign + name for name in files(rest)]
         if common and not current.startswith("-") and any(node.positionals for node in active):
             rows.add(POSITIONALS)
-    after = after_tab(line.text, current, found)
-    if len(found) == 1 and not found[0].startswith(current):
-        after = line.text[:len(line.text) - len(current)] + found[0] + " "
-    return Expected(found, after, tuple(sorted(rows)), offers.more, offers.words)
+    first = found or loose
+    after = after_tab(line.text, current, first)
+    if len(first) == 1 and not first[0].startswith(current):
+        after = line.text[:len(line.text) - len(current)] + first[0] + " "
+    return Expected(found + loose, after, tuple(sorted(rows)), offers.more, {**offers.loose, **offers.words})
+
+
+def loosely_offered(offers: Offers, current: str) -> List[str]:
+    """Returns the longs that do not begin with what was typed, and are offered."""
+    if offers.version.startswith("3.") or offers.words and not offers.version.startswith("4.0."):
+        return []
+    ranks = {name: rank(current, name) for name in offers.loose}
+    best = min(ranks.values(), default=0)
+    return [name for name in ranks if ranks[name] == best or offers.version.startswith("4.0.")]
+
+
+def rank(typed: str, name: str) -> int:
+    """Returns how well a typed text fits a name that it does not begin: in one piece, whatever the case, or by letters
+    in their order. The greatest number says that it does not fit."""
+    letters = iter(name)
+    fits = (typed in name, typed.lower() in name.lower(), all(letter in letters for letter in typed), True)
+    return fits.index(True)
+
+
+def seen_by(tokens: List[str], version: str) -> Callable[[str], bool]:
+    """Returns the function that tells whether a name is among the words, as a condition finds it."""
+    if not version.startswith("4.0."):
+        return tokens.__contains__
+    pattern = re.compile("^" + "|".join(map(re.escape, tokens)) + "$")
+    return lambda name: bool(pattern.search(name))
 
 
 def argparse(root: Node, tokens: List[str]) -> Tuple[bool, Optional[str]]:
@@ -80,7 +117,7 @@ def argparse(root: Node, tokens: List[str]) -> Tuple[bool, Optional[str]]:
     return True, None
 
 
-def records(root: Node, tokens: List[str], parsed: bool, command: Optional[str]) -> Iterator[Node]:
+def records(root: Node, is_seen: Callable[[str], bool], parsed: bool, command: Optional[str]) -> Iterator[Node]:
     """Yields the nodes whose records count."""
     if not root.children:
         yield root
@@ -89,18 +126,18 @@ def records(root: Node, tokens: List[str], parsed: bool, command: Optional[str])
     elif parsed:
         below = root.child(command or "")
         if below:
-            yield from seen(below, set(tokens))
+            yield from seen(below, is_seen)
 
 
-def seen(node: Node, tokens: set) -> Iterator[Node]:
+def seen(node: Node, is_seen: Callable[[str], bool]) -> Iterator[Node]:
     """Yields a node, if no name of a child is among the words, and the nodes below whose names are."""
-    names = [name for name in node.child_names() if name in tokens]
+    names = [name for name in node.child_names() if is_seen(name)]
     if not names:
         yield node
     for name in names:
         below = node.child(name)
         if below:
-            yield from seen(below, tokens)
+            yield from seen(below, is_seen)
 
 
 def offer_values(root: Node, active: List[Node], tokens: List[str], current: str, offers: Offers) -> bool:
@@ -137,7 +174,8 @@ def offer_value(arg: Json, before: str, start: str, offers: Offers) -> None:
                  "Username": [USER], "Hostname": [HOST]}
         words = {name: None for name in known.get(hint, [])}
         offers.more = not start and hint in known and hint != "DirPath"
-    doubled = before if before.endswith("=") and not start and hint in DOUBLED and shown is None else ""
+    is_doubled = before.endswith("=") and not start and hint in DOUBLED and shown is None
+    doubled = before if is_doubled and offers.version.startswith("3.") else ""
     if doubled:
         offers.rows.add(AFTER_EQUALS)
     for name, text in words.items():
@@ -163,6 +201,8 @@ def offer_names(root: Node, active: List[Node], current: str, switches: bool, of
                 if name.startswith("--"):
                     if name.startswith(current):
                         offers.words.setdefault(name, arg.get("help"))
+                    elif rank(current, name) < 3:
+                        offers.loose.setdefault(name, arg.get("help"))
                 elif not current.startswith("--") and name[1] not in current and are_flags(root, current[1:]):
                     offers.words.setdefault(current + name[1], arg.get("help"))
 

@@ -36,7 +36,9 @@ def expected(root: Node, line: Line, version: str) -> Expected:
     if [word for word in found.words if word.startswith("/")]:
         # zsh replaces the beginning of a name by the whole path
         after = line.text[:len(line.text) - len(line.current)] + found.words[0] + " "
-    return Expected(found.words, after, found.rows, found.more)
+    # zsh matches the parts between hyphens, and may leave out a hyphen after which the options differ.
+    other = after[:-1] if len(found.words) > 1 and after != line.text and after.endswith("-") else None
+    return Expected(found.words, after, found.rows, found.more, {}, other)
 
 
 class Read:

@@ -240,13 +240,14 @@ def drawn(root: Node, path_of_program: str, count: int, seed: int) -> List[Line]
 class Expected(NamedTuple):
     """What a shell should do at a Tab: the words that it offers, the command line after it, and the rows of
     docs/DIFFERENCES.md that the line shows. `more` allows further words, and then any insertion. `texts` has the
-    descriptions that are shown."""
+    descriptions that are shown. `other_line` is as good as `line`."""
 
     words: List[str]
     line: str
     rows: Tuple[int, ...]
     more: bool = False
     texts: Dict[str, Optional[str]] = {}
+    other_line: Optional[str] = None
 
 
 def after_tab(text: str, current: str, words: Iterable[str], ending: str = " ") -> str:
