@@ -53,19 +53,13 @@ def main() -> int:
     lacking = trees.lacking_keys()
     if lacking:
         print("every-key.json lacks: " + ", ".join(lacking))
-    larder = os.path.join(common.EXAMPLES, "larder.json")
     with tempfile.TemporaryDirectory() as folder:
         paths = trees.listed(folder, complgen, options.trees) if "lines" in options.only else {}
         for name in options.shells:
-            if shutil.which(name) is None:
+            if shutil.which(name):
+                good &= is_good(Lines(name, complgen, options), paths)
+            else:
                 print(f"{name}: not installed, skipped")
-                continue
-            if "lines" in options.only:
-                good &= has_lines(name, complgen, paths, options)
-            if "loading" in options.only:
-                good &= has_loaded(name, complgen, larder)
-            if "planted" in options.only:
-                good &= has_found(name, complgen, larder, options)
     return 0 if good and not lacking else 1
 
 
@@ -80,55 +74,76 @@ def arguments() -> argparse.Namespace:
     return parser.parse_args()
 
 
-def has_lines(name: str, complgen: str, paths: Dict[str, str], options: argparse.Namespace) -> bool:
-    """Types lines of all trees into a shell, and tells whether all are explained."""
-    counts: Counter[str] = collections.Counter()
-    rows: Counter[int] = collections.Counter()
-    started = time.monotonic()
-    for title, path in paths.items():
-        type_lines(name, title, path, complgen, options, counts, rows)
-    texts = [f"{counts[outcome]} {outcome}" for outcome in compared.OUTCOMES]
-    total, seconds = sum(counts[outcome] for outcome in compared.OUTCOMES), time.monotonic() - started
-    print(f"{name} {compared.version_of(name)}: {total} lines, {', '.join(texts)}, {seconds:.0f} s", flush=True)
-    if options.verbose:
-        print("  by number: " + ", ".join(f"{row}: {count}" for row, count in sorted(rows.items())))
-        print(f"  further words were allowed in {counts['open']} lines")
-    return counts["unexplained"] == 0 and total > 0
+def is_good(lines: Lines, paths: Dict[str, str]) -> bool:
+    """Does the parts in a shell, and tells whether all is as it has to be."""
+    good, larder = True, os.path.join(common.EXAMPLES, "larder.json")
+    if "lines" in lines.options.only:
+        for title, path in paths.items():
+            lines.type(title, path)
+        good &= lines.end()
+    if "loading" in lines.options.only:
+        good &= has_loaded(lines, larder)
+    if "planted" in lines.options.only:
+        good &= has_found(lines, larder)
+    return good
 
 
-def type_lines(name: str, title: str, path: str, complgen: str, options: argparse.Namespace,
-               counts: Counter[str], rows: Counter[int]) -> None:
-    root, version = compared.root_of(path), compared.version_of(name)
-    with compared.scratch_with_files() as scratch:
-        program = os.path.join(scratch.bin, model.BIN)
-        with shells.started(name, scratch, compared.script_of(complgen, name, path)) as shell:
-            shell.settle(0.2)
-            for line in model.drawn(root, program, options.lines, options.seed):
-                outcome = compared.tried(shell, root, line, version)
-                counts[outcome.name] += 1
-                counts["open"] += outcome.is_open
-                rows.update(outcome.rows)
-                if outcome.told:
-                    print(f"  {name}, {title}: {line.text!r} ({line.kind}): {outcome.told}", flush=True)
+class Lines:
+    """Lines that are typed into a shell, and how they end."""
+
+    def __init__(self, name: str, complgen: str, options: argparse.Namespace):
+        self.name, self.complgen, self.options = name, complgen, options
+        self.version, self.started = compared.version_of(name), time.monotonic()
+        self.counts: Counter[str] = collections.Counter()
+        self.rows: Counter[int] = collections.Counter()
+
+    def type(self, title: str, path: str) -> None:
+        """Types lines of a tree."""
+        root = compared.root_of(path)
+        with compared.scratch_with_files() as scratch:
+            drawn = model.drawn(root, os.path.join(scratch.bin, model.BIN), self.options.lines, self.options.seed)
+            script = compared.script_of(self.complgen, self.name, path)
+            with shells.started(self.name, scratch, script) as shell:
+                shell.settle(0.2)
+                for line in drawn:
+                    self.count(title, line, compared.tried(shell, root, line, self.version))
+
+    def count(self, title: str, line: model.Line, outcome: compared.Outcome) -> None:
+        self.counts[outcome.name] += 1
+        self.counts["open"] += outcome.is_open
+        self.rows.update(outcome.rows)
+        if outcome.told:
+            print(f"  {self.name}, {title}: {line.text!r} ({line.kind}): {outcome.told}", flush=True)
+
+    def end(self) -> bool:
+        """Prints the counts, and tells whether all lines are explained."""
+        texts = [f"{self.counts[outcome]} {outcome}" for outcome in compared.OUTCOMES]
+        total, seconds = sum(self.counts[it] for it in compared.OUTCOMES), time.monotonic() - self.started
+        print(f"{self.name} {self.version}: {total} lines, {', '.join(texts)}, {seconds:.0f} s", flush=True)
+        if self.options.verbose:
+            print("  by number: " + ", ".join(f"{row}: {count}" for row, count in sorted(self.rows.items())))
+            print(f"  further words were allowed in {self.counts['open']} lines")
+        return self.counts["unexplained"] == 0 and total > 0
 
 
-def has_loaded(name: str, complgen: str, tree: str) -> bool:
-    if name == "bash" and not os.path.exists(loading.BASH_COMPLETION):
+def has_loaded(lines: Lines, tree: str) -> bool:
+    """Tells whether a shell loads the script by itself."""
+    if lines.name == "bash" and not os.path.exists(loading.BASH_COMPLETION):
         print("bash, loading: skipped, needs bash-completion")
         return True
-    faults = loading.tried(name, complgen, tree)
-    print(f"{name}, loading: " + ("; ".join(faults) or "the shell finds the script"), flush=True)
+    faults = loading.tried(lines.name, lines.complgen, tree)
+    print(f"{lines.name}, loading: " + ("; ".join(faults) or "the shell finds the script"), flush=True)
     return not faults
 
 
-def has_found(name: str, complgen: str, tree: str, options: argparse.Namespace) -> bool:
+def has_found(lines: Lines, tree: str) -> bool:
     """Plants the errors of a shell, and tells whether each is found."""
-    errors = [error for error in planted.ERRORS if error.shell == name]
-    found = {error: planted.tried(error, complgen, tree, options.seed) for error in errors}
-    for error, line in found.items():
-        if options.verbose or not line:
-            print(f"  {name}, planted: {error.what}: {line or 'NOT FOUND'}")
-    print(f"{name}, planted: {sum(map(bool, found.values()))} of {len(errors)} errors found", flush=True)
+    errors = [error for error in planted.ERRORS if error.shell == lines.name]
+    found = {error: planted.tried(error, lines.complgen, tree, lines.options.seed) for error in errors}
+    for error, told in found.items():
+        if lines.options.verbose or not told:
+            print(f"  {lines.name}, planted: {error.what}: {told or 'NOT FOUND'}")
+    print(f"{lines.name}, planted: {sum(map(bool, found.values()))} of {len(errors)} errors found", flush=True)
     return all(found.values())
 
 

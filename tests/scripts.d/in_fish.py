@@ -33,6 +33,10 @@ class Offers:
         self.files, self.forced, self.more = True, False, False
         self.rows: Set[int] = set()
 
+    def add(self, name: str, text: Optional[str]) -> None:
+        """Offers a name. If records differ about its description, it is left open."""
+        self.words[name] = text if self.words.get(name, text) == text else None
+
 
 def expected(root: Node, line: Line, version: str) -> Expected:
     words = line.before[1:] if line.before[0] == "sudo" else line.before
@@ -53,9 +57,9 @@ def expected(root: Node, line: Line, version: str) -> Expected:
     switches = "--" not in tokens
     common = True
     if switches:
-        common = not offer_values(root, active, tokens, current, offers)
+        common = not offer_values(active, tokens, current, offers)
     if common:
-        offer_names(root, active, current, switches, offers)
+        offer_names(active, current, switches, offers)
     begin, sign, rest = current.rpartition("=") if current.startswith("-") else ("", "", current)
     found = list(offers.words)
     loose = loosely_offered(offers, current)
@@ -140,7 +144,7 @@ def seen(node: Node, is_seen: Callable[[str], bool]) -> Iterator[Node]:
             yield from seen(below, is_seen)
 
 
-def offer_values(root: Node, active: List[Node], tokens: List[str], current: str, offers: Offers) -> bool:
+def offer_values(active: List[Node], tokens: List[str], current: str, offers: Offers) -> bool:
     """Offers the values of the option that the word before names, or the current one. Returns whether there is one."""
     found = False
     for node in active:
@@ -183,7 +187,7 @@ def offer_value(arg: Json, before: str, start: str, offers: Offers) -> None:
             offers.words[before + doubled + name] = text
 
 
-def offer_names(root: Node, active: List[Node], current: str, switches: bool, offers: Offers) -> None:
+def offer_names(active: List[Node], current: str, switches: bool, offers: Offers) -> None:
     # If no name begins with what was typed, those that contain it are offered.
     names = [name for node in active for name in node.child_names()]
     begins = any(name.startswith(current) for name in names)
@@ -193,22 +197,25 @@ def offer_names(root: Node, active: List[Node], current: str, switches: bool, of
         for child in node.children:
             for name in child.names:
                 if name.startswith(current) or not begins and not switches and current in name:
-                    offers.words.setdefault(name, child.about)
-        if not switches or not current.startswith("-"):
-            continue
-        for arg in node.options + node.flags:
-            for name in dashed(arg):
-                if name.startswith("--"):
-                    if name.startswith(current):
-                        offers.words.setdefault(name, arg.get("help"))
-                    elif rank(current, name) < 3:
-                        offers.loose.setdefault(name, arg.get("help"))
-                elif not current.startswith("--") and name[1] not in current and are_flags(root, current[1:]):
-                    offers.words.setdefault(current + name[1], arg.get("help"))
+                    offers.add(name, child.about)
+        if switches and current.startswith("-"):
+            offer_options(node, current, are_flags(active, current[1:]), offers)
 
 
-def are_flags(root: Node, letters: str) -> bool:
-    """Returns whether each letter is a short of the script that takes no value."""
-    shorts = {name[1]: takes_values(arg) for _, node in root.paths() for arg in node.args
-              for name in dashed(arg) if len(name) == 2} if letters else {}
-    return all(shorts.get(letter) is False for letter in letters)
+def offer_options(node: Node, current: str, further: bool, offers: Offers) -> None:
+    """Offers the options of a command. `further` allows shorts after those in the current word."""
+    for arg in node.options + node.flags:
+        for name in dashed(arg):
+            if name.startswith("--"):
+                if name.startswith(current):
+                    offers.add(name, arg.get("help"))
+                elif rank(current, name) < 3:
+                    offers.loose.setdefault(name, arg.get("help"))
+            elif further and name[1] not in current:
+                offers.add(current + name[1], arg.get("help"))
+
+
+def are_flags(active: List[Node], letters: str) -> bool:
+    """Returns whether each letter is a short of these commands that takes no value."""
+    flags = {name[1:] for node in active for arg in node.flags for name in dashed(arg) if len(name) == 2}
+    return all(letter in flags for letter in letters)

@@ -36,18 +36,55 @@ def expected(root: Node, line: Line, version: str) -> Expected:
     if [word for word in found.words if word.startswith("/")]:
         # zsh replaces the beginning of a name by the whole path
         after = line.text[:len(line.text) - len(line.current)] + found.words[0] + " "
-    # zsh matches the parts between hyphens, and may leave out a hyphen after which the options differ.
-    other = after[:-1] if len(found.words) > 1 and after != line.text and after.endswith("-") else None
-    return Expected(found.words, after, found.rows, found.more, {}, other)
+    return Expected(found.words, after, found.rows, found.more, {}, other_line(line, found.words, after))
+
+
+def other_line(line: Line, words: List[str], after: str) -> Optional[str]:
+    """Returns another line that is right. zsh matches the parts between hyphens: it may leave out a hyphen after which
+    options differ, and insert what shorts and longs have in common after their hyphens."""
+    if len(words) > 1 and after != line.text and after.endswith("-"):
+        return after[:-1]
+    common = os.path.commonprefix([word.lstrip("-") for word in words])
+    return line.text + common if line.current == "-" and common else None
 
 
 class Read:
-    """What a command has read of its words: the names of options that are left, and how many other words."""
+    """What a command has read of its words: the names of options that are left, how many other words, and the child
+    that such a word names."""
 
     def __init__(self, node: Node, parent: Optional[Node]):
         self.node, self.parent = node, parent
         self.left = {name: arg for arg in node.options + node.flags for name in dashed(arg)}
         self.ended, self.plain, self.after_option = False, 0, True
+        self.child: Optional[Node] = None
+        self.last: Json = {}
+        takes_many = [at for at, arg in enumerate(node.positionals) if counts(arg)[1] > 1 and not node.children]
+        self.many = takes_many[0] if takes_many else None
+
+    def option(self, words: List[str], at: int) -> Optional[int]:
+        """Reads an option, or `--`. Returns the place after it and its values, or `None` if the word is none."""
+        if words[at] == "--" and not self.ended:
+            self.ended = True
+            return at + 1
+        arg, inside = option_of(self, words[at])
+        self.after_option = arg is not None
+        if arg is None:
+            return None
+        self.last = arg
+        return at + 1 + (max(1, counts(arg)[0]) if takes_values(arg) and not inside else 0)
+
+    def word(self, word: str) -> bool:
+        """Reads a word that is no option. Returns whether it is a positional's or the name of a child."""
+        node = self.node
+        if node.children and self.plain == len(node.positionals):
+            self.child = node.child(word)
+            return self.child is not None
+        self.plain += 1
+        return bool(node.children or node.external or self.many is not None) or self.plain <= len(node.positionals)
+
+    def is_rest(self) -> bool:
+        """Returns whether a positional that takes many has its first word, after which nothing else counts."""
+        return self.many is not None and self.plain > self.many
 
     def take(self, name: str) -> None:
         """Takes an option out that was given, and those that it excludes."""
@@ -82,41 +119,23 @@ class Read:
 
 
 def completed(node: Node, parent: Optional[Node], words: List[str], current: str) -> Found:
-    state, below, at = Read(node, parent), None, 0
-    many = next((at for at, arg in enumerate(node.positionals) if counts(arg)[1] > 1), None)
-    if many is not None and not node.children and "value_terminator" in node.positionals[many]:
+    """Returns what a command offers after these words, the first of which follows its name."""
+    state, at = Read(node, parent), 0
+    if state.many is not None and "value_terminator" in node.positionals[state.many]:
         return Found([], current, " ", (TERMINATOR,))
-    while at < len(words):
-        word = words[at]
-        at += 1
-        if word == "--" and not state.ended:
-            state.ended = True
-            continue
-        arg, inside = option_of(state, word)
-        if arg and takes_values(arg) and not inside:
-            least = max(1, counts(arg)[0])
-            if len(words) - at < least:
-                return with_optional(arg, state, current)
-            at += least
-        if arg:
-            state.after_option = True
-            continue
-        state.after_option = False
-        if below:
-            return completed(below, node, words[at - 1:], current)
-        if node.children and state.plain == len(node.positionals):
-            below = node.child(word)
-            if not below:
-                return Found([], current)
-        elif not node.children and many is not None and state.plain >= many:
-            return rest(node.positionals[many], state, current)
-        elif not node.children and state.plain >= len(node.positionals) and not node.external:
+    while at < len(words) and not state.is_rest():
+        after = state.option(words, at)
+        if after is None and state.child:
+            return completed(state.child, node, words[at:], current)
+        if after is None and not state.word(words[at]):
             return Found([], current)
-        state.plain += 1
-    if below:
-        return in_child(state, below, current)
-    if many is not None and not node.children and state.plain >= many and not state.after_option:
-        return rest(node.positionals[many], state, current)
+        at = after or at + 1
+    if at > len(words):
+        return with_optional(state.last, state, current)
+    if state.child:
+        return in_child(state, state.child, current)
+    if state.is_rest() or state.many == state.plain and not state.after_option:
+        return rest(node.positionals[state.many or 0], state, current)
     return at_word(state, current)
 
 
@@ -265,6 +284,7 @@ def value(arg: Json, current: str) -> Found:
         path = os.path.join(model.folder_of_programs, COMMAND)
         return Found([path] if current == COMMAND[:2] else [], current, " ", (), not current)
     known = {"CommandName": [COMMAND], "CommandString": [COMMAND, "-"], "CommandWithArguments": [COMMAND],
-             "Username": [USER], "Hostname": [HOST], "Url": ["http://", "https://"]}
+             "Username": [USER], "Hostname": [HOST], "Url": ["http://", "https://"],
+             "EmailAddress": [USER + "@"] if current else []}
     return Found([name for name in known.get(hint, []) if name.startswith(current)], current,
-                 "" if hint in ("Url", "CommandString") else " ", (), hint in known and not current)
+                 "" if hint in ("Url", "CommandString", "EmailAddress") else " ", (), hint in known and not current)

@@ -145,7 +145,7 @@ class Line(NamedTuple):
         return Line((*words, *self.before[1:]), self.current, self.kind)
 
 
-HINTED = {"Username": USER[:2], "Url": "ht"}
+HINTED = {"Username": USER[:2], "EmailAddress": USER[:2], "Url": "ht"}
 
 
 def lines(root: Node, path_of_program: str) -> Iterator[Line]:
@@ -252,8 +252,8 @@ class Expected(NamedTuple):
 
 def after_tab(text: str, current: str, words: Iterable[str], ending: str = " ") -> str:
     """Returns the command line after a Tab: the only word is inserted with an ending, and of several words their
-    common beginning. A directory ends with its `/`."""
-    found = list(dict.fromkeys(words))
+    common beginning. A directory ends with its `/`, and a space in a word has a backslash before it."""
+    found = [word.replace(" ", "\\ ") for word in dict.fromkeys(words)]
     if not found:
         return text
     common = os.path.commonprefix(found)
