@@ -9,7 +9,7 @@ from __future__ import annotations
 import re
 from typing import List, Tuple
 
-from model import Expected, Json, Line, Node, after_tab, counts, dashed, files, shown_values
+from model import Expected, Json, Line, Node, after_tab, dashed, files, shown_values
 
 # Rows of docs/DIFFERENCES.md.
 BLANKS, HINTS_ARE_FILES, POSITIONALS, AFTER_EQUALS, HIDDEN_VALUES, BEHIND_DASHES, WORDS_SELECT = range(38, 45)
@@ -78,7 +78,8 @@ def rows_of_names(node: Node, line: Line, current: str, found: List[str]) -> Tup
         rows.append(BEHIND_DASHES)
     if not node.children and not current.startswith("-"):
         rows.append(POSITIONALS)
-    hidden = {value["name"] for arg in node.positionals for value in arg.get("possible_values", ()) if value.get("hide")}
+    values_of_all = [value for arg in node.positionals for value in arg.get("possible_values", ())]
+    hidden = {value["name"] for value in values_of_all if value.get("hide")}
     if hidden & set(found):
         rows.append(HIDDEN_VALUES)
     return tuple(rows)

@@ -14,7 +14,7 @@ from __future__ import annotations
 import re
 from typing import Callable, Dict, Iterator, List, Optional, Set, Tuple
 
-from model import COMMAND, DIRECTORY, HOST, USER, Expected, Json, Line, Node, after_tab, counts, dashed, files, shown_values
+from model import COMMAND, DIRECTORY, HOST, USER, Expected, Json, Line, Node, after_tab, dashed, files, shown_values
 from model import takes_values
 
 # Rows of docs/DIFFERENCES.md.

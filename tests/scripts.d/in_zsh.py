@@ -9,11 +9,11 @@ hyphen, or if there is nothing else.
 from __future__ import annotations
 
 import os
-from typing import List, NamedTuple, Optional, Tuple
+from typing import List, NamedTuple, Optional, Tuple, Union
 
 import model
-from model import COMMAND, HOST, USER, Expected, Json, Line, Node, after_tab, counts, dashed, files, is_option
-from model import shown_values, takes_values
+from model import COMMAND, HOST, USER, Expected, Json, Line, Node, after_tab, counts, dashed, files, shown_values
+from model import takes_values
 
 # Rows of docs/DIFFERENCES.md.
 MANY, NEXT_POSITIONAL, BEHIND_DASHES, OF_PARENT, TERMINATOR, STALE = 52, 53, 54, 55, 56, 57
@@ -228,9 +228,10 @@ def is_stale(state: Read) -> bool:
     return bool(node.positionals) or any(child.args or child.children for child in namesakes)
 
 
-def positionals(state: Read) -> Tuple[list, Tuple[int, ...]]:
+def positionals(state: Read) -> Tuple[List[Union[Json, Found]], Tuple[int, ...]]:
     """Returns the positionals that the next word may be, or the names of children, up to the first that must be."""
-    node, found = state.node, []
+    node = state.node
+    found: List[Union[Json, Found]] = []
     rows: Tuple[int, ...] = ()
     for at, arg in enumerate(node.positionals):
         many = counts(arg)[1] > 1 and not node.children
@@ -238,7 +239,7 @@ def positionals(state: Read) -> Tuple[list, Tuple[int, ...]]:
             found.append(arg)
             if arg.get("required") and not many:
                 return found, rows
-            if many and not arg.get("value_terminator"):
+            if many:
                 break
     else:
         if node.children and state.plain <= len(node.positionals):

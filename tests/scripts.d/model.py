@@ -227,7 +227,8 @@ def drawn(root: Node, path_of_program: str, count: int, seed: int) -> List[Line]
         if not line.before[0]:
             continue
         kinds.setdefault(line.kind, []).append(line)
-    chance, found = random.Random(seed), []
+    chance = random.Random(seed)
+    found: List[Line] = []
     for of_kind in kinds.values():
         chance.shuffle(of_kind)
     while len(found) < count and any(kinds.values()):

@@ -105,7 +105,8 @@ def command(chance: random.Random, name: str, above: List[str]) -> Json:
 def options(chance: random.Random, count: int, is_global: bool = False) -> List[Json]:
     made = []
     for at, word in enumerate(chance.sample(NAMES, count)):
-        arg: Json = {"id": f"{word}-{at}-{is_global}", "long": word + ("-all" if is_global else "-it"), "help": "Takes " + word}
+        long = word + ("-all" if is_global else "-it")
+        arg: Json = {"id": long, "long": long, "help": "Takes " + word}
         if chance.random() < 0.5:
             arg["short"] = "ghijk"[at] if is_global else "abcde"[at]
         kind = chance.randrange(3)
