@@ -6,7 +6,7 @@ import json
 import os
 import re
 import subprocess
-from typing import Dict, List, NamedTuple, Optional, Set, Tuple
+from typing import Dict, List, NamedTuple, Optional, Tuple
 
 import in_bash
 import in_elvish
@@ -17,6 +17,8 @@ import shells
 
 RULES = {"bash": in_bash, "zsh": in_zsh, "fish": in_fish, "elvish": in_elvish}
 OUTCOMES = ("as expected", "listed difference", "unexplained")
+# The shells that keep the order of a script.
+ORDERED = ("bash", "elvish")
 # The row of docs/DIFFERENCES.md about hidden names.
 HIDDEN = 37
 
@@ -86,19 +88,21 @@ def seen(shell: shells.Shell, line: model.Line) -> Seen:
     return Seen(offered, after, texts)
 
 
-def bare(words: List[str], line: model.Line) -> Set[str]:
-    """Returns words without the option before a `=` of the line, and without a `/` or `=` at the end."""
+def bare(words: List[str], line: model.Line) -> List[str]:
+    """Returns words without the option before a `=` of the line, and without a `/` or `=` at the end, each once."""
     before = line.current[:line.current.find("=") + 1] if line.current.startswith("--") else ""
     without = [word[len(before):] if word.startswith(before) else word for word in words]
-    return {word.rstrip("/=") for word in without} - {""}
+    return [word for word in dict.fromkeys(word.rstrip("/=") for word in without) if word]
 
 
-def fault(line: model.Line, wanted: model.Expected, found: Seen) -> str:
-    """Returns what is not as expected, or an empty text."""
+def fault(name: str, line: model.Line, wanted: model.Expected, found: Seen) -> str:
+    """Returns what is not as expected in the shell of this name, or an empty text."""
     offered, expected = bare(found.offered, line), bare(wanted.words, line)
-    more, less = sorted(offered - expected), sorted(expected - offered)
+    more, less = sorted(set(offered) - set(expected)), sorted(set(expected) - set(offered))
     if less or more and not wanted.more:
         return f"offers more {more[:9]}, less {less[:9]}"
+    if name in ORDERED and offered != expected and model.FILE not in expected:
+        return f"offers {offered[:9]}, not in the order {expected[:9]}"
     if found.line not in (wanted.line, wanted.other_line) and not wanted.more:
         return f"the line becomes {found.line!r}, not {wanted.line!r}"
     for name, text in found.texts.items():
@@ -112,7 +116,7 @@ def tried(shell: shells.Shell, root: model.Node, line: model.Line, version: str)
     wanted, told = RULES[shell.name].expected(root, line, version), ""
     rows = wanted.rows + ((HIDDEN,) if root.hidden_names() & set(wanted.words) else ())
     for _ in range(2):
-        told = fault(line, wanted, seen(shell, line))
+        told = fault(shell.name, line, wanted, seen(shell, line))
         if not told:
             return Outcome("listed difference" if rows else "as expected", "", rows, wanted.more)
     return Outcome("unexplained", told, rows, wanted.more)

@@ -20,11 +20,13 @@ class Error(NamedTuple):
 
 ERRORS = (
     Error("bash", "an alias is missing in the list of the root", " remove rm update ", " remove update "),
+    Error("bash", "two names are swapped", " install i add ", " i install add "),
     Error("bash", "a label is broken", 'cmd="app__subcmd__install"', 'cmd="app__subcmd__instal"'),
     Error("bash", "a possible value is missing", '"auto always never"', '"auto never"'),
     Error("fish", "a condition names another command", "__fish_app_using_subcommand install\"",
           "__fish_app_using_subcommand instal\""),
-    Error("fish", "a condition lacks `not`", "; and not __fish_seen_subcommand_from", "; and __fish_seen_subcommand_from"),
+    Error("fish", "a condition lacks `not`", "; and not __fish_seen_subcommand_from",
+          "; and __fish_seen_subcommand_from"),
     Error("fish", "an option of the root is read as a flag", " root= ", " root "),
     Error("fish", "a description is another one's", "-d 'Update packages", "-d 'Remove packages"),
     Error("zsh", "two conflicts are swapped", "'(-q --quiet)*--verbose[", "'(-v --verbose)*--verbose["),
