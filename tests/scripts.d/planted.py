@@ -10,32 +10,33 @@ import shells
 
 
 class Error(NamedTuple):
-    """An error: what it is, and the text of the script that is replaced everywhere."""
+    """An error: what it is, the text of the script that is replaced everywhere, and a text of the lines that are typed."""
 
     shell: str
     what: str
     old: str
     new: str
+    near: str
 
 
 ERRORS = (
-    Error("bash", "an alias is missing in the list of the root", " remove rm update ", " remove update "),
-    Error("bash", "two names are swapped", " install i add ", " i install add "),
-    Error("bash", "a label is broken", 'cmd="app__subcmd__install"', 'cmd="app__subcmd__instal"'),
-    Error("bash", "a possible value is missing", '"auto always never"', '"auto never"'),
+    Error("bash", "an alias is missing in the list of the root", " remove rm update ", " remove update ", "app r"),
+    Error("bash", "two names are swapped", " install i add ", " i install add ", "app i"),
+    Error("bash", "a label is broken", 'cmd="app__subcmd__install"', 'cmd="app__subcmd__instal"', " install "),
+    Error("bash", "a possible value is missing", '"auto always never"', '"auto never"', "--colo"),
     Error("fish", "a condition names another command", "__fish_app_using_subcommand install\"",
-          "__fish_app_using_subcommand instal\""),
+          "__fish_app_using_subcommand instal\"", " install "),
     Error("fish", "a condition lacks `not`", "; and not __fish_seen_subcommand_from",
-          "; and __fish_seen_subcommand_from"),
-    Error("fish", "an option of the root is read as a flag", " root= ", " root "),
-    Error("fish", "a description is another one's", "-d 'Update packages", "-d 'Remove packages"),
-    Error("zsh", "two conflicts are swapped", "'(-q --quiet)*--verbose[", "'(-v --verbose)*--verbose["),
-    Error("zsh", "an option may not be used again", "*--verbose[", "--verbose["),
-    Error("zsh", "an alias leads nowhere", "\n(i)\n", "\n(ii)\n"),
+          "; and __fish_seen_subcommand_from", "app src "),
+    Error("fish", "an option of the root is read as a flag", " root= ", " root ", "app --root"),
+    Error("fish", "a description is another one's", "-d 'Update packages", "-d 'Remove packages", "app u"),
+    Error("zsh", "two conflicts are swapped", "'(-q --quiet)*--verbose[", "'(-v --verbose)*--verbose[", "--verbose -"),
+    Error("zsh", "an option may not be used again", "*--verbose[", "--verbose[", "--verbose -"),
+    Error("zsh", "an alias leads nowhere", "\n(i)\n", "\n(ii)\n", " i "),
     Error("zsh", "an option takes no value", "'--from=[Take the packages from this source]:SOURCE:_default'",
-          "'--from[Take the packages from this source]'"),
-    Error("elvish", "an option lacks its `--`", "cand --color ", "cand color "),
-    Error("elvish", "a table has another name", "&'app;src;rm'=", "&'app;src;rn'="),
+          "'--from[Take the packages from this source]'", "--fr"),
+    Error("elvish", "an option lacks its `--`", "cand --color ", "cand color ", "app s"),
+    Error("elvish", "a table has another name", "&'app;src;rm'=", "&'app;src;rn'=", "src rm "),
 )
 
 
@@ -44,7 +45,7 @@ def tried(error: Error, complgen: str, tree: str, seed: int) -> str:
     script = compared.script_of(complgen, error.shell, tree)
     if error.old not in script:
         return ""
-    lines = model.drawn(compared.root_of(tree), "", 10000, seed)
+    lines = [line for line in model.drawn(compared.root_of(tree), "", 10000, seed) if error.near in line.text + " "]
     line, told = first_fault(error.shell, script.replace(error.old, error.new), lines, tree)
     if not line or first_fault(error.shell, script, [line], tree)[0]:
         return ""
