@@ -13,11 +13,12 @@ tree file, changed or not, whose arguments have values from commands, files and 
 on the standard input. The input need not be UTF-8.
 
 Each run has to end within a second, or on a busy machine after less than a second of processor time. It
-has to end by no signal, with status 0, 1 or 2, or with 3 if a shell requests something. With status 0, it prints nothing to the standard error, except how many tree files it skipped.
-With status 3, it prints words to the standard output, each with a vertical tab after it, and nothing
-else. With another status, it prints nothing to the standard output. To the standard error it prints one
-of the texts that docs/TEXTS.md lists, or the command line's own text, or nothing if a program has no
-tree file. Only `check` prints findings to the standard output, at least one if the status is 1.
+has to end by no signal, with status 0, 1 or 2, or with 3 if a shell requests something. With status 0, it
+prints nothing to the standard error, except how many tree files it skipped. With status 3, it prints words
+to the standard output, each with a vertical tab after it, and nothing else. With another status, it prints
+nothing to the standard output. To the standard error it prints one of the texts that docs/TEXTS.md lists,
+or the command line's own text, or nothing if a program has no tree file. Only `check` prints findings to
+the standard output, at least one if the status is 1.
 
 The script prints each run that fails with its number, which --only repeats. Then it prints how many
 runs ended with which text. The status is 0 if no run failed.
