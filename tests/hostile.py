@@ -12,12 +12,13 @@ have changed files and odd names, or do not exist. The last run is `complgen` as
 tree file, changed or not, whose arguments have values from commands, files and hints, with random lines
 on the standard input. The input need not be UTF-8.
 
-Each run has to end within a second, by no signal, with status 0, 1 or 2, or with 3 if a shell requests
-something. With status 0, it prints nothing to the standard error, except how many tree files it skipped.
-With status 3, it prints words to the standard output, each with a vertical tab after it, and nothing
-else. With another status, it prints nothing to the standard output. To the standard error it prints one
-of the texts that docs/TEXTS.md lists, or the command line's own text, or nothing if a program has no
-tree file. Only `check` prints findings to the standard output, at least one if the status is 1.
+Each run has to end within a second, or on a busy machine after less than a second of processor time. It
+has to end by no signal, with status 0, 1 or 2, or with 3 if a shell requests something. With status 0, it
+prints nothing to the standard error, except how many tree files it skipped. With status 3, it prints words
+to the standard output, each with a vertical tab after it, and nothing else. With another status, it prints
+nothing to the standard output. To the standard error it prints one of the texts that docs/TEXTS.md lists,
+or the command line's own text, or nothing if a program has no tree file. Only `check` prints findings to
+the standard output, at least one if the status is 1.
 
 The script prints each run that fails with its number, which --only repeats. Then it prints how many
 runs ended with which text. The status is 0 if no run failed.
@@ -30,6 +31,7 @@ import json
 import os
 import random
 import re
+import resource
 import shutil
 import subprocess
 import sys
@@ -42,6 +44,8 @@ SHELLS = list(common.SHELLS)
 # The greatest depth to which objects and lists of a tree file may nest.
 DEEPEST = 127
 SECONDS = 1
+# A run that takes longer is repeated with a limit of processor time: the machine may do other things.
+LONGEST = 60
 
 UNKNOWN_SHELL = "unknown shell `.*`, expected one of `bash`, `elvish`, `fish`, `powershell`, `zsh`"
 # The texts of refused runs, by status.
@@ -130,14 +134,20 @@ def reported(results):
 def run(case, program, folder):
     """Returns how a run ended, and what is wrong with that, or `None`."""
     environment = {"PATH": os.environ["PATH"], "HOME": folder, **case.environment}
-    try:
-        done = subprocess.run(
-            [program, *case.words], env=environment, cwd=folder, input=case.given,
-            capture_output=True, timeout=SECONDS,
-        )
-    except subprocess.TimeoutExpired:
-        return "no end", f"no end within {SECONDS} s"
-    return judged(case.kind, done.returncode, done.stdout, done.stderr.decode(errors="replace"))
+    for seconds, before in ((SECONDS, None), (LONGEST, limit_processor_time)):
+        try:
+            done = subprocess.run(
+                [program, *case.words], env=environment, cwd=folder, input=case.given,
+                capture_output=True, timeout=seconds, preexec_fn=before,
+            )
+        except subprocess.TimeoutExpired:
+            continue
+        return judged(case.kind, done.returncode, done.stdout, done.stderr.decode(errors="replace"))
+    return "no end", f"no end within {SECONDS} s"
+
+
+def limit_processor_time():
+    resource.setrlimit(resource.RLIMIT_CPU, (SECONDS, SECONDS))
 
 
 def judged(kind, status, written, printed):
