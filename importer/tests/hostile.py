@@ -108,7 +108,7 @@ def main(words):
         times = [seconds(text_of(*ALL_SHAPES[int(words[1])], size)) for size in SIZES]
         memory = resource.getrusage(resource.RUSAGE_SELF).ru_maxrss / 1024
         return print("".join(f"{it:8.2f}" for it in times) + f"{memory:8.0f}")
-    print(f"A loop of ten million rounds takes {loop_seconds():.2f} s, on an idle machine about 0.25 s.")
+    print(f"A loop of ten million rounds takes {loop_seconds():.2f} s. It took 0.13 s for the figures of importer/README.md.")
     print(f"{'begins':24}{'repeated':28}  64 KiB 256 KiB   1 MiB      MB")
     for number, (head, unit) in enumerate(ALL_SHAPES):
         if words and not re.search(words[0], head + unit):
