@@ -41,7 +41,7 @@ impl EnvCompleter for Powershell {
         write_powershell(alloc, sink, variable, bin, completer)
     }
 
-    #[tactic(auto, using(cc_replies::proofs::EntryReadings::entries_back))]
+    #[tactic(auto, using(cc_replies::proofs::EntryReadings::entries_back, cc_replies::proofs::ReplyReadings::lines_back))]
     fn write_complete_from<L: Lookup, W: Sink>(
         &self,
         alloc: Global,
