@@ -32,7 +32,7 @@ builtin_back : (shell : Builtin) (env : EnvValues) (found : List CompletionCandi
 builtin_back Bash env found = values_back (separator_of env) found
 builtin_back Elvish env found = values_back (separator_of env) found
 builtin_back Fish env found = lines_back found
-builtin_back Powershell env found = entries_back found
+builtin_back Powershell env found = (lines_back found, entries_back found)
 builtin_back Zsh env found = zsh_back (separator_of env) found
 
 pub back_when : (safe : Bool) (shell : Builtin) (env : EnvValues)

@@ -80,7 +80,7 @@ powershell_spec = record {
   Reads = λ variable name bin completer. PowershellReads variable bin completer;
   Wants = λ env words wanted index. WantsAtLast words wanted index;
   reply = λ env found. lines_reply found;
-  ReplyReads = λ env found. EntriesRead found;
+  ReplyReads = λ env found. LinesRead found × EntriesRead found;
 }
 
 abbrev pub zsh_spec : CompleterSpec

@@ -4,13 +4,15 @@ ghost use Rattle.cc_env.specs.Builtins.{builtin_spec};
 
 use crate::bash::Bash;
 use crate::elvish::Elvish;
-use crate::env_completer::EnvCompleter;
+use crate::env_completer::{EnvCompleter, LookupCompleter};
 use crate::fish::Fish;
 use crate::powershell::Powershell;
 use crate::zsh::Zsh;
 use cc_base::{Error, Sink};
+use cc_candidates::Completers;
 use cc_command::Command;
-use cc_engine::Lookup;
+use cc_engine::{Lookup, Sources};
+use cc_paths::Folder;
 use cc_replies::EnvValues;
 use std::alloc::Global;
 
@@ -88,6 +90,27 @@ impl EnvCompleter for Builtin {
         ))
     }
 
+    fn write_complete<D: Folder, W: Sink>(
+        &self,
+        alloc: Global,
+        command: &mut Command,
+        words: Vec<String>,
+        current_dir: Option<&str>,
+        env: &EnvValues,
+        folder: &D,
+        completers: &Completers,
+        sink: &mut W,
+    ) -> Result<(), Error> {
+        let sources = Sources {
+            current_dir,
+            folder,
+            completers,
+        };
+        self.write_complete_from(alloc, command, words, env, &sources, sink)
+    }
+}
+
+impl LookupCompleter for Builtin {
     fn write_complete_from<L: Lookup, W: Sink>(
         &self,
         alloc: Global,

@@ -13,7 +13,7 @@ ghost use Rattle.cc_env.specs.Requested.{FindsShell, found_shell};
 ghost use Rattle.cc_env.specs.Steps.{MakesText, Tries, made_bytes, names_of};
 
 use crate::builtin::Builtin;
-use crate::env_completer::EnvCompleter;
+use crate::env_completer::{EnvCompleter, LookupCompleter};
 use crate::safe_shell::SafeShell;
 use crate::shell_program::ShellProgram;
 use crate::shells::Shells;
@@ -152,7 +152,8 @@ impl<'s, F: Fn(Global) -> Result<Command, Error> + Drop, E: EnvCompleter> Comple
     ///
     /// `args` are the arguments of the program, its name first. `env` has the value of the
     /// variable, and those of `_CLAP_COMPLETE_INDEX` and `_CLAP_IFS`, which registrations set.
-    /// `lookup` finds the candidates that the command does not hold. Write nothing else to `out`.
+    /// `folder` and `completers` have the candidates that the command does not hold. Relative paths
+    /// begin at `current_dir`. Write nothing else to `out`.
     ///
     /// A registration names the variable, the command, the binary and the completer, as `bin` and
     /// `completer` set them. A completer that was not set and leads through a directory, as `./app`
@@ -164,37 +165,6 @@ impl<'s, F: Fn(Global) -> Result<Command, Error> + Drop, E: EnvCompleter> Comple
     /// `NoArguments` if `args` is empty; `NoCompletion` if the word to complete is not there or is
     /// the program's name. Nothing is written then, nor after `Memory`. `Write` if `out` fails,
     /// which may then hold part of the text.
-    pub fn try_complete_from<L: Lookup, W: Sink>(
-        self,
-        alloc: Global,
-        args: Vec<String>,
-        env: &EnvValues,
-        lookup: &L,
-        out: &mut W,
-    ) -> Result<bool, Error>
-        requires { F.IsAlwaysCallable self.factory }
-        ensures { Tries W.taken W.failed E.spec self.entry.shells.0.now (λ shell. MakesText
-            (λ made. F.post self.entry.factory alloc made) (E.spec shell)
-            (names_of self.entry.variable.now self.entry.bin self.entry.completer
-            (L.current lookup.now)) env.now (Completes (L.may_return lookup.now))
-            (map string_bytes args.items))
-            (wanted_name (value_of self.entry.variable.now env.now)) out.old out.new result }
-    {
-        let Some(name) = wanted_name(env.get(self.variable)) else {
-            return Ok(false);
-        };
-        let shell = known_shell(alloc, &self.shells, name)?;
-        let text = self.make_text(alloc, shell, args, env, lookup)?;
-        put_all(out, text.as_slice())?;
-        Ok(true)
-    }
-
-    /// Writes a registration or a reply, as `try_complete_from` does, from `Sources` of a
-    /// directory, a folder and completers.
-    ///
-    /// # Errors
-    ///
-    /// Those of `try_complete_from`.
     pub fn try_complete<D: Folder, W: Sink>(
         self,
         alloc: Global,
@@ -214,12 +184,18 @@ impl<'s, F: Fn(Global) -> Result<Command, Error> + Drop, E: EnvCompleter> Comple
             (option_copied current_dir.entry))) (map string_bytes args.items))
             (wanted_name (value_of self.entry.variable.now env.now)) out.old out.new result }
     {
+        let Some(name) = wanted_name(env.get(self.variable)) else {
+            return Ok(false);
+        };
+        let adapter = known_shell(alloc, &self.shells, name)?;
         let sources = Sources {
             current_dir,
             folder,
             completers,
         };
-        self.try_complete_from(alloc, args, env, &sources, out)
+        let text = self.make_text_of_sources(alloc, adapter, args, env, &sources)?;
+        put_all(out, text.as_slice())?;
+        Ok(true)
     }
 
     /// Returns the shell that `env` requests by the value of the variable, or `None` if it requests
@@ -266,6 +242,71 @@ impl<'s, F: Fn(Global) -> Result<Command, Error> + Drop, E: EnvCompleter> Comple
         ensures { F.post self.now.factory alloc result }
     {
         (self.factory)(alloc)
+    }
+
+    // Returns the text for a shell and the arguments of the program, from a folder and completers.
+    fn make_text_of_sources<'p, D: Folder>(
+        &'p self,
+        alloc: Global,
+        shell: &'p E,
+        args: Vec<String>,
+        env: &EnvValues,
+        sources: &Sources<'_, D, Completers>,
+    ) -> Result<Collected, Error>
+        requires { F.IsAlwaysCallable self.now.factory }
+        ensures { MakesText (λ made. F.post self.now.factory alloc made) (E.spec shell.now)
+            (names_of self.now.variable.now self.now.bin self.now.completer
+            (option_copied sources.now.current_dir)) env.now (Completes (returned_from
+            ⟦<Completers as CandidateSources>⟧ sources.now.completers.now
+            (D.facts sources.now.folder.now) (option_copied sources.now.current_dir)))
+            (map string_bytes args.items)
+            (made_bytes result) }
+    {
+        let made = (self.factory)(alloc)?;
+        let program = ShellProgram {
+            shell,
+            variable: self.variable,
+            bin: some_text(&self.bin),
+            completer: some_text(&self.completer),
+            release: self.release,
+        };
+        program.text_of_sources(alloc, made, args, env, sources)
+    }
+}
+
+impl<'s, F, E> CompleteEnv<'s, F, E>
+where
+    F: Fn(Global) -> Result<Command, Error> + Drop,
+    E: LookupCompleter,
+{
+    /// Writes a registration or a reply, as `try_complete` does, from what `lookup` finds.
+    ///
+    /// # Errors
+    ///
+    /// Those of `try_complete`.
+    pub fn try_complete_from<L: Lookup, W: Sink>(
+        self,
+        alloc: Global,
+        args: Vec<String>,
+        env: &EnvValues,
+        lookup: &L,
+        out: &mut W,
+    ) -> Result<bool, Error>
+        requires { F.IsAlwaysCallable self.factory }
+        ensures { Tries W.taken W.failed E.spec self.entry.shells.0.now (λ shell. MakesText
+            (λ made. F.post self.entry.factory alloc made) (E.spec shell)
+            (names_of self.entry.variable.now self.entry.bin self.entry.completer
+            (L.current lookup.now)) env.now (Completes (L.may_return lookup.now))
+            (map string_bytes args.items))
+            (wanted_name (value_of self.entry.variable.now env.now)) out.old out.new result }
+    {
+        let Some(name) = wanted_name(env.get(self.variable)) else {
+            return Ok(false);
+        };
+        let shell = known_shell(alloc, &self.shells, name)?;
+        let text = self.make_text(alloc, shell, args, env, lookup)?;
+        put_all(out, text.as_slice())?;
+        Ok(true)
     }
 
     // Returns the text for a shell and the arguments of the program.

@@ -1,4 +1,4 @@
-//! The trait of the adapters for shells.
+//! The traits of the adapters for shells.
 
 ghost use Rattle.std.specs.Prelude.{◌≡◌, true, List, map, string_bytes};
 ghost use Rattle.std.specs.Option.{option_copied};
@@ -10,9 +10,9 @@ ghost use Rattle.cc_engine.specs.Completion.{Completes};
 ghost use Rattle.cc_engine.specs.Sources.{returned_from};
 
 use cc_base::{CandidateSources, Error, Sink};
-use cc_candidates::CompletionCandidate;
+use cc_candidates::{Completers, CompletionCandidate};
 use cc_command::Command;
-use cc_engine::{Lookup, Sources};
+use cc_engine::Lookup;
 use cc_paths::Folder;
 use cc_replies::EnvValues;
 use std::alloc::Global;
@@ -53,8 +53,8 @@ pub trait EnvCompleter {
         ensures read_back { (spec self.now).Reads variable.now name.now bin.now completer.now };
 
     /// Writes the reply for `words`, those of a command line: the candidates for the word that the
-    /// shell completes. They come from `command`, which is built first, and from what `lookup`
-    /// finds.
+    /// shell completes. They come from `command`, which is built first, from `completers`, and from
+    /// the paths in `folder`. Relative paths begin at `current_dir`.
     ///
     /// # Errors
     ///
@@ -62,6 +62,32 @@ pub trait EnvCompleter {
     /// the command is built all the same. `Memory` if an allocation fails; the command is then as
     /// it was, or built. Neither error writes anything. `Write` if the sink fails, which may
     /// then hold part of the reply.
+    fn write_complete<D: Folder, W: Sink>(
+        &self,
+        alloc: Global,
+        command: &mut Command,
+        words: Vec<String>,
+        current_dir: Option<&str>,
+        env: &EnvValues,
+        folder: &D,
+        completers: &Completers,
+        sink: &mut W,
+    ) -> Result<(), Error>
+        ensures reply { Replies W.taken W.failed result sink.old sink.new command.old command.new
+            ((spec self.now).Wants env.now (map string_bytes words.items)) (Completes (returned_from
+            ⟦<Completers as CandidateSources>⟧ completers.now (D.facts folder.now)
+            (option_copied current_dir.entry)) command.new) ((spec self.now).reply env.now) }
+        ensures read_back { (candidates : List CompletionCandidate)
+            → (spec self.now).ReplyReads env.now candidates };
+}
+
+/// An adapter that replies from any `Lookup`, as those of this library do.
+pub trait LookupCompleter: EnvCompleter {
+    /// Writes the reply for `words`, as `write_complete` does, from what `lookup` finds.
+    ///
+    /// # Errors
+    ///
+    /// Those of `write_complete`.
     fn write_complete_from<L: Lookup, W: Sink>(
         &self,
         alloc: Global,
@@ -72,40 +98,8 @@ pub trait EnvCompleter {
         sink: &mut W,
     ) -> Result<(), Error>
         ensures reply { Replies W.taken W.failed result sink.old sink.new command.old command.new
-            ((spec self.now).Wants env.now (map string_bytes words.items))
-            (Completes (L.may_return lookup.now) command.new) ((spec self.now).reply env.now) }
+            ((Self.spec self.now).Wants env.now (map string_bytes words.items))
+            (Completes (L.may_return lookup.now) command.new) ((Self.spec self.now).reply env.now) }
         ensures read_back { (candidates : List CompletionCandidate)
-            → (spec self.now).ReplyReads env.now candidates };
-
-    /// Writes the reply for `words`, as `write_complete_from` does, from `Sources` of a directory,
-    /// a folder and completers.
-    ///
-    /// # Errors
-    ///
-    /// Those of `write_complete_from`.
-    fn write_complete<D: Folder, C: CandidateSources<Candidate = CompletionCandidate>, W: Sink>(
-        &self,
-        alloc: Global,
-        command: &mut Command,
-        words: Vec<String>,
-        current_dir: Option<&str>,
-        env: &EnvValues,
-        folder: &D,
-        completers: &C,
-        sink: &mut W,
-    ) -> Result<(), Error>
-        ensures reply { Replies W.taken W.failed result sink.old sink.new command.old command.new
-            ((spec self.now).Wants env.now (map string_bytes words.items)) (Completes
-            (returned_from C.CandidateSources completers.now (D.facts folder.now)
-            (option_copied current_dir.entry)) command.new) ((spec self.now).reply env.now) }
-        ensures read_back { (candidates : List CompletionCandidate)
-            → (spec self.now).ReplyReads env.now candidates }
-    {
-        let sources = Sources {
-            current_dir,
-            folder,
-            completers,
-        };
-        self.write_complete_from(alloc, command, words, env, &sources, sink)
-    }
+            → (Self.spec self.now).ReplyReads env.now candidates };
 }

@@ -44,7 +44,7 @@ pub use crate::bash::Bash;
 pub use crate::builtin::Builtin;
 pub use crate::complete_env::CompleteEnv;
 pub use crate::elvish::Elvish;
-pub use crate::env_completer::EnvCompleter;
+pub use crate::env_completer::{EnvCompleter, LookupCompleter};
 pub use crate::fish::Fish;
 pub use crate::powershell::Powershell;
 pub use crate::safe_shell::SafeShell;

@@ -2,11 +2,13 @@
 
 ghost use Rattle.cc_env.specs.Builtins.{powershell_spec};
 
-use crate::env_completer::EnvCompleter;
+use crate::env_completer::{EnvCompleter, LookupCompleter};
 use crate::reply::{Lines, last_index, reply_at};
 use cc_base::{Error, Sink};
+use cc_candidates::Completers;
 use cc_command::Command;
-use cc_engine::Lookup;
+use cc_engine::{Lookup, Sources};
+use cc_paths::Folder;
 use cc_registrations::write_powershell;
 use cc_replies::EnvValues;
 use std::alloc::Global;
@@ -41,7 +43,28 @@ impl EnvCompleter for Powershell {
         write_powershell(alloc, sink, variable, bin, completer)
     }
 
-    #[tactic(auto, using(cc_replies::proofs::EntryReadings::entries_back))]
+    fn write_complete<D: Folder, W: Sink>(
+        &self,
+        alloc: Global,
+        command: &mut Command,
+        words: Vec<String>,
+        current_dir: Option<&str>,
+        env: &EnvValues,
+        folder: &D,
+        completers: &Completers,
+        sink: &mut W,
+    ) -> Result<(), Error> {
+        let sources = Sources {
+            current_dir,
+            folder,
+            completers,
+        };
+        self.write_complete_from(alloc, command, words, env, &sources, sink)
+    }
+}
+
+impl LookupCompleter for Powershell {
+    #[tactic(auto, using(cc_replies::proofs::EntryReadings::entries_back, cc_replies::proofs::ReplyReadings::lines_back))]
     fn write_complete_from<L: Lookup, W: Sink>(
         &self,
         alloc: Global,

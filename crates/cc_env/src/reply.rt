@@ -106,7 +106,7 @@ impl ReplyFormat for SafeReply<'_> {
 ///
 /// # Errors
 ///
-/// Those of `EnvCompleter::write_complete_from`.
+/// Those of `EnvCompleter::write_complete`.
 pub(crate) fn reply_at<L: Lookup, F: ReplyFormat, W: Sink>(
     alloc: Global,
     command: &mut Command,

@@ -10,11 +10,13 @@ ghost use Rattle.cc_engine.specs.Completion.{Completes};
 ghost use Rattle.cc_replies.specs.Environment.{ascii_only_of, kept_of, quote_of};
 
 use crate::builtin::Builtin;
-use crate::env_completer::EnvCompleter;
+use crate::env_completer::{EnvCompleter, LookupCompleter};
 use crate::reply::{SafeReply, last_index, reply_at};
 use cc_base::{Error, Sink};
+use cc_candidates::Completers;
 use cc_command::Command;
-use cc_engine::Lookup;
+use cc_engine::{Lookup, Sources};
+use cc_paths::Folder;
 use cc_registrations::{
     write_safe_bash, write_safe_elvish, write_safe_fish, write_safe_powershell, write_safe_zsh,
 };
@@ -142,6 +144,27 @@ impl EnvCompleter for SafeShell {
         self.write_registrations(alloc, variable, name, &[bin], completer, sink)
     }
 
+    fn write_complete<D: Folder, W: Sink>(
+        &self,
+        alloc: Global,
+        command: &mut Command,
+        words: Vec<String>,
+        current_dir: Option<&str>,
+        env: &EnvValues,
+        folder: &D,
+        completers: &Completers,
+        sink: &mut W,
+    ) -> Result<(), Error> {
+        let sources = Sources {
+            current_dir,
+            folder,
+            completers,
+        };
+        self.write_complete_from(alloc, command, words, env, &sources, sink)
+    }
+}
+
+impl LookupCompleter for SafeShell {
     #[tactic(auto, using(crate::proofs::SafeReplying::back_when))]
     fn write_complete_from<L: Lookup, W: Sink>(
         &self,

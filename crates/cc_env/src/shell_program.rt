@@ -5,14 +5,17 @@ ghost use Rattle.std.specs.Option.{option_copied};
 ghost use Rattle.cc_base.specs.Collected.{collected_bytes};
 ghost use Rattle.cc_command.specs.Built.{built_tree};
 ghost use Rattle.cc_engine.specs.Completion.{Completes};
+ghost use Rattle.cc_engine.specs.Sources.{returned_from};
 ghost use Rattle.cc_env.specs.Steps.{BuiltUnlessMemory, IsRegistration, MakesText, RepliesAs};
 ghost use Rattle.cc_env.specs.Steps.{completer_path, in_memory, made_bytes, names_of};
 
 use crate::arguments::{after_dashes, keep_last, program_path};
-use crate::env_completer::EnvCompleter;
-use cc_base::{Collected, Error, Text};
+use crate::env_completer::{EnvCompleter, LookupCompleter};
+use cc_base::{CandidateSources, Collected, Error, Text};
+use cc_candidates::Completers;
 use cc_command::{Command, Release, discard, full_name};
-use cc_engine::Lookup;
+use cc_engine::{Lookup, Sources};
+use cc_paths::Folder;
 use cc_replies::EnvValues;
 use std::alloc::{AllocError, Global};
 
@@ -32,7 +35,7 @@ pub struct ShellProgram<'a, E> {
     pub release: Release,
 }
 
-impl<'a, E: EnvCompleter> ShellProgram<'a, E> {
+impl<'a, E: LookupCompleter> ShellProgram<'a, E> {
     /// Returns the text for a run of the program with `args`, the program's name first: the
     /// registration if no words follow a `--`, and otherwise the reply to these words. `command` is
     /// that of the program, and is built first. `env` has the values of the variables that the
@@ -89,6 +92,111 @@ impl<'a, E: EnvCompleter> ShellProgram<'a, E> {
         self.reply(alloc, command, words, env, lookup)
     }
 
+    fn reply<L: Lookup>(
+        &self,
+        alloc: Global,
+        command: &mut Command,
+        words: Vec<String>,
+        env: &EnvValues,
+        lookup: &L,
+    ) -> Result<Collected, Error>
+        ensures replied { RepliesAs (E.spec self.now.shell.now) env.now
+            (map string_bytes words.items) (Completes (L.may_return lookup.now) command.new)
+            command.new (made_bytes result) }
+        ensures built { BuiltUnlessMemory (made_bytes result)
+            (command.new ≡ built_tree command.old) }
+    {
+        let mut text = Collected::new(alloc);
+        let shell = self.shell;
+        in_memory(shell.write_complete_from(alloc, command, words, env, lookup, &mut text))?;
+        Ok(text)
+    }
+}
+
+impl<'a, E: EnvCompleter> ShellProgram<'a, E> {
+    // Returns the text, as `text` does, from a folder and completers.
+    pub(crate) fn text_of_sources<D: Folder>(
+        &self,
+        alloc: Global,
+        mut command: Command,
+        args: Vec<String>,
+        env: &EnvValues,
+        sources: &Sources<'_, D, Completers>,
+    ) -> Result<Collected, Error>
+        ensures { MakesText (λ made. made ≡ Ok command) (E.spec self.now.shell.now)
+            (names_of self.now.variable.now (option_copied self.now.bin)
+            (option_copied self.now.completer) (option_copied sources.now.current_dir)) env.now
+            (Completes (returned_from ⟦<Completers as CandidateSources>⟧
+            sources.now.completers.now (D.facts sources.now.folder.now)
+            (option_copied sources.now.current_dir))) (map string_bytes args.items)
+            (made_bytes result) }
+    {
+        let text = self.text_over_sources(alloc, &mut command, args, env, sources);
+        discard(command, self.release);
+        text
+    }
+
+    // Returns the text, and builds the command.
+    fn text_over_sources<D: Folder>(
+        &self,
+        alloc: Global,
+        command: &mut Command,
+        args: Vec<String>,
+        env: &EnvValues,
+        sources: &Sources<'_, D, Completers>,
+    ) -> Result<Collected, Error>
+        ensures { MakesText (λ made. made ≡ Ok command.old) (E.spec self.now.shell.now)
+            (names_of self.now.variable.now (option_copied self.now.bin)
+            (option_copied self.now.completer) (option_copied sources.now.current_dir)) env.now
+            (Completes (returned_from ⟦<Completers as CandidateSources>⟧
+            sources.now.completers.now (D.facts sources.now.folder.now)
+            (option_copied sources.now.current_dir))) (map string_bytes args.items)
+            (made_bytes result) }
+    {
+        command.build(alloc)?;
+        let Some((program, rest)) = args.split_first() else {
+            return Err(Error::NoArguments);
+        };
+        let asked = after_dashes(rest);
+        if asked.is_empty() {
+            return self.registration(alloc, command, sources.current_dir, program.as_str());
+        }
+        let count = asked.len();
+        let words = keep_last(args, count);
+        self.reply_of_sources(alloc, command, words, env, sources)
+    }
+
+    fn reply_of_sources<D: Folder>(
+        &self,
+        alloc: Global,
+        command: &mut Command,
+        words: Vec<String>,
+        env: &EnvValues,
+        sources: &Sources<'_, D, Completers>,
+    ) -> Result<Collected, Error>
+        ensures replied { RepliesAs (E.spec self.now.shell.now) env.now
+            (map string_bytes words.items) (Completes (returned_from
+            ⟦<Completers as CandidateSources>⟧ sources.now.completers.now
+            (D.facts sources.now.folder.now) (option_copied sources.now.current_dir)) command.new)
+            command.new (made_bytes result) }
+        ensures built { BuiltUnlessMemory (made_bytes result)
+            (command.new ≡ built_tree command.old) }
+    {
+        let mut text = Collected::new(alloc);
+        let shell = self.shell;
+        in_memory(shell.write_complete(
+            alloc,
+            command,
+            words,
+            sources.current_dir,
+            env,
+            sources.folder,
+            sources.completers,
+            &mut text,
+        ))?;
+        Ok(text)
+    }
+
     fn registration(
         &self,
         alloc: Global,
@@ -135,26 +243,6 @@ impl<'a, E: EnvCompleter> ShellProgram<'a, E> {
             Some(completer) => Text::copy_of(alloc, completer),
             None => program_path(alloc, current_dir, program),
         }
-    }
-
-    fn reply<L: Lookup>(
-        &self,
-        alloc: Global,
-        command: &mut Command,
-        words: Vec<String>,
-        env: &EnvValues,
-        lookup: &L,
-    ) -> Result<Collected, Error>
-        ensures replied { RepliesAs (E.spec self.now.shell.now) env.now
-            (map string_bytes words.items) (Completes (L.may_return lookup.now) command.new)
-            command.new (made_bytes result) }
-        ensures built { BuiltUnlessMemory (made_bytes result)
-            (command.new ≡ built_tree command.old) }
-    {
-        let mut text = Collected::new(alloc);
-        let shell = self.shell;
-        in_memory(shell.write_complete_from(alloc, command, words, env, lookup, &mut text))?;
-        Ok(text)
     }
 }
 

@@ -4,11 +4,13 @@ ghost use Rattle.std.specs.Prelude.{◌≡◌, IfOk, map, string_bytes};
 ghost use Rattle.cc_env.specs.WantedWords.{with_next};
 ghost use Rattle.cc_env.specs.Builtins.{zsh_spec};
 
-use crate::env_completer::EnvCompleter;
+use crate::env_completer::{EnvCompleter, LookupCompleter};
 use crate::reply::{ZshItems, reply_at};
 use cc_base::{Error, Sink};
+use cc_candidates::Completers;
 use cc_command::Command;
-use cc_engine::Lookup;
+use cc_engine::{Lookup, Sources};
+use cc_paths::Folder;
 use cc_registrations::write_zsh;
 use cc_replies::EnvValues;
 use std::alloc::{AllocError, Global};
@@ -43,6 +45,27 @@ impl EnvCompleter for Zsh {
         write_zsh(alloc, sink, variable, name, bin, completer)
     }
 
+    fn write_complete<D: Folder, W: Sink>(
+        &self,
+        alloc: Global,
+        command: &mut Command,
+        words: Vec<String>,
+        current_dir: Option<&str>,
+        env: &EnvValues,
+        folder: &D,
+        completers: &Completers,
+        sink: &mut W,
+    ) -> Result<(), Error> {
+        let sources = Sources {
+            current_dir,
+            folder,
+            completers,
+        };
+        self.write_complete_from(alloc, command, words, env, &sources, sink)
+    }
+}
+
+impl LookupCompleter for Zsh {
     #[tactic(auto, using(cc_replies::proofs::ReplyReadings::zsh_back))]
     fn write_complete_from<L: Lookup, W: Sink>(
         &self,

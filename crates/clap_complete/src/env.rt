@@ -6,8 +6,8 @@ pub use cc_asking::{
 };
 pub use cc_command::Release;
 pub use cc_env::{
-    Bash, Builtin, CompleteEnv, Elvish, EnvCompleter, Fish, Powershell, SafeShell, ShellNames,
-    ShellProgram, Shells, Zsh,
+    Bash, Builtin, CompleteEnv, Elvish, EnvCompleter, Fish, LookupCompleter, Powershell, SafeShell,
+    ShellNames, ShellProgram, Shells, Zsh,
 };
 pub use cc_lines::SystemLines;
 pub use cc_quote::is_plain_path;

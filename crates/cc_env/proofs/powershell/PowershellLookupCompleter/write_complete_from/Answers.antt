@@ -1,6 +1,6 @@
 use Rattle.std.proofs.Common.{◌-◌, ◌∙◌, ap, length, map, refl, string_bytes}
 use Rattle.cc_env.proofs.Replying.{replied_as_wanted}
-use Rattle.cc_env.proofs.fish.FishEnvCompleter.write_complete_from.Goals as goal
+use Rattle.cc_env.proofs.powershell.PowershellLookupCompleter.write_complete_from.Goals as goal
 
 pub returns-clause-reply : goal.returns-clause-reply
 returns-clause-reply g c =

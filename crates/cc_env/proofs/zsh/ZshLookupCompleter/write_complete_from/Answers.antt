@@ -1,6 +1,6 @@
 use Rattle.cc_env.proofs.Replying.{out_of_memory, replied_between}
 use Rattle.cc_replies.specs.Reply.{zsh_reply}
-use Rattle.cc_env.proofs.zsh.ZshEnvCompleter.write_complete_from.Goals as goal
+use Rattle.cc_env.proofs.zsh.ZshLookupCompleter.write_complete_from.Goals as goal
 
 pub returns-clause-reply : goal.returns-clause-reply
 returns-clause-reply g c =

@@ -1,7 +1,7 @@
 use Rattle.std.proofs.Common.{refl}
 use Rattle.cc_env.proofs.Replying.{replied_between}
 use Rattle.cc_replies.specs.Reply.{values_reply}
-use Rattle.cc_env.proofs.elvish.ElvishEnvCompleter.write_complete_from.Goals as goal
+use Rattle.cc_env.proofs.elvish.ElvishLookupCompleter.write_complete_from.Goals as goal
 
 pub returns-clause-reply : goal.returns-clause-reply
 returns-clause-reply g c =
