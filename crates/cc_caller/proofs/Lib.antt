@@ -1,3 +1,6 @@
 mod Finishing
 mod LinesRead
 mod Offering
+mod PromptAnswer
+mod PromptRead
+mod PromptReply

@@ -9,13 +9,9 @@ use Rattle.clap_complete.specs.Plain.{has_no_quote, is_plain_argument, is_plain_
 use Rattle.clap_complete.specs.PlainName.{NameByte, letter, joiner, foreign, name_byte, is_joined, is_plain_name}
 use Rattle.clap_complete.specs.Node.{Node}
 use Rattle.clap_complete.specs.Tree.{Tree}
-use Rattle.cc_caller.specs.WordList.{ListsLongs, line, lines_of, with_byte}
+use Rattle.cc_caller.specs.WordList.{IsOneLine, ListsLongs, line, lines_of, with_byte}
 
 -- A PLAIN NAME HAS NO LINE FEED
-
--- no byte is a line feed
-abbrev IsOneLine : List ℕ → Type 0
-IsOneLine text = AllByRecursion (λ byte. (byte == 10) ≡ false) text
 
 line_feed_foreign : name_byte 10 ≡ foreign
 unfolding name_byte
@@ -46,7 +42,7 @@ name_line name h = of_kinds name (none_foreign (map name_byte name) h)
 -- LINES
 
 -- such a text before a line feed is read as one line
-one_line : (text rest : List ℕ) → IsOneLine text → lines_of ((text ++ codes "\n") ++ rest) ≡ text ∷ lines_of rest
+pub one_line : (text rest : List ℕ) → IsOneLine text → lines_of ((text ++ codes "\n") ++ rest) ≡ text ∷ lines_of rest
 one_line [] rest h = refl
 one_line (byte ∷ text) rest h = rw h.0 (ap (with_byte byte) (one_line text rest h.1))
 

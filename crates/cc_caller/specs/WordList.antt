@@ -1,7 +1,8 @@
 -- The script of a generator outside the library, and what it reads back to: a line for each long of
 -- a command.
-use Rattle.std.specs.Prelude.{◌≡◌, ℕ, ◌==◌, if◌then◌else◌, List, [], ◌∷◌, ◌++◌, None, codes}
+use Rattle.std.specs.Prelude.{◌≡◌, ℕ, ◌==◌, if◌then◌else◌, List, [], ◌∷◌, ◌++◌, None, codes, false}
 use Rattle.std.specs.Prelude.{flat_map, map}
+use Rattle.std.specs.List.{AllByRecursion}
 use Rattle.clap_complete.specs.ArgumentNames.{all_longs, long_word}
 use Rattle.clap_complete.specs.Generators.{ShellSpec}
 use Rattle.clap_complete.specs.Tree.{Tree}
@@ -24,6 +25,10 @@ abbrev pub lines_of : List ℕ → List (List ℕ)
 lines_of [] = []
 lines_of (byte ∷ bytes) =
     if byte == 10 then [] ∷ lines_of bytes else with_byte byte (lines_of bytes)
+
+-- no byte is a line feed
+abbrev pub IsOneLine : List ℕ → Type 0
+IsOneLine text = AllByRecursion (λ byte. (byte == 10) ≡ false) text
 
 -- the lines of the script are the longs as they are typed
 abbrev pub ListsLongs : Tree → Type 0

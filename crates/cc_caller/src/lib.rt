@@ -1,6 +1,6 @@
 //! Proved callers of the library. The contracts of two promise that the scripts that they write
 //! read back. The contract of one lists the names with which it completes a word. Others compare
-//! values, and one is a generator outside the library.
+//! values. There is also a generator outside the library, and an adapter.
 #![tactic(auto)]
 
 ghost use Rattle.std.specs.Prelude.{◌≡◌, ◌&&◌, IfOk, Some};
@@ -14,6 +14,7 @@ mod bash;
 mod branches;
 mod equality;
 mod known_names;
+mod prompt;
 mod word_list;
 
 pub use crate::bash::write_bash_if_quiet;
@@ -23,6 +24,7 @@ pub use crate::equality::{
     same_hint, same_range, same_refusal, same_safe_shell, same_shell,
 };
 pub use crate::known_names::{KnownNames, tools};
+pub use crate::prompt::{Prompt, answer_prompt};
 pub use crate::word_list::WordList;
 use clap_complete::aot::{Elvish, Sink};
 use clap_complete::command::{Command, is_plain_name};

@@ -22,6 +22,8 @@ mod parser;
 #[cfg(test)]
 mod program;
 #[cfg(test)]
+mod prompt;
+#[cfg(test)]
 mod shell;
 #[cfg(test)]
 mod sinks;

@@ -1,0 +1,80 @@
+-- The answer to a prompt.
+use Rattle.std.proofs.Common.{◌≡◌, ◌∙◌, ◌++◌, ◌-◌, ap, refl, subst, sym, ℕ, Bool, List, [], ◌∷◌, Option, None, Some, Result, Ok, Err, IfOk, codes, length}
+use Rattle.std.specs.Path.{path_file_stem, path_file_name, rsplit_once, split_last_component, trim_trailing}
+use Rattle.clap_complete.specs.Built.{built_tree}
+use Rattle.clap_complete.specs.CompletionCandidate.{CompletionCandidate}
+use Rattle.clap_complete.specs.EnvironmentValues.{value_of}
+use Rattle.clap_complete.specs.EnvValues.{EnvValues}
+use Rattle.clap_complete.specs.Error.{Error}
+use Rattle.clap_complete.specs.Failures.{Failures}
+use Rattle.clap_complete.specs.RequestArguments.{after_dashes}
+use Rattle.clap_complete.specs.RequestSteps.{Ends, EndsAs, MakesText, Tries, names_of, text_written}
+use Rattle.clap_complete.specs.RequestSteps as made
+use Rattle.clap_complete.specs.Tree.{Tree}
+use Rattle.clap_complete.specs.WantedShell.{Wanted, known, wanted_name, wanted_of}
+use Rattle.cc_caller.specs.Prompt.{IsAnswer, all_prompts, prompt_spec, registered, replied}
+use Rattle.cc_caller.specs.declared.prompt.Prompt.{Prompt}
+
+-- the value names the prompt
+prompt_wanted : wanted_name (Some (codes "prompt")) ≡ Some (codes "prompt")
+unfolding path_file_stem path_file_name rsplit_once split_last_component trim_trailing
+prompt_wanted = refl
+
+prompt_known : wanted_of (λ shell. prompt_spec.named) all_prompts (Some (codes "prompt")) ≡ known (record {})
+prompt_known = refl
+
+module _ (Makes : Result Tree Error → Type 0) (current : Option (List ℕ)) (env : EnvValues)
+    (Offers : Tree → List (List ℕ) → ℕ → List CompletionCandidate → Type 0) where
+  abbrev Text : List (List ℕ) → Result (List ℕ) Error → Type 0
+  Text arguments = MakesText Makes prompt_spec (names_of (codes "COMPLETE") None None current) env Offers arguments
+
+  -- a text that is made is the registration or the reply
+  answer_of : (arguments : List (List ℕ)) (text : List ℕ) → Text arguments (Ok text) → IsAnswer Makes current Offers arguments text
+  answer_of arguments text (made.registered tree program rest t makes none is) =
+      subst (λ t. IsAnswer Makes current Offers (program ∷ rest) t) (sym is.is) (registered tree program rest makes none)
+  answer_of arguments text (made.replied tree program rest (Ok t) makes some replies) =
+      let reply = replies.1 in
+      let found = reply.holds.0 in
+      subst (λ t. IsAnswer Makes current Offers (program ∷ rest) t) (sym reply.holds.2)
+      (replied tree program rest found makes some
+      (subst (λ words. Offers (built_tree tree) words (length (after_dashes rest) - 1) found) reply.wants.1
+      (subst (λ index. Offers (built_tree tree) reply.words index found) reply.wants.0 reply.holds.1)))
+
+  module _ {S : Type 0} (taken : S → List ℕ) (failed : S → Failures) (arguments : List (List ℕ)) (old new : S) where
+    abbrev Answered : Result Bool Error → Type 0
+    Answered result = IfOk result (λ done. (text : List ℕ) × IsAnswer Makes current Offers arguments text × (taken new ≡ taken old ++ text))
+
+    ended : (result : Result Bool Error) → Ends taken failed (Text arguments) old new result → Answered result
+    ended (Ok done) (text_written text makes takes fails) = (text, answer_of arguments text makes, takes)
+    ended (Err error) ends = tt
+
+    asked : (result : Result Bool Error) → value_of (codes "COMPLETE") env ≡ Some (codes "prompt")
+        → Tries taken failed (λ shell. prompt_spec) all_prompts (λ shell. Text arguments) (wanted_name (value_of (codes "COMPLETE") env)) old new result
+        → Answered result
+    asked result asks tries =
+        ended result
+        (subst (λ (wanted : Wanted Prompt). EndsAs taken failed (codes "prompt" ∷ []) (λ shell. Text arguments) wanted old new result) prompt_known
+        (subst (λ name. Tries taken failed (λ shell. prompt_spec) all_prompts (λ shell. Text arguments) name old new result)
+        (ap wanted_name asks ∙ prompt_wanted) tries))
+
+-- the same of a program whose parts have other names
+module _ {F S : Type 0} (Post : F → Result Tree Error → Type 0) (current : Option (List ℕ)) (env : EnvValues)
+    (Offers : Tree → List (List ℕ) → ℕ → List CompletionCandidate → Type 0) (taken : S → List ℕ) (failed : S → Failures)
+    (arguments : List (List ℕ)) (old new : S) (result : Result Bool Error) where
+  abbrev Tried : F → List ℕ → Option (List ℕ) → Option (List ℕ) → List Prompt → Type 0
+  Tried factory variable bin completer shells =
+      Tries taken failed (λ shell. prompt_spec) shells
+      (λ shell. MakesText (Post factory) prompt_spec (names_of variable bin completer current) env Offers arguments)
+      (wanted_name (value_of variable env)) old new result
+
+  pub prompt_asked : (factory made_by : F) (variable : List ℕ) (bin completer : Option (List ℕ)) (shells : List Prompt) → made_by ≡ factory
+      → variable ≡ codes "COMPLETE" → bin ≡ None → completer ≡ None → shells ≡ all_prompts
+      → value_of (codes "COMPLETE") env ≡ Some (codes "prompt") → Tried made_by variable bin completer shells
+      → Answered (Post factory) current env Offers taken failed arguments old new result
+  prompt_asked factory made_by variable bin completer shells same named no_bin no_completer prompts asks tries =
+      asked (Post factory) current env Offers taken failed arguments old new result asks
+      (subst (λ f. Tried f (codes "COMPLETE") None None all_prompts) same
+      (subst (λ v. Tried made_by v None None all_prompts) named
+      (subst (λ b. Tried made_by variable b None all_prompts) no_bin
+      (subst (λ k. Tried made_by variable bin k all_prompts) no_completer
+      (subst (λ s. Tried made_by variable bin completer s) prompts tries)))))

@@ -1,0 +1,59 @@
+//! A program that answers by the adapter of `cc_caller`.
+
+use crate::checks::is;
+use cc_caller::answer_prompt;
+use cc_fixtures::trees::read;
+use cc_fixtures::words::to_strings;
+use clap_complete::Error;
+use clap_complete::aot::Collected;
+use clap_complete::engine::{Completers, MemoryFolder, Sources};
+use clap_complete::env::EnvValues;
+use std::alloc::Global;
+
+// `app` with two children, and nothing that is generated.
+const TREE: &str = r#"{"name": "app", "disable_help_flag": true, "disable_help_subcommand": true,
+    "subcommands": [{"name": "build"}, {"name": "test"}]}"#;
+
+// Returns what the program writes for these arguments if the variable has this value, or its error.
+fn answer(alloc: Global, value: &str, arguments: &[&str]) -> Result<String, Error> {
+    let mut variables = Vec::new(alloc);
+    let name = String::from_str(alloc, "COMPLETE")?;
+    variables.push((name, String::from_str(alloc, value)?))?;
+    let env = EnvValues::new(variables);
+    let arguments = to_strings(alloc, arguments)?;
+    let folder = MemoryFolder::new(&[], &[]);
+    let completers = Completers::none(alloc);
+    let sources = Sources {
+        current_dir: None,
+        folder: &folder,
+        completers: &completers,
+    };
+    let mut out = Collected::new(alloc);
+    let factory = |alloc: Global| read(alloc, TREE);
+    match answer_prompt(alloc, factory, arguments, &env, &sources, &mut out) {
+        Ok(true) => Ok(String::from_utf8_lossy(alloc, out.as_slice())?),
+        Ok(false) => Ok(String::from_str(alloc, "nothing")?),
+        Err(error) => Ok(format!(in alloc; "fails: {error}")?),
+    }
+}
+
+#[test]
+fn a_prompt_gets_its_registration(rt: HostRuntime) {
+    let shown = answer(rt.alloc(), "prompt", &["app"]);
+    is(&rt, shown, "COMPLETE\napp\n");
+}
+
+#[test]
+fn a_prompt_gets_a_line_for_each_value(rt: HostRuntime) {
+    let shown = answer(rt.alloc(), "prompt", &["app", "--", "app", ""]);
+    is(&rt, shown, "build\ntest\n");
+    let shown = answer(rt.alloc(), "prompt", &["app", "--", "app", "te"]);
+    is(&rt, shown, "test\n");
+}
+
+#[test]
+fn other_values_do_not_ask_for_the_prompt(rt: HostRuntime) {
+    is(&rt, answer(rt.alloc(), "0", &["app"]), "nothing");
+    let wanted = "fails: unknown shell `zsh`, expected one of `prompt`";
+    is(&rt, answer(rt.alloc(), "zsh", &["app"]), wanted);
+}
