@@ -1,5 +1,5 @@
 -- The answer to a prompt.
-use Rattle.std.proofs.Common.{◌≡◌, ◌∙◌, ◌++◌, ◌-◌, ap, refl, subst, sym, ℕ, Bool, true, List, [], ◌∷◌, Option, None, Some, Result, Ok, Err, IfOk, codes, length}
+use Rattle.std.proofs.Common.{◌≡◌, ◌∙◌, ◌++◌, ◌-◌, ap, refl, subst, sym, ℕ, Bool, List, [], ◌∷◌, Option, None, Some, Result, Ok, Err, IfOk, codes, length}
 use Rattle.std.specs.Path.{path_file_stem, path_file_name, rsplit_once, split_last_component, trim_trailing}
 use Rattle.clap_complete.specs.Built.{built_tree}
 use Rattle.clap_complete.specs.CompletionCandidate.{CompletionCandidate}

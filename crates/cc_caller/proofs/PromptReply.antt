@@ -1,5 +1,5 @@
 -- The ends of a call that finds candidates for a word and writes their reply.
-use Rattle.std.proofs.Common.{◌≡◌, ◌∙◌, ap, inl, refl, subst, sym, ℕ, Bool, true, List, length, Result, Ok, Err, IfErr, IsErrAnd}
+use Rattle.std.proofs.Common.{◌≡◌, ◌∙◌, ap, refl, subst, sym, ℕ, Bool, true, List, length, Result, Ok, Err, IfErr, IsErrAnd}
 use Rattle.clap_complete.specs.AdapterReplies.{IsWanted, Replies}
 use Rattle.clap_complete.specs.Built.{built_tree}
 use Rattle.clap_complete.specs.Completion.{Refuses, is_in_range}

@@ -66,7 +66,15 @@ impl EnvCompleter for Prompt {
         sink: &mut W,
     ) -> Result<(), Error> {
         let index = last_index(&words);
-        let found = complete(alloc, command, words, index, current_dir, folder, completers)?;
+        let found = complete(
+            alloc,
+            command,
+            words,
+            index,
+            current_dir,
+            folder,
+            completers,
+        )?;
         write_values(found.as_slice(), sink)
     }
 }
