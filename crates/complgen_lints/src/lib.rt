@@ -20,5 +20,5 @@ mod walk;
 mod warning;
 
 pub use crate::place::{Key, Place};
-pub use crate::premises::{command_warnings, premise_warnings};
+pub use crate::premises::command_warnings;
 pub use crate::warning::{Kind, Level, Warning, are_notes};

@@ -17,39 +17,11 @@ use cc_base::{Items, Text, is_plain_name};
 use cc_command::Command;
 use std::alloc::{AllocError, Global};
 
-/// Returns the warnings about premises of the promises about scripts that do not hold. There are no
-/// warnings exactly if all these premises hold:
-///
-/// - names are plain, also the bin name `bin`, and subcommands of one command have different names;
-/// - possible values are quiet;
-/// - the PowerShell script escapes each quote.
-///
-/// First come the warnings about names, then those about possible values, then those about quotes.
-/// In each group, those about a command come before those about the commands below it.
-///
-/// # Errors
-///
-/// `AllocError` if an allocation fails.
-#[tactic(auto, using(crate::proofs::PremisesFound::premise_notes))]
-pub fn premise_warnings(
-    alloc: Global,
-    bin: Option<&str>,
-    command: &Command,
-) -> Result<Vec<Warning>, AllocError>
-    ensures list { IfOk result (λ found.
-        found.items ≡ premise_list (option_copied bin.entry) command.now) }
-    ensures exactly { IfOk result (λ found.
-        are_notes found.items ≡ holds_premises (option_copied bin.entry) command.now) }
-{
-    let mut warnings = Vec::new(alloc);
-    push_premise_warnings(&mut warnings, alloc, bin, command)?;
-    Ok(warnings)
-}
-
 /// Returns the warnings and notes about `command`, which is called by the bin name `bin` if that is
 /// not `None`. They come in this order:
 ///
-/// 1. the warnings of `premise_warnings`;
+/// 1. names that are not plain, also the bin name `bin`; then possible values that are not quiet;
+///    then quotes that the PowerShell script does not escape;
 /// 2. names and help texts that end a text of the zsh script;
 /// 3. what clap refuses about each command by itself, and settings of its arguments with no effect;
 /// 4. what clap refuses about the arguments of a command together with those that it inherits;
@@ -57,7 +29,7 @@ pub fn premise_warnings(
 /// 6. notes about commands that a tab runs, and warnings about sources of values.
 ///
 /// A label of the bash script that two commands share is not among them. If there are only notes,
-/// the premises that `premise_warnings` checks hold.
+/// the premises of the promises about scripts hold that the command alone decides.
 ///
 /// # Errors
 ///
