@@ -38,10 +38,10 @@ fn push_place(alloc: Global, text: &mut String, warning: &Warning) -> Result<(),
 
 const WRONG: &str = r#"{"name": "my app", "version": "1", "args": [
     {"id": "it's", "long": "--label", "short": "é", "aliases": ["a b"], "help": "‘x’"},
-    {"id": "to", "long": "to", "global": true, "required": true, "value_names": ["A", "B"],
-     "num_args": [1, 1], "possible_values": [{"name": "dark red"}], "conflicts_with": ["to", "no"]},
-    {"id": "to", "short": "V", "action": "SetTrue", "index": 1, "last": true, "hide": true},
-    {"id": "in"}, {"id": "out", "required": true}],
+    {"id": "to", "long": "to", "global": true, "possible_values": [{"name": "dark red"}],
+     "conflicts_with": ["to", "no"]},
+    {"id": "to", "short": "V", "action": "SetTrue", "hide": true},
+    {"id": "in", "index": 3}, {"id": "out", "action": "SetTrue"}],
     "subcommands": [
     {"name": "add", "aliases": ["a"], "args": [
         {"id": "x", "visible_aliases": ["to"], "long": "x"}]},
@@ -59,15 +59,11 @@ args[0].aliases[0]: the alias `a b` is not plain (letters and digits, with singl
 args[1].possible_values[0]: bash may split or change the value `dark red` (letters, digits \
     and +-./:@_,= are safe)
 args[0].help: PowerShell takes ‘ as the end of the text, and may run what follows
-args[1].global: an argument can't be both global and required
-args[1].value_names: 2 value names, but the argument takes at most 1
-args[2].last: only a positional (no short, no long) can be last
-args[2].index: an index has no effect on an option
 args[2].short: the generated version flag also has the short `V`; disable_version_flag \
     omits that flag
-args[4].required: a required positional can't follow the optional positional `in`
+args[4].action: a positional must take a value
+args[3].index: there is no index 3: indexes go from 1 to 2 here
 args[2].id: an earlier argument has the id `to`
-args[1].conflicts_with[0]: the argument conflicts with itself
 args[1].conflicts_with[1]: no argument here has the id `no`
 0/args[0].visible_aliases[0]: the argument `to` also has the long `to`
 args[2].hide: scripts still offer a hidden argument; live completion hides it

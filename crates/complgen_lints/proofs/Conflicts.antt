@@ -25,17 +25,17 @@ pub same_conflicts : (seen : BTreeMap (Bor (List ℕ)) (List ℕ)) (names : List
 same_conflicts seen names h arguments =
     each_same (conflicts_of (is_known_in seen)) (conflicts_of (is_known names))
     (λ index argument. each_same
-    (λ item id. conflict_list index item (conflict_kind (is_known_in seen id) (bytes_eq id argument.id) id))
-    (λ item id. conflict_list index item (conflict_kind (is_known names id) (bytes_eq id argument.id) id))
-    (λ item id. ap (λ known. conflict_list index item (conflict_kind known (bytes_eq id argument.id) id)) (known_same seen names h id))
+    (λ item id. conflict_list index item (conflict_kind (is_known_in seen id) id))
+    (λ item id. conflict_list index item (conflict_kind (is_known names id) id))
+    (λ item id. ap (λ known. conflict_list index item (conflict_kind known id)) (known_same seen names h id))
     0 argument.conflicts)
     0 arguments
 
-no_conflicts_of : (known : List ℕ → Bool) (index : ℕ) (argument : Arg) (conflicts : List (List ℕ)) →
+no_conflicts_of : (known : List ℕ → Bool) (index : ℕ) (conflicts : List (List ℕ)) →
     has_conflicts conflicts ≡ false →
-    each_from (λ item id. conflict_list index item (conflict_kind (known id) (bytes_eq id argument.id) id)) 0 conflicts ≡ []
-no_conflicts_of known index argument [] h = refl
-no_conflicts_of known index argument (id ∷ ids) h = cc
+    each_from (λ item id. conflict_list index item (conflict_kind (known id) id)) 0 conflicts ≡ []
+no_conflicts_of known index [] h = refl
+no_conflicts_of known index (id ∷ ids) h = cc
 
 neither : (a b : Bool) → (a || b) ≡ false → (a ≡ false) × (b ≡ false)
 neither false false h = (refl, refl)
@@ -48,5 +48,5 @@ pub none_of_none : (known : List ℕ → Bool) (index : ℕ) (arguments : List A
 none_of_none known index [] h = refl
 none_of_none known index (argument ∷ arguments) h =
     let each = neither (has_conflicts argument.conflicts) (have_conflicts arguments) h in
-    ap₂ (λ a b. a ++ b) (no_conflicts_of known index argument argument.conflicts each.0)
+    ap₂ (λ a b. a ++ b) (no_conflicts_of known index argument.conflicts each.0)
     (none_of_none known (suc index) arguments each.1)

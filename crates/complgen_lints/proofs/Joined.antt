@@ -6,11 +6,3 @@ pub two_added : {A : Type 0} (old first second middle new : List A) →
     middle ≡ old ++ first → new ≡ middle ++ second → new ≡ old ++ (first ++ second)
 two_added old first second middle new added then =
     then ∙ ap (λ list. list ++ second) added ∙ append_assoc old first second
-
-pub four_added : {A : Type 0} (old first second third fourth one two three new : List A) →
-    one ≡ old ++ first → two ≡ one ++ second → three ≡ two ++ third → new ≡ three ++ fourth →
-    new ≡ old ++ (((first ++ second) ++ third) ++ fourth)
-four_added old first second third fourth one two three new at_one at_two at_three at_new =
-    two_added old ((first ++ second) ++ third) fourth three new
-    (two_added old (first ++ second) third two three
-    (two_added old first second one two at_one at_two) at_three) at_new

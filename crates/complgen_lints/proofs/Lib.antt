@@ -1,4 +1,3 @@
-pub mod Accumulated
 pub mod Joined
 pub mod Conflicts
 pub mod PremisesFound

@@ -6,7 +6,7 @@ use Rattle.cc_command.specs.Plain.{is_plain_forest, is_plain_node, passes_if_som
 use Rattle.cc_command.specs.Quiet.{is_quiet_tree}
 use Rattle.cc_command.specs.Tree.{Tree}
 use Rattle.cc_base.specs.PlainName.{is_plain_name}
-use Rattle.complgen_lints.specs.CommandWarnings.{clap_list, command_list, hidden_list, sources_list}
+use Rattle.complgen_lints.specs.CommandWarnings.{command_list, hidden_list, settings_list, sources_list}
 use Rattle.complgen_lints.specs.Notes.{are_notes, is_note}
 use Rattle.complgen_lints.specs.Premises.{bin_kind, bin_list, holds_premises, names_list, premise_list}
 use Rattle.complgen_lints.specs.Scopes.{scope_list}
@@ -32,7 +32,7 @@ regroup true false c d e = refl
 regroup true true false d e = refl
 regroup true true true d e = refl
 
-pub premise_notes : (bin : Option (List ℕ)) (tree : Tree) → are_notes (premise_list bin tree) ≡ holds_premises bin tree
+premise_notes : (bin : Option (List ℕ)) (tree : Tree) → are_notes (premise_list bin tree) ≡ holds_premises bin tree
 premise_notes bin tree =
     let own = bin_list (Some Key.BinName) tree.node.bin_name in
     let names = bin_list None bin ++ own in
@@ -60,11 +60,11 @@ first_notes some others h = (and_parts (are_notes some) (are_notes others) (subs
 pub premises_hold : (bin : Option (List ℕ)) (tree : Tree) → IsTrue (are_notes (command_list bin tree)) → IsTrue (holds_premises bin tree)
 premises_hold bin tree h =
     let zsh = premise_list bin tree ++ tree_list (text_list Zsh) [] tree in
-    let clap = zsh ++ tree_list clap_list [] tree in
-    let scope = clap ++ scope_list [] [] tree in
+    let settings = zsh ++ tree_list settings_list [] tree in
+    let scope = settings ++ scope_list [] [] tree in
     subst IsTrue (premise_notes bin tree)
     (first_notes (premise_list bin tree) (tree_list (text_list Zsh) [] tree)
-    (first_notes zsh (tree_list clap_list [] tree)
-    (first_notes clap (scope_list [] [] tree)
+    (first_notes zsh (tree_list settings_list [] tree)
+    (first_notes settings (scope_list [] [] tree)
     (first_notes scope (tree_list hidden_list [] tree)
     (first_notes (scope ++ tree_list hidden_list [] tree) (tree_list sources_list [] tree) h)))))

@@ -19,9 +19,9 @@ use Rattle.complgen_lints.specs.declared.text_lints.TextLint.TheVariants.{Zsh}
 use Rattle.complgen_lints.specs.declared.warning.Kind.TheVariants.{HiddenCommand, HiddenArgument}
 use Rattle.complgen_lints.specs.declared.warning.Warning.{Warning}
 
--- findings about each argument of a command, and about its positionals together
-abbrev pub clap_list : Tree → List Finding
-clap_list tree = arguments_list tree ++ positional_list tree.node.arguments
+-- findings about the settings of each argument of a command, and about the indexes of its positionals
+abbrev pub settings_list : Tree → List Finding
+settings_list tree = arguments_list tree ++ positional_list tree.node.arguments
 
 -- a hidden command, and its hidden arguments
 abbrev pub hidden_argument : ℕ → Arg → List Finding
@@ -40,14 +40,14 @@ sources_list tree = each_from source_list 0 tree.node.arguments
 abbrev pub lint_list : Lint → Tree → List Finding
 lint_list lint.Names = names_list
 lint_list (lint.Texts texts) = text_list texts
-lint_list lint.Clap = clap_list
+lint_list lint.Settings = settings_list
 lint_list lint.Hidden = hidden_list
 lint_list lint.Sources = sources_list
 
--- all warnings: premises that do not hold, texts that end a text of the zsh script, what clap
--- refuses about a command alone, then together with inherited arguments, what is hidden, and where
--- values come from
+-- all warnings: premises that do not hold, texts that end a text of the zsh script, settings of the
+-- arguments of a command alone, then together with inherited ones, what is hidden, and where values
+-- come from
 abbrev pub command_list : Option (List ℕ) → Tree → List Warning
 command_list bin tree = ((((premise_list bin tree ++ tree_list (text_list Zsh) [] tree)
-    ++ tree_list clap_list [] tree) ++ scope_list [] [] tree) ++ tree_list hidden_list [] tree)
+    ++ tree_list settings_list [] tree) ++ scope_list [] [] tree) ++ tree_list hidden_list [] tree)
     ++ tree_list sources_list [] tree

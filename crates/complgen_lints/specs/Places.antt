@@ -1,7 +1,7 @@
 -- The keys as a tree file spells them.
 use Rattle.std.specs.Prelude.{ℕ, List, codes}
 use Rattle.complgen_lints.specs.declared.place.Key.{Key}
-use Rattle.complgen_lints.specs.declared.place.Key.TheVariants.{Name, BinName, About, Aliases, VisibleAliases, Hide, Id, Short, Long, ShortAliases, VisibleShortAliases, Help, Action, NumArgs, ValueNames, PossibleValues, ValueHint, ValuesFrom, ValuesFile, ValuesSplit, Index, ConflictsWith, Required, Last, Global}
+use Rattle.complgen_lints.specs.declared.place.Key.TheVariants.{Name, BinName, About, Aliases, VisibleAliases, Hide, Id, Short, Long, ShortAliases, VisibleShortAliases, Help, Action, NumArgs, ValueNames, PossibleValues, ValueHint, ValuesFrom, ValuesFile, ValuesSplit, Index, ConflictsWith}
 
 -- a key as a tree file spells it
 abbrev pub key_text : Key → List ℕ
@@ -27,6 +27,3 @@ key_text ValuesFile = codes "values_file"
 key_text ValuesSplit = codes "values_split"
 key_text Index = codes "index"
 key_text ConflictsWith = codes "conflicts_with"
-key_text Required = codes "required"
-key_text Last = codes "last"
-key_text Global = codes "global"

@@ -1,5 +1,5 @@
--- What clap refuses about the arguments of a command together with the global arguments of the
--- commands above it.
+-- Findings about the arguments of a command together with the global arguments of the commands above
+-- it: names that another one has, and unknown conflicts.
 use Rattle.std.specs.Prelude.{ℕ, suc, Bool, true, false, not, ◌||◌, List, [], ◌∷◌, ◌++◌, codes, filter, is_some, map, Option, Some, None}
 use Rattle.std.specs.Borrow.{Bor}
 use Rattle.std.specs.BTreeMap.{BTreeMap}
@@ -19,7 +19,7 @@ use Rattle.complgen_lints.specs.declared.names.PlacedName.{PlacedName}
 use Rattle.complgen_lints.specs.declared.names.Named.TheVariants as named
 use Rattle.complgen_lints.specs.declared.place.Key.TheVariants.{ConflictsWith}
 use Rattle.complgen_lints.specs.declared.warning.Kind.{Kind}
-use Rattle.complgen_lints.specs.declared.warning.Kind.TheVariants.{UnknownConflict, SelfConflict}
+use Rattle.complgen_lints.specs.declared.warning.Kind.TheVariants.{UnknownConflict}
 use Rattle.complgen_lints.specs.declared.warning.Warning.{Warning}
 
 -- what a command with these arguments inherits: the others without those whose id it has itself
@@ -30,12 +30,10 @@ inherited_with arguments others = filter (λ other. not (has_id arguments other.
 abbrev pub passed_on : List Arg → List Arg → List Arg
 passed_on inherited arguments = inherited ++ globals arguments
 
--- what is wrong with an id in an argument's list of conflicts; the tests are whether the id is
--- known, and whether it is the argument's own
-abbrev pub conflict_kind : Bool → Bool → List ℕ → Option Kind
-conflict_kind false same id = Some (UnknownConflict id)
-conflict_kind true true id = Some SelfConflict
-conflict_kind true false id = None
+-- what is wrong with an id in a list of conflicts, by whether the id is known
+abbrev pub conflict_kind : Bool → List ℕ → Option Kind
+conflict_kind true id = None
+conflict_kind false id = Some (UnknownConflict id)
 
 abbrev pub conflict_list : ℕ → ℕ → Option Kind → List Finding
 conflict_list index item kind = some_finding (Argument index) ConflictsWith (Some item) kind
@@ -43,8 +41,7 @@ conflict_list index item kind = some_finding (Argument index) ConflictsWith (Som
 -- findings about the conflicts of an argument, if these ids are known
 abbrev pub conflicts_of : (List ℕ → Bool) → ℕ → Arg → List Finding
 conflicts_of known index argument = each_from (λ item id.
-    conflict_list index item (conflict_kind (known id) (bytes_eq id argument.id) id))
-    0 argument.conflicts
+    conflict_list index item (conflict_kind (known id) id)) 0 argument.conflicts
 
 -- the id is among the names, or is that of a flag that building may add
 abbrev pub is_known : List PlacedName → List ℕ → Bool
@@ -64,7 +61,7 @@ has_conflicts (id ∷ ids) = true
 abbrev pub have_conflicts : List Arg → Bool
 have_conflicts arguments = list_any (λ argument. has_conflicts argument.conflicts) arguments
 
--- conflicts of a command's arguments with unknown ids, and conflicts of an argument with itself
+-- conflicts of a command's arguments with unknown ids
 abbrev pub all_conflicts : List Arg → List Arg → List Finding
 all_conflicts inherited arguments = each_from (conflicts_of
     (is_known (all_names named.Id inherited ++ all_names named.Id arguments))) 0 arguments

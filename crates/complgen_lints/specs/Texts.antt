@@ -1,13 +1,12 @@
 -- The text of a warning.
-use Rattle.std.specs.Prelude.{ℕ, List, [], ◌++◌, Option, Some, codes, decimal, encode_utf8, if◌then◌else◌}
+use Rattle.std.specs.Prelude.{ℕ, List, [], ◌++◌, Option, Some, codes, encode_utf8, if◌then◌else◌}
 use Rattle.complgen_lints.specs.Running.{may_run_name, may_run_value}
 use Rattle.complgen_lints.specs.declared.place.Key.{Key}
 use Rattle.complgen_lints.specs.declared.place.Key.TheVariants.{BinName, Aliases, Help, VisibleAliases, Id, PossibleValues, Short, Long, ValueNames}
 use Rattle.complgen_lints.specs.declared.warning.Kind.{Kind}
 use Rattle.complgen_lints.specs.declared.warning.Kind.TheVariants.{BinNotPlain, NotPlain, LongWithHyphen, ShortNotPlain, Quote, ZshSign, TakenName, LoudValue, SharedLabel, UnescapedQuote}
-use Rattle.complgen_lints.specs.declared.warning.Kind.TheVariants.{TakenId, TakenLong, TakenShort, TakenByHelp, TakenByVersion, UnknownConflict, SelfConflict}
-use Rattle.complgen_lints.specs.declared.warning.Kind.TheVariants.{IndexOutOfRange, TakenIndex, ManyBeforeLast, SecondLast, ValuesOfFlag, NoValues, RequiredAfterOptional, LastOption, GlobalRequired, MoreNamesThanValues, CommandHintWithoutMany}
-use Rattle.complgen_lints.specs.declared.warning.Kind.TheVariants.{PositionalWithoutValue, NoVersion, IndexOfOption, LastBesideChildren, HiddenCommand, HiddenArgument}
+use Rattle.complgen_lints.specs.declared.warning.Kind.TheVariants.{TakenId, TakenLong, TakenShort, TakenByHelp, TakenByVersion, UnknownConflict}
+use Rattle.complgen_lints.specs.declared.warning.Kind.TheVariants.{IndexOutOfRange, TakenIndex, PositionalWithoutValue, ValuesOfFlag, NoValues, HiddenCommand, HiddenArgument}
 use Rattle.complgen_lints.specs.declared.warning.Kind.TheVariants.{RunsCommand, RunsCode, SourceOfFlag, HintBesideSource}
 use Rattle.complgen_lints.specs.declared.warning.Level.{Level}
 use Rattle.complgen_lints.specs.declared.warning.Level.TheVariants as level
@@ -44,21 +43,9 @@ version_name _ = codes "version"
 
 -- the text of a kind that has the same text for every command
 abbrev pub fixed_text : Kind → List ℕ
-fixed_text SelfConflict = codes "the argument conflicts with itself"
-fixed_text LastOption = codes "only a positional (no short, no long) can be last"
-fixed_text GlobalRequired = codes "an argument can't be both global and required"
-fixed_text CommandHintWithoutMany =
-    codes "CommandWithArguments needs a positional that takes many values"
 fixed_text PositionalWithoutValue = codes "a positional must take a value"
 fixed_text ValuesOfFlag = codes "possible values have no effect on a flag"
 fixed_text NoValues = codes "an empty list of possible values turns off the value hint"
-fixed_text ManyBeforeLast = codes
-    "if a positional before the last one takes many values, the last one must be required or last"
-fixed_text SecondLast = codes "only one positional can be last"
-fixed_text NoVersion = codes "the action is Version, but the command has no version"
-fixed_text IndexOfOption = codes "an index has no effect on an option"
-fixed_text LastBesideChildren =
-    codes "a required `last` positional can't be combined with subcommands"
 fixed_text HiddenCommand = codes "scripts still offer a hidden command; live completion hides it"
 fixed_text HiddenArgument = codes "scripts still offer a hidden argument; live completion hides it"
 fixed_text SourceOfFlag = codes "a flag takes no values, so this key has no effect; leave it out"
@@ -133,24 +120,20 @@ outside_text index count = (codes "there is no index " ++ index ++ codes ": ")
     ++ (codes "indexes go from 1 to " ++ count ++ codes " here")
 
 -- the texts of the other kinds
-abbrev pub clap_text : Option Key → Kind → List ℕ
-clap_text key (TakenName name command) = taken_text (codes "command") command (codes "name") name
-clap_text key (TakenId id) = codes "an earlier argument has the id `" ++ id ++ codes "`"
-clap_text key (TakenLong long id) = taken_text (codes "argument") id (codes "long") long
-clap_text key (TakenShort short id) = taken_text (codes "argument") id (codes "short") short
-clap_text key (TakenIndex index id) = taken_text (codes "argument") id (codes "index") index
-clap_text key TakenByHelp = generated_text (named key) (help_name key) (codes "help")
-clap_text key TakenByVersion = generated_text (named key) (version_name key) (codes "version")
-clap_text key (UnknownConflict id) = codes "no argument here has the id `" ++ id ++ codes "`"
-clap_text key (RequiredAfterOptional id) =
-    codes "a required positional can't follow the optional positional `" ++ id ++ codes "`"
-clap_text key (MoreNamesThanValues names greatest) =
-    decimal names ++ codes " value names, but the argument takes at most " ++ decimal greatest
-clap_text key (IndexOutOfRange index count) = outside_text index count
-clap_text key (RunsCommand words) = codes "a tab runs" ++ words
-clap_text key (RunsCode program) = codes "`" ++ program
+abbrev pub other_text : Option Key → Kind → List ℕ
+other_text key (TakenName name command) = taken_text (codes "command") command (codes "name") name
+other_text key (TakenId id) = codes "an earlier argument has the id `" ++ id ++ codes "`"
+other_text key (TakenLong long id) = taken_text (codes "argument") id (codes "long") long
+other_text key (TakenShort short id) = taken_text (codes "argument") id (codes "short") short
+other_text key (TakenIndex index id) = taken_text (codes "argument") id (codes "index") index
+other_text key TakenByHelp = generated_text (named key) (help_name key) (codes "help")
+other_text key TakenByVersion = generated_text (named key) (version_name key) (codes "version")
+other_text key (UnknownConflict id) = codes "no argument here has the id `" ++ id ++ codes "`"
+other_text key (IndexOutOfRange index count) = outside_text index count
+other_text key (RunsCommand words) = codes "a tab runs" ++ words
+other_text key (RunsCode program) = codes "`" ++ program
     ++ codes "` may run its arguments as code; name a program that only prints values"
-clap_text key kind = fixed_text kind
+other_text key kind = fixed_text kind
 
 -- the text of a kind at this key
 abbrev pub kind_text : Option Key → Kind → List ℕ
@@ -165,7 +148,7 @@ kind_text key (UnescapedQuote quote) = codes "PowerShell takes " ++ encode_utf8 
     ++ codes " as the end of the text, and may run what follows"
 kind_text key (SharedLabel label) = codes "two commands share the label " ++ label
     ++ codes " in the bash script, so it is not written"
-kind_text key kind = clap_text key kind
+kind_text key kind = other_text key kind
 
 -- the text of a warning
 abbrev pub warning_text : Warning → List ℕ

@@ -20,12 +20,6 @@ abbrev pub each_from : {A B : Type 0} → (ℕ → A → List B) → ℕ → Lis
 each_from f index [] = []
 each_from f index (thing ∷ things) = f index thing ++ each_from f (suc index) things
 
--- what a function lists for each of some things by those before it, which begin with these
-abbrev pub each_after : {A B : Type 0} → (List A → A → List B) → List A → List A → List B
-each_after f before [] = []
-each_after f before (thing ∷ things) =
-    f before thing ++ each_after f (before ++ thing ∷ []) things
-
 -- the warnings about siblings below a path, from this index on: about each command, by the findings
 -- about it, then about those below it
 abbrev pub forest_list : (Tree → List Finding) → List ℕ → ℕ → Forest → List Warning

@@ -1,5 +1,6 @@
-//! Lints for commands: finds what a tree file may describe, but scripts, the promises about scripts
-//! or clap cannot handle. Each warning has a place in the tree and a text for the reader.
+//! Lints for commands: finds what a tree file may describe, but scripts and the promises about scripts
+//! cannot handle, or after which a shell offers something wrong. Each warning has a place in the tree
+//! and a text for the reader.
 #![tactic(auto)]
 
 mod argument_lints;

@@ -1,8 +1,8 @@
 //! The lints. Each examines one command and its arguments.
 
 ghost use Rattle.std.specs.Prelude.{◌≡◌, ◌++◌, OnOk};
-ghost use Rattle.complgen_lints.specs.CommandWarnings.{clap_list, hidden_argument, hidden_list};
-ghost use Rattle.complgen_lints.specs.CommandWarnings.{lint_list, sources_list};
+ghost use Rattle.complgen_lints.specs.CommandWarnings.{hidden_argument, hidden_list};
+ghost use Rattle.complgen_lints.specs.CommandWarnings.{lint_list, settings_list, sources_list};
 ghost use Rattle.complgen_lints.specs.Premises.{names_list};
 ghost use Rattle.complgen_lints.specs.Walk.{each_from};
 
@@ -24,9 +24,9 @@ pub(crate) enum Lint {
     Names,
     /// Names and descriptions that fail a test.
     Texts(TextLint),
-    /// Arguments that clap refuses, and settings with no effect. `push_scope` finds taken ids,
-    /// longs and shorts, and wrong conflicts.
-    Clap,
+    /// Arguments whose settings make a shell offer something wrong. `push_scope` finds taken ids,
+    /// longs and shorts, and unknown conflicts.
+    Settings,
     /// Hidden commands and arguments, which scripts still offer.
     Hidden,
     /// Commands that a tab runs, and keys of sources of values with no effect.
@@ -40,7 +40,7 @@ pub(crate) fn push_lint(found: &mut Found, lint: Lint, command: &Command) -> Add
     match lint {
         Lint::Names => push_names(found, command),
         Lint::Texts(texts) => push_text_findings(found, texts, command),
-        Lint::Clap => push_clap(found, command),
+        Lint::Settings => push_settings(found, command),
         Lint::Hidden => push_hidden(found, command),
         Lint::Sources => push_command_sources(found, command),
     }
@@ -53,8 +53,8 @@ fn push_names(found: &mut Found, command: &Command) -> Added
     push_taken_names(found, command.get_subcommands())
 }
 
-fn push_clap(found: &mut Found, command: &Command) -> Added
-    ensures { OnOk result (found.new ≡ found.old ++ clap_list command.now) }
+fn push_settings(found: &mut Found, command: &Command) -> Added
+    ensures { OnOk result (found.new ≡ found.old ++ settings_list command.now) }
 {
     push_arguments(found, command)?;
     push_positionals(found, command.get_arguments())

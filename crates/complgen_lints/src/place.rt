@@ -52,12 +52,6 @@ pub enum Key {
     Index,
     /// `conflicts_with`
     ConflictsWith,
-    /// `required`
-    Required,
-    /// `last`
-    Last,
-    /// `global`
-    Global,
 }
 
 impl Key {
@@ -88,9 +82,6 @@ impl Key {
             Key::ValuesSplit => "values_split",
             Key::Index => "index",
             Key::ConflictsWith => "conflicts_with",
-            Key::Required => "required",
-            Key::Last => "last",
-            Key::Global => "global",
         }
     }
 }

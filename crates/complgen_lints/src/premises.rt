@@ -23,13 +23,14 @@ use std::alloc::{AllocError, Global};
 /// 1. names that are not plain, also the bin name `bin`; then possible values that are not quiet;
 ///    then quotes that the PowerShell script does not escape;
 /// 2. names and help texts that end a text of the zsh script;
-/// 3. what clap refuses about each command by itself, and settings of its arguments with no effect;
-/// 4. what clap refuses about the arguments of a command together with those that it inherits;
+/// 3. settings of the arguments of each command by itself that make a shell offer something wrong;
+/// 4. the same for the arguments of a command together with those that it inherits;
 /// 5. notes about hidden commands and arguments;
 /// 6. notes about commands that a tab runs, and warnings about sources of values.
 ///
 /// A label of the bash script that two commands share is not among them. If there are only notes,
-/// the premises of the promises about scripts hold that the command alone decides.
+/// the command and the bin name are plain, possible values are quiet, and the PowerShell script
+/// escapes each quote.
 ///
 /// # Errors
 ///
@@ -53,7 +54,7 @@ pub fn command_warnings(
         root(alloc),
         command,
     )?;
-    push_tree(&mut warnings, Lint::Clap, root(alloc), command)?;
+    push_tree(&mut warnings, Lint::Settings, root(alloc), command)?;
     push_scope(&mut warnings, root(alloc), &[], command)?;
     push_tree(&mut warnings, Lint::Hidden, root(alloc), command)?;
     push_tree(&mut warnings, Lint::Sources, root(alloc), command)?;

@@ -1,8 +1,7 @@
-//! Finds what clap refuses about the arguments of a command together with the global arguments of
-//! the commands above it.
+//! Finds names that two arguments of a command have, also if it inherits one of them, and conflicts
+//! with ids that no argument has.
 
 ghost use Rattle.std.specs.Prelude.{◌≡◌, ◌++◌, [], IfOk, OnOk, map};
-ghost use Rattle.std.specs.Str.{bytes_eq};
 ghost use Rattle.cc_command.specs.Tree.{forest_of};
 ghost use Rattle.complgen_lints.specs.ArgumentNames.{all_names, taken_of};
 ghost use Rattle.complgen_lints.specs.Findings.{placed};
@@ -111,7 +110,7 @@ fn push_globals<'a>(inherited: &mut Vec<&'a Arg>, arguments: &'a [Arg]) -> Added
     Ok(())
 }
 
-// Adds findings about taken ids, then longs, then shorts, and then about conflicts.
+// Adds findings about taken ids, then longs, then shorts, and then about unknown conflicts.
 fn push_together(found: &mut Found, inherited: &[&Arg], arguments: &[Arg]) -> Added
     ensures { OnOk result (found.new ≡ found.old
         ++ together_list (map (λ other. other.now) inherited.now) arguments.now) }
@@ -149,7 +148,7 @@ fn push_inherited_names<'a>(
     Ok(())
 }
 
-// Adds findings about conflicts. Collects ids only if an argument has conflicts.
+// Adds findings about unknown conflicts. Collects ids only if an argument has conflicts.
 fn push_conflicts_if_any(found: &mut Found, inherited: &[&Arg], arguments: &[Arg]) -> Added
     ensures { OnOk result (found.new ≡ found.old
         ++ all_conflicts (map (λ other. other.now) inherited.now) arguments.now) }
@@ -205,7 +204,7 @@ fn push_conflicts_of(
 {
     let ids = conflicting_ids(argument);
     for (index, id) in ids.iter().enumerate() {
-        let kind = conflict_kind(found.allocator(), seen, argument, id.as_str())?;
+        let kind = conflict_kind(found.allocator(), seen, id.as_str())?;
         push_conflict(found, argument_index, index, kind)?;
     }
     Ok(())
@@ -225,23 +224,18 @@ fn push_conflict(found: &mut Found, argument: usize, item: usize, kind: Option<K
     }
 }
 
-// Returns what is wrong with `id`, a conflict of `argument`, if anything is.
+// Returns what is wrong with `id`, a conflict of an argument, if anything is.
 fn conflict_kind(
     alloc: Global,
     seen: &BTreeMap<&str, TextRef<'_>>,
-    argument: &Arg,
     id: &str,
 ) -> Result<Option<Kind>, AllocError>
-    ensures { IfOk result (λ kind. kind ≡ conflict_kind (is_known_in seen.now id.now)
-        (bytes_eq id.now argument.now.id) id.now) }
+    ensures { IfOk result (λ kind. kind ≡ conflict_kind (is_known_in seen.now id.now) id.now) }
 {
-    if !is_known(seen, id) {
-        return Ok(Some(Kind::UnknownConflict(Text::copy_of(alloc, id)?)));
+    if is_known(seen, id) {
+        return Ok(None);
     }
-    if id == argument.get_id() {
-        return Ok(Some(Kind::SelfConflict));
-    }
-    Ok(None)
+    Ok(Some(Kind::UnknownConflict(Text::copy_of(alloc, id)?)))
 }
 
 // Returns whether `id` is in `seen`, or is the id of a flag that building may add.

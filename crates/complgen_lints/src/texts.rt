@@ -2,10 +2,10 @@
 
 ghost use Rattle.std.specs.Prelude.{◌≡◌, Some};
 ghost use Rattle.std.specs.Fmt.{DisplaysOnOk};
-ghost use Rattle.complgen_lints.specs.Texts.{clap_text, ended_text, fixed_text, generated_text};
-ghost use Rattle.complgen_lints.specs.Texts.{harm_text, help_name, hyphen_text, is_not_plain_text};
-ghost use Rattle.complgen_lints.specs.Texts.{kind_text};
-ghost use Rattle.complgen_lints.specs.Texts.{loud_value_text, named, not_plain_text, outside_text};
+ghost use Rattle.complgen_lints.specs.Texts.{ended_text, fixed_text, generated_text, harm_text};
+ghost use Rattle.complgen_lints.specs.Texts.{help_name, hyphen_text, is_not_plain_text, kind_text};
+ghost use Rattle.complgen_lints.specs.Texts.{loud_value_text, named, not_plain_text, other_text};
+ghost use Rattle.complgen_lints.specs.Texts.{outside_text};
 ghost use Rattle.complgen_lints.specs.Texts.{plain_rule, short_text, sign_text, taken_text};
 ghost use Rattle.complgen_lints.specs.Texts.{unplain_text, version_name, warning_text, zsh_sign};
 
@@ -48,7 +48,7 @@ fn write_kind<W: fmt::Write>(
             "two commands share the label {} in the bash script, so it is not written",
             label.as_str()
         ),
-        kind => write_clap(key, kind, f),
+        kind => write_other(key, kind, f),
     }
 }
 
@@ -157,12 +157,12 @@ fn write_loud_value<W: fmt::Write>(value: &str, f: &mut fmt::Formatter<W>) -> fm
 }
 
 // Writes the text of a kind that `write_kind` does not write itself.
-fn write_clap<W: fmt::Write>(
+fn write_other<W: fmt::Write>(
     key: Option<Key>,
     kind: &Kind,
     f: &mut fmt::Formatter<W>,
 ) -> fmt::Result
-    ensures { DisplaysOnOk W.write_str_gives f.old result (Some (clap_text key kind.now)) f.new }
+    ensures { DisplaysOnOk W.write_str_gives f.old result (Some (other_text key kind.now)) f.new }
 {
     match kind {
         Kind::TakenName(name, command) => {
@@ -181,17 +181,6 @@ fn write_clap<W: fmt::Write>(
         Kind::TakenByHelp => write_generated(named(key), help_name(key), "help", f),
         Kind::TakenByVersion => write_generated(named(key), version_name(key), "version", f),
         Kind::UnknownConflict(id) => write!(f, "no argument here has the id `{}`", id.as_str()),
-        Kind::RequiredAfterOptional(id) => write!(
-            f,
-            "a required positional can't follow the optional positional `{}`",
-            id.as_str()
-        ),
-        Kind::MoreNamesThanValues(names, greatest) => {
-            write!(
-                f,
-                "{names} value names, but the argument takes at most {greatest}"
-            )
-        }
         Kind::IndexOutOfRange(index, count) => write_outside(index.as_str(), count.as_str(), f),
         Kind::RunsCommand(words) => write!(f, "a tab runs{}", words.as_str()),
         Kind::RunsCode(program) => write!(
@@ -282,25 +271,9 @@ fn fixed_text(kind: &Kind) -> &'static str
     ensures { result.now ≡ fixed_text kind.now }
 {
     match kind {
-        Kind::SelfConflict => "the argument conflicts with itself",
-        Kind::LastOption => "only a positional (no short, no long) can be last",
-        Kind::GlobalRequired => "an argument can't be both global and required",
-        Kind::CommandHintWithoutMany => {
-            "CommandWithArguments needs a positional that takes many values"
-        }
         Kind::PositionalWithoutValue => "a positional must take a value",
         Kind::ValuesOfFlag => "possible values have no effect on a flag",
         Kind::NoValues => "an empty list of possible values turns off the value hint",
-        Kind::ManyBeforeLast => {
-            "if a positional before the last one takes many values, the last one must be \
-             required or last"
-        }
-        Kind::SecondLast => "only one positional can be last",
-        Kind::NoVersion => "the action is Version, but the command has no version",
-        Kind::IndexOfOption => "an index has no effect on an option",
-        Kind::LastBesideChildren => {
-            "a required `last` positional can't be combined with subcommands"
-        }
         Kind::HiddenCommand => "scripts still offer a hidden command; live completion hides it",
         Kind::HiddenArgument => "scripts still offer a hidden argument; live completion hides it",
         Kind::SourceOfFlag => "a flag takes no values, so this key has no effect; leave it out",

@@ -10,98 +10,89 @@ use cc_base::Text;
 /// The severity of a warning.
 #[derive(Clone, Copy, PartialEq, Eq, Debug)]
 pub enum Level {
-    /// A script may break, or clap refuses the command.
+    /// A script may break, or a shell offers something wrong.
     Warning,
     /// Nothing is wrong, but the reader may expect something else.
     Note,
 }
 
-/// The subject of a warning, with the names and numbers in its text.
+/// The subject of a warning, with the names and numbers in its text. Each comment says what a user
+/// of the shell sees.
 #[derive(Drop, Debug)]
 pub enum Kind {
-    /// The bin name of a call is not plain.
+    /// The bin name of a call is not plain: scripts may break at it, and the shell may run it.
     BinNotPlain(Text),
-    /// A name, an alias, a bin name or a long is not plain.
+    /// A name, an alias, a bin name or a long is not plain: scripts may break at it, and the shell
+    /// may run it.
     NotPlain(Text),
-    /// A long begins with a hyphen.
+    /// A long begins with a hyphen: scripts may break at it, and the shell may run it.
     LongWithHyphen(Text),
-    /// A short is not an ASCII letter or digit.
+    /// A short is not an ASCII letter or digit: scripts may break at it, and the shell may run it.
     ShortNotPlain(char),
-    /// An id or a value name contains a `'`.
+    /// An id or a value name contains a `'`: zsh may run what follows.
     Quote,
-    /// A name or a help text that ends a text of the zsh script:
+    /// A name or a help text that ends a text of the zsh script, so zsh may run what follows:
     ///
     /// - a value name of an option, or an id of a positional, with a `:` or a backslash;
     /// - the help text of a positional with a backslash;
     /// - the help text of a possible value with a `"`.
     ZshSign,
     /// A name of a subcommand that an earlier one has, or the same one before: the name, and the
-    /// name of that subcommand.
+    /// name of that subcommand. Behind the name, shells complete only one of the two.
     TakenName(Text, Text),
-    /// A possible value that is not quiet.
+    /// A possible value that is not quiet: bash may split, change or run it.
     LoudValue(Text),
-    /// A label of the bash script that two commands share.
+    /// A label of the bash script that two commands share: that script is not written.
     SharedLabel(Text),
-    /// A character that PowerShell takes as a quote, and that its script does not escape.
+    /// A character that PowerShell takes as a quote, and that its script does not escape:
+    /// PowerShell may run what follows.
     UnescapedQuote(char),
-    /// An id that an earlier argument has.
+    /// An id that an earlier argument has: subcommands offer only the first of two global arguments
+    /// with one id, and in zsh, a conflict with the id excludes only the first.
     TakenId(Text),
     /// A long or an alias of a long that another argument has, or the same one before: the long,
-    /// and the id of that argument.
+    /// and the id of that argument. Behind it, live completion offers the values of only one of the
+    /// two.
     TakenLong(Text, Text),
     /// A short or an alias of a short that another argument has, or the same one before: the short,
-    /// and the id of that argument.
+    /// and the id of that argument. Behind it, live completion offers the values of only one of the
+    /// two.
     TakenShort(Text, Text),
-    /// An argument with the short, the long or the id of the generated flag `help`.
+    /// An argument with the short or the long of the generated flag `help`: fish offers the name with
+    /// the description of the flag.
     TakenByHelp,
-    /// An argument with the short, the long or the id of the generated flag `version`.
+    /// An argument with the short or the long of the generated flag `version`: fish offers the name
+    /// with the description of the flag.
     TakenByVersion,
-    /// An id in a list of conflicts that no argument has.
+    /// An id in a list of conflicts that no argument has: zsh still offers the argument that is
+    /// meant.
     UnknownConflict(Text),
-    /// An argument that conflicts with itself.
-    SelfConflict,
-    /// A required positional after an optional one: the id of the optional one.
-    RequiredAfterOptional(Text),
-    /// An option with `last`.
-    LastOption,
-    /// An argument that is both global and required.
-    GlobalRequired,
-    /// More value names than values: how many names, and the greatest number of values.
-    MoreNamesThanValues(usize, usize),
-    /// The hint `CommandWithArguments` on an argument that is not a positional of many values.
-    CommandHintWithoutMany,
-    /// A positional that takes no value.
+    /// A positional that takes no value: zsh and live completion offer values in its place, and no
+    /// shell offers a flag.
     PositionalWithoutValue,
-    /// The action `Version` in a command without a version.
-    NoVersion,
-    /// An index of an option.
-    IndexOfOption,
     /// An index that is 0, or greater than the number of positionals: the index, and that number.
+    /// Live completion offers the values at the wrong word, or never.
     IndexOutOfRange(Text, Text),
-    /// An index that another positional has: the index, and the id of that positional.
+    /// An index that another positional has: the index, and the id of that positional. Live
+    /// completion offers the values of only one of the two.
     TakenIndex(Text, Text),
-    /// A positional of many values before the last positional, if clap cannot tell where the values
-    /// end.
-    ManyBeforeLast,
-    /// A positional with `last` after another such positional.
-    SecondLast,
-    /// Possible values of an argument that takes no value.
+    /// Possible values of an argument that takes no value: no shell offers them.
     ValuesOfFlag,
-    /// An empty list of possible values, on an argument that takes values.
+    /// An empty list of possible values, on an argument that takes values: no shell offers what the
+    /// value hint asks for.
     NoValues,
-    /// A required argument with `last`, in a command with subcommands.
-    LastBesideChildren,
     /// A command that a tab runs to list values: its words as messages show them.
     RunsCommand(Text),
-    /// The program of such a command, which may run its arguments as code.
+    /// The program of such a command, which may run its arguments as code: a tab runs that code.
     RunsCode(Text),
-    /// A source of values of an argument that takes no value.
+    /// A source of values of an argument that takes no value: no shell offers them.
     SourceOfFlag,
-    /// A hint of paths of an argument whose values come from a command or a file.
+    /// A hint of paths of an argument whose values come from a command or a file: live completion
+    /// offers no paths.
     HintBesideSource,
-    /// A hidden command.
+    /// A hidden command: scripts still offer it.
     HiddenCommand,
-    /// A hidden argument.
+    /// A hidden argument: scripts still offer it.
     HiddenArgument,
 }
 

@@ -1,5 +1,4 @@
 use Rattle.std.proofs.Common.{◌≡◌, ◌++◌, drop}
-use Rattle.std.specs.Str.{bytes_eq}
 use Rattle.complgen_lints.specs.Scopes.{conflict_kind, conflict_list, is_known_in}
 use Rattle.complgen_lints.specs.Walk.{each_from}
 use Rattle.complgen_lints.proofs.scopes.push_conflicts_of.Given as goal
@@ -7,5 +6,5 @@ use Rattle.complgen_lints.proofs.scopes.push_conflicts_of.Given as goal
 -- the findings so far and the remaining ones make the whole
 abbrev pub invariant-loop-index : goal.invariant-loop-index
 invariant-loop-index l =
-    l.found ++ each_from (λ item id. conflict_list l.argument_index item (conflict_kind (is_known_in l.seen id) (bytes_eq id l.argument.id) id)) l.index (drop l.index l.ids)
-    ≡ l.initial.found ++ each_from (λ item id. conflict_list l.argument_index item (conflict_kind (is_known_in l.seen id) (bytes_eq id l.argument.id) id)) 0 l.argument.conflicts
+    l.found ++ each_from (λ item id. conflict_list l.argument_index item (conflict_kind (is_known_in l.seen id) id)) l.index (drop l.index l.ids)
+    ≡ l.initial.found ++ each_from (λ item id. conflict_list l.argument_index item (conflict_kind (is_known_in l.seen id) id)) 0 l.argument.conflicts

@@ -3,7 +3,7 @@ use Rattle.std.proofs.lemmas.Result.{on_ok_weaker}
 use Rattle.complgen_lints.specs.ArgumentLints.{arguments_list}
 use Rattle.complgen_lints.specs.PositionalLints.{positional_list}
 use Rattle.complgen_lints.proofs.Joined.{two_added}
-use Rattle.complgen_lints.proofs.lints.push_clap.Goals as goal
+use Rattle.complgen_lints.proofs.lints.push_settings.Goals as goal
 
 pub returns : goal.returns
 returns c =
