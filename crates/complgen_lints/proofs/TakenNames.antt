@@ -10,6 +10,7 @@ use Rattle.cc_command.specs.declared.node.Node.{Node}
 use Rattle.cc_command.specs.Names.{contains_name}
 use Rattle.cc_command.specs.Plain.{all_differ, names_of_all, siblings_differ, names_of as node_names}
 use Rattle.cc_command.specs.Tree.{Forest, none, more}
+use Rattle.complgen_lints.specs.Notes.{are_notes}
 use Rattle.complgen_lints.specs.Parts.{content_text, listed_text, listed_texts, text_part}
 use Rattle.complgen_lints.specs.PlacedNames.{named_part, owner_with, taken_by, taken_from}
 use Rattle.complgen_lints.specs.SiblingNames.{names_from, names_of, taken_names}
@@ -18,7 +19,7 @@ use Rattle.complgen_lints.specs.declared.names.Named.TheVariants.{Child}
 use Rattle.complgen_lints.specs.declared.place.Key.{Key}
 use Rattle.complgen_lints.specs.declared.names.PlacedName.{PlacedName}
 use Rattle.complgen_lints.specs.declared.parts.Part.{Part}
-use Rattle.complgen_lints.proofs.Walked.{only_append, only_notes}
+use Rattle.complgen_lints.proofs.Walked.{notes_append}
 
 -- the texts of some names
 abbrev texts : List PlacedName → List (List ℕ)
@@ -46,7 +47,7 @@ found_some found (name ∷ names) word =
 owner_some : (before : List PlacedName) (word : List ℕ) → is_some (owner_with before word) ≡ contains_name (texts before) word
 owner_some before word = found_some None before word
 
-by_notes : (found : Option (List ℕ)) (name : PlacedName) → only_notes (taken_by Child found name) ≡ not (is_some found)
+by_notes : (found : Option (List ℕ)) (name : PlacedName) → are_notes (taken_by Child found name) ≡ not (is_some found)
 by_notes None name = refl
 by_notes (Some command) name = refl
 
@@ -56,10 +57,10 @@ fresh before [] = true
 fresh before (text ∷ others) = not (contains_name before text) && fresh (before ++ text ∷ []) others
 
 taken_notes : (before names : List PlacedName) →
-    only_notes (taken_from Child before names) ≡ fresh (texts before) (texts names)
+    are_notes (taken_from Child before names) ≡ fresh (texts before) (texts names)
 taken_notes before [] = refl
 taken_notes before (name ∷ names) =
-    only_append (taken_by Child (owner_with before name.name) name) (taken_from Child (before ++ name ∷ []) names)
+    notes_append (taken_by Child (owner_with before name.name) name) (taken_from Child (before ++ name ∷ []) names)
     ∙ ap₂ (λ a b. a && b) (by_notes (owner_with before name.name) name ∙ ap not (owner_some before name.name))
     (taken_notes (before ++ name ∷ []) names
     ∙ ap (λ before. fresh before (texts names)) (map-append (λ name. name.name) before (name ∷ [])))
@@ -114,7 +115,7 @@ forest_texts index (more node below rest) =
     map-append (λ name. name.name) (names_of index node) (names_from (suc index) rest)
     ∙ ap₂ (λ a b. a ++ b) (node_texts index node) (forest_texts (suc index) rest)
 
-pub siblings_notes : (children : Forest) → only_notes (taken_names children) ≡ siblings_differ children
+pub siblings_notes : (children : Forest) → are_notes (taken_names children) ≡ siblings_differ children
 unfolding siblings_differ
 siblings_notes children =
     taken_notes [] (names_from 0 children)

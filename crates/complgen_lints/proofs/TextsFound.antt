@@ -32,7 +32,7 @@ use Rattle.complgen_lints.specs.declared.text_lints.TextLint.TheVariants as lint
 use Rattle.complgen_lints.specs.declared.warning.Kind.{Kind}
 use Rattle.complgen_lints.specs.declared.warning.Kind.TheVariants.{LongWithHyphen, NotPlain, Quote, ShortNotPlain, LoudValue, ZshSign}
 use Rattle.complgen_lints.proofs.TakenNames.{siblings_notes}
-use Rattle.complgen_lints.proofs.Walked.{all_pass, each_only, only_append, only_notes, tree_notes}
+use Rattle.complgen_lints.proofs.Walked.{all_pass, each_only, notes_append, tree_notes}
 
 -- ---- no kind of a text or a short is a note
 
@@ -75,14 +75,14 @@ no_note true h = cc
 no_note false h = refl
 
 finding_only : (spot : Spot) (key : Key) (item : Option ℕ) (kind : Option Kind) → is_loud kind ≡ true →
-    only_notes (some_finding spot key item kind) ≡ is_none kind
+    are_notes (some_finding spot key item kind) ≡ is_none kind
 finding_only spot key item None h = refl
 finding_only spot key item (Some kind) h = no_note (is_note kind) h
 
-parts_only : (lint : TextLint) (spot : Spot) (parts : List Part) → only_notes (parts_list lint spot parts) ≡ list_all (passes lint) parts
+parts_only : (lint : TextLint) (spot : Spot) (parts : List Part) → are_notes (parts_list lint spot parts) ≡ list_all (passes lint) parts
 parts_only lint spot [] = refl
 parts_only lint spot (part ∷ parts) =
-    only_append (part_list lint spot part) (parts_list lint spot parts)
+    notes_append (part_list lint spot part) (parts_list lint spot parts)
     ∙ ap₂ (λ a b. a && b) (finding_only spot part.key part.item (part_kind lint part) (kind_loud lint part.key part.content))
     (parts_only lint spot parts)
 
@@ -180,7 +180,7 @@ in_a_row true true true true true false g h = refl
 in_a_row true true true true true true false h = refl
 in_a_row true true true true true true true h = refl
 
-plain_argument : (index : ℕ) (argument : Arg) → only_notes (argument_list lint.Plain index argument) ≡ is_plain_argument argument
+plain_argument : (index : ℕ) (argument : Arg) → are_notes (argument_list lint.Plain index argument) ≡ is_plain_argument argument
 plain_argument index argument =
     parts_only lint.Plain (spot.Argument index) (argument_parts lint.Plain argument)
     ∙ three_pass lint.Plain (label_parts argument) (short_parts argument) (long_parts argument)
@@ -199,14 +199,14 @@ of_command false b c d e = refl
 of_command true false c d e = refl
 of_command true true c d e = refl
 
-plain_command : (tree : Tree) → only_notes (names_list tree) ≡ plain_test tree
+plain_command : (tree : Tree) → are_notes (names_list tree) ≡ plain_test tree
 plain_command tree =
     let node = tree.node in
     let names = parts_list lint.Plain spot.Command (command_parts lint.Plain node) in
     let arguments = each_from (argument_list lint.Plain) 0 node.arguments in
-    only_append (names ++ arguments) (taken_names tree.children)
+    notes_append (names ++ arguments) (taken_names tree.children)
     ∙ ap₂ (λ a b. a && b)
-    (only_append names arguments
+    (notes_append names arguments
     ∙ ap₂ (λ a b. a && b) (parts_only lint.Plain spot.Command (name_parts node) ∙ names_pass node)
     (each_only (argument_list lint.Plain) is_plain_argument plain_argument 0 node.arguments))
     (siblings_notes tree.children)
@@ -249,7 +249,7 @@ some_values_pass : (values : Option (List PossibleValue)) →
 some_values_pass None = refl
 some_values_pass (Some values) = values_pass 0 values
 
-quiet_argument : (index : ℕ) (argument : Arg) → only_notes (argument_list lint.Quiet index argument) ≡ is_quiet_argument argument
+quiet_argument : (index : ℕ) (argument : Arg) → are_notes (argument_list lint.Quiet index argument) ≡ is_quiet_argument argument
 quiet_argument index argument =
     parts_only lint.Quiet (spot.Argument index) (argument_parts lint.Quiet argument)
     ∙ some_values_pass (possible_values argument)
@@ -257,7 +257,7 @@ quiet_argument index argument =
 abbrev quiet_test : Tree → Bool
 quiet_test tree = is_quiet_node tree.node
 
-quiet_command : (tree : Tree) → only_notes (text_list lint.Quiet tree) ≡ quiet_test tree
+quiet_command : (tree : Tree) → are_notes (text_list lint.Quiet tree) ≡ quiet_test tree
 quiet_command tree = each_only (argument_list lint.Quiet) is_quiet_argument quiet_argument 0 tree.node.arguments
 
 forest_quiet : (forest : Forest) → all_pass (text_list lint.Quiet) quiet_test quiet_command forest ≡ is_quiet_forest forest
@@ -281,7 +281,7 @@ quote_none (Some quote) = refl
 quotes_same : (key : Key) (text : List ℕ) → is_none (text_kind lint.Quotes key text) ≡ is_escaped_text text
 quotes_same key text = quote_none (unescaped_quote text)
 
-escaped_argument : (index : ℕ) (argument : Arg) → only_notes (argument_list lint.Quotes index argument) ≡ is_escaped_argument argument
+escaped_argument : (index : ℕ) (argument : Arg) → are_notes (argument_list lint.Quotes index argument) ≡ is_escaped_argument argument
 escaped_argument index argument =
     parts_only lint.Quotes (spot.Argument index) (some_text Key.Help None argument.help)
     ∙ some_text_passes lint.Quotes Key.Help is_escaped_text (quotes_same Key.Help) argument.help
@@ -289,10 +289,10 @@ escaped_argument index argument =
 abbrev escaped_test : Tree → Bool
 escaped_test tree = is_escaped_node tree.node
 
-escaped_command : (tree : Tree) → only_notes (text_list lint.Quotes tree) ≡ escaped_test tree
+escaped_command : (tree : Tree) → are_notes (text_list lint.Quotes tree) ≡ escaped_test tree
 escaped_command tree =
     let about = some_text Key.About None tree.node.about in
-    only_append (parts_list lint.Quotes spot.Command about) (each_from (argument_list lint.Quotes) 0 tree.node.arguments)
+    notes_append (parts_list lint.Quotes spot.Command about) (each_from (argument_list lint.Quotes) 0 tree.node.arguments)
     ∙ ap₂ (λ a b. a && b)
     (parts_only lint.Quotes spot.Command about
     ∙ some_text_passes lint.Quotes Key.About is_escaped_text (quotes_same Key.About) tree.node.about)

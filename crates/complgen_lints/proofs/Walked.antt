@@ -6,7 +6,6 @@ use Rattle.cc_command.specs.Tree.{Forest, none, more, Tree}
 use Rattle.complgen_lints.specs.Findings.{placed}
 use Rattle.complgen_lints.specs.Notes.{are_notes, is_note}
 use Rattle.complgen_lints.specs.Walk.{each_from, forest_list, tree_list, unless}
-use Rattle.complgen_lints.specs.declared.found.Finding.{Finding}
 use Rattle.complgen_lints.specs.declared.warning.Warning.{Warning}
 
 pub notes_append : (some others : List Warning) → are_notes (some ++ others) ≡ (are_notes some && are_notes others)
@@ -17,27 +16,20 @@ pub unless_notes : (test : Bool) (warning : Warning) → is_note warning.kind �
 unless_notes true warning h = refl
 unless_notes false warning h = ap (λ b. b && true) h
 
--- the same for findings, which have no path yet
-abbrev pub only_notes : List Finding → Bool
-only_notes findings = list_all (λ finding. is_note finding.kind) findings
-
-pub only_append : (some others : List Finding) → only_notes (some ++ others) ≡ (only_notes some && only_notes others)
-only_append some others = list_all-append (λ finding. is_note finding.kind) some others
-
-pub each_only : {A : Type 0} (f : ℕ → A → List Finding) (test : A → Bool) →
-    ((index : ℕ) (thing : A) → only_notes (f index thing) ≡ test thing) →
-    (index : ℕ) (things : List A) → only_notes (each_from f index things) ≡ list_all test things
+pub each_only : {A : Type 0} (f : ℕ → A → List Warning) (test : A → Bool) →
+    ((index : ℕ) (thing : A) → are_notes (f index thing) ≡ test thing) →
+    (index : ℕ) (things : List A) → are_notes (each_from f index things) ≡ list_all test things
 each_only f test h index [] = refl
 each_only f test h index (thing ∷ things) =
-    only_append (f index thing) (each_from f (suc index) things)
+    notes_append (f index thing) (each_from f (suc index) things)
     ∙ ap₂ (λ a b. a && b) (h index thing) (each_only f test h (suc index) things)
 
-placed_notes : (path : List ℕ) (findings : List Finding) → are_notes (map (placed path) findings) ≡ only_notes findings
+placed_notes : (path : List ℕ) (findings : List Warning) → are_notes (map (placed path) findings) ≡ are_notes findings
 placed_notes path [] = refl
 placed_notes path (finding ∷ findings) = ap (λ b. is_note finding.kind && b) (placed_notes path findings)
 
-module _ (of_command : Tree → List Finding) (test : Tree → Bool)
-    (same : (tree : Tree) → only_notes (of_command tree) ≡ test tree) where
+module _ (of_command : Tree → List Warning) (test : Tree → Bool)
+    (same : (tree : Tree) → are_notes (of_command tree) ≡ test tree) where
   -- all siblings and all commands below them pass
   abbrev pub all_pass : Forest → Bool
   all_pass none = true

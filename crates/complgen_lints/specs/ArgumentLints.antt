@@ -11,7 +11,7 @@ use Rattle.complgen_lints.specs.Findings.{finding}
 use Rattle.complgen_lints.specs.Walk.{each_from, when}
 use Rattle.complgen_lints.specs.declared.argument_lints.AddedFlag.{AddedFlag}
 use Rattle.complgen_lints.specs.declared.argument_lints.AddedFlag.TheVariants as added
-use Rattle.complgen_lints.specs.declared.found.Finding.{Finding}
+use Rattle.complgen_lints.specs.declared.warning.Warning.{Warning}
 use Rattle.complgen_lints.specs.declared.found.Spot.{Spot}
 use Rattle.complgen_lints.specs.declared.found.Spot.TheVariants.{Argument}
 use Rattle.complgen_lints.specs.declared.place.Key.{Key}
@@ -32,7 +32,7 @@ is_empty_list _ = false
 
 -- a positional that takes no value, possible values of an argument that takes no value, and an empty
 -- list of possible values
-abbrev pub values_list : Spot → Arg → List Finding
+abbrev pub values_list : Spot → Arg → List Warning
 values_list spot argument =
     (when (is_positional argument && not (takes_values argument))
     (finding spot (count_key argument) None PositionalWithoutValue)
@@ -76,18 +76,18 @@ abbrev pub is_added : AddedFlag → Node → Bool
 is_added flag node = is_enabled flag node && not (has_id node.arguments (added_name flag))
 
 -- the long and the short of the flag, if building adds it and the argument has them too
-abbrev pub added_list : AddedFlag → Node → Spot → Arg → List Finding
+abbrev pub added_list : AddedFlag → Node → Spot → Arg → List Warning
 added_list flag node spot argument =
     when (is_text argument.long (added_name flag) && is_added flag node)
     (finding spot key.Long None (added_kind flag))
     ++ when (is_short argument.short (added_short flag) && is_added flag node)
     (finding spot key.Short None (added_kind flag))
 
-abbrev pub argument_list : Tree → ℕ → Arg → List Finding
+abbrev pub argument_list : Tree → ℕ → Arg → List Warning
 argument_list tree index argument = (values_list (Argument index) argument
     ++ added_list added.Help tree.node (Argument index) argument)
     ++ added_list added.Version tree.node (Argument index) argument
 
 -- findings about each argument of a command
-abbrev pub arguments_list : Tree → List Finding
+abbrev pub arguments_list : Tree → List Warning
 arguments_list tree = each_from (argument_list tree) 0 tree.node.arguments

@@ -5,7 +5,7 @@ use Rattle.cc_arg.specs.Arguments.{is_positional}
 use Rattle.complgen_lints.specs.Parts.{long_parts, short_parts, text_part}
 use Rattle.complgen_lints.specs.PlacedNames.{named_part, placed_name, taken_from}
 use Rattle.complgen_lints.specs.Walk.{each_from}
-use Rattle.complgen_lints.specs.declared.found.Finding.{Finding}
+use Rattle.complgen_lints.specs.declared.warning.Warning.{Warning}
 use Rattle.complgen_lints.specs.declared.names.Named.{Named}
 use Rattle.complgen_lints.specs.declared.names.Named.TheVariants as named
 use Rattle.complgen_lints.specs.declared.names.PlacedName.{PlacedName}
@@ -34,6 +34,6 @@ abbrev pub all_names : Named → List Arg → List PlacedName
 all_names named arguments = each_from (names_of named) 0 arguments
 
 -- the names of this kind of a command's arguments that an earlier argument or an inherited one has
-abbrev pub taken_of : Named → List Arg → List Arg → List Finding
+abbrev pub taken_of : Named → List Arg → List Arg → List Warning
 taken_of named inherited arguments =
     taken_from named (all_names named inherited) (all_names named arguments)

@@ -10,7 +10,6 @@ use Rattle.complgen_lints.specs.Scopes.{scope_list}
 use Rattle.complgen_lints.specs.TextLints.{text_list}
 use Rattle.complgen_lints.specs.ValueLints.{source_list}
 use Rattle.complgen_lints.specs.Walk.{each_from, tree_list, when}
-use Rattle.complgen_lints.specs.declared.found.Finding.{Finding}
 use Rattle.complgen_lints.specs.declared.found.Spot.TheVariants.{Command, Argument}
 use Rattle.complgen_lints.specs.declared.lints.Lint.{Lint}
 use Rattle.complgen_lints.specs.declared.lints.Lint.TheVariants as lint
@@ -20,24 +19,24 @@ use Rattle.complgen_lints.specs.declared.warning.Kind.TheVariants.{HiddenCommand
 use Rattle.complgen_lints.specs.declared.warning.Warning.{Warning}
 
 -- findings about the settings of each argument of a command, and about the indexes of its positionals
-abbrev pub settings_list : Tree → List Finding
+abbrev pub settings_list : Tree → List Warning
 settings_list tree = arguments_list tree ++ positional_list tree.node.arguments
 
 -- a hidden command, and its hidden arguments
-abbrev pub hidden_argument : ℕ → Arg → List Finding
+abbrev pub hidden_argument : ℕ → Arg → List Warning
 hidden_argument index argument =
     when argument.hide (finding (Argument index) Hide None HiddenArgument)
 
-abbrev pub hidden_list : Tree → List Finding
+abbrev pub hidden_list : Tree → List Warning
 hidden_list tree = when tree.node.hide (finding Command Hide None HiddenCommand)
     ++ each_from hidden_argument 0 tree.node.arguments
 
 -- the sources of the values of each argument
-abbrev pub sources_list : Tree → List Finding
+abbrev pub sources_list : Tree → List Warning
 sources_list tree = each_from source_list 0 tree.node.arguments
 
 -- what a lint finds in a command
-abbrev pub lint_list : Lint → Tree → List Finding
+abbrev pub lint_list : Lint → Tree → List Warning
 lint_list lint.Names = names_list
 lint_list (lint.Texts texts) = text_list texts
 lint_list lint.Settings = settings_list

@@ -7,7 +7,7 @@ use Rattle.std.specs.Ordering.{nat_cmp}
 use Rattle.std.specs.Str.{bytes_eq}
 use Rattle.complgen_lints.specs.Findings.{finding}
 use Rattle.complgen_lints.specs.Parts.{content_text}
-use Rattle.complgen_lints.specs.declared.found.Finding.{Finding}
+use Rattle.complgen_lints.specs.declared.warning.Warning.{Warning}
 use Rattle.complgen_lints.specs.declared.found.Spot.{Spot}
 use Rattle.complgen_lints.specs.declared.found.Spot.TheVariants.{Argument, Child}
 use Rattle.complgen_lints.specs.declared.names.Named.{Named}
@@ -51,13 +51,13 @@ spot_of named.Child index = Child index
 spot_of _ index = Argument index
 
 -- a finding about a name, if it has an earlier owner
-abbrev pub taken_by : Named → Option (List ℕ) → PlacedName → List Finding
+abbrev pub taken_by : Named → Option (List ℕ) → PlacedName → List Warning
 taken_by named None name = []
 taken_by named (Some owner) name =
     finding (spot_of named name.index) name.key name.item (taken_kind named name.name owner) ∷ []
 
 -- a finding for each name that equals a name before it
-abbrev pub taken_from : Named → List PlacedName → List PlacedName → List Finding
+abbrev pub taken_from : Named → List PlacedName → List PlacedName → List Warning
 taken_from named before [] = []
 taken_from named before (name ∷ names) = taken_by named (owner_with before name.name) name
     ++ taken_from named (before ++ name ∷ []) names

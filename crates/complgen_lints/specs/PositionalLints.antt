@@ -7,7 +7,7 @@ use Rattle.complgen_lints.specs.ArgumentNames.{all_names, index_name}
 use Rattle.complgen_lints.specs.Findings.{finding}
 use Rattle.complgen_lints.specs.PlacedNames.{taken_from}
 use Rattle.complgen_lints.specs.Walk.{each_from, when}
-use Rattle.complgen_lints.specs.declared.found.Finding.{Finding}
+use Rattle.complgen_lints.specs.declared.warning.Warning.{Warning}
 use Rattle.complgen_lints.specs.declared.found.Spot.TheVariants.{Argument}
 use Rattle.complgen_lints.specs.declared.names.PlacedName.{PlacedName}
 use Rattle.complgen_lints.specs.declared.names.Named.TheVariants as named
@@ -25,7 +25,7 @@ count_positionals arguments = fold counted_with 0 arguments
 abbrev pub is_outside : ℕ → ℕ → Bool
 is_outside count index = (index == 0) || nat_lt count index
 
-abbrev pub outside_list : ℕ → ℕ → Bool → Option ℕ → List Finding
+abbrev pub outside_list : ℕ → ℕ → Bool → Option ℕ → List Warning
 outside_list count argument true (Some index) = when (is_outside count index)
     (finding (Argument argument) key.Index None (IndexOutOfRange (decimal index) (decimal count)))
 outside_list count argument _ _ = []
@@ -44,11 +44,11 @@ counted_from number index (argument ∷ arguments) = counted_index number index 
 
 -- for arguments with this number of positionals: indexes that no positional can have, then indexes
 -- that another one has
-abbrev pub counted_list : ℕ → List Arg → List Finding
+abbrev pub counted_list : ℕ → List Arg → List Warning
 counted_list count arguments = each_from (λ index argument. outside_list count index
     (is_positional argument) argument.index) 0 arguments
     ++ taken_from named.Index (counted_from 1 0 arguments)
     (all_names named.Index arguments)
 
-abbrev pub positional_list : List Arg → List Finding
+abbrev pub positional_list : List Arg → List Warning
 positional_list arguments = counted_list (count_positionals arguments) arguments

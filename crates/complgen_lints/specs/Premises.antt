@@ -8,7 +8,6 @@ use Rattle.cc_base.specs.PlainName.{is_plain_name}
 use Rattle.complgen_lints.specs.SiblingNames.{taken_names}
 use Rattle.complgen_lints.specs.TextLints.{text_list}
 use Rattle.complgen_lints.specs.Walk.{tree_list, unless}
-use Rattle.complgen_lints.specs.declared.found.Finding.{Finding}
 use Rattle.complgen_lints.specs.declared.place.Key.{Key}
 use Rattle.complgen_lints.specs.declared.place.Key.TheVariants.{BinName}
 use Rattle.complgen_lints.specs.declared.text_lints.TextLint.TheVariants.{Plain, Quiet, Quotes}
@@ -29,7 +28,7 @@ bin_list key (Some name) = unless (is_plain_name name) (record {
 })
 
 -- the names of a command that are not plain, then those of its children that an earlier one has
-abbrev pub names_list : Tree → List Finding
+abbrev pub names_list : Tree → List Warning
 names_list tree = text_list Plain tree ++ taken_names tree.children
 
 -- the warnings about the names, the possible values and the quotes of a tree, and about the bin

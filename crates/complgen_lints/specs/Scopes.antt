@@ -13,7 +13,6 @@ use Rattle.complgen_lints.specs.ArgumentNames.{all_names, taken_of}
 use Rattle.complgen_lints.specs.PlacedNames.{owner_in, owner_with}
 use Rattle.complgen_lints.specs.Findings.{placed, some_finding}
 use Rattle.complgen_lints.specs.Walk.{each_from}
-use Rattle.complgen_lints.specs.declared.found.Finding.{Finding}
 use Rattle.complgen_lints.specs.declared.found.Spot.TheVariants.{Argument}
 use Rattle.complgen_lints.specs.declared.names.PlacedName.{PlacedName}
 use Rattle.complgen_lints.specs.declared.names.Named.TheVariants as named
@@ -35,11 +34,11 @@ abbrev pub conflict_kind : Bool → List ℕ → Option Kind
 conflict_kind true id = None
 conflict_kind false id = Some (UnknownConflict id)
 
-abbrev pub conflict_list : ℕ → ℕ → Option Kind → List Finding
+abbrev pub conflict_list : ℕ → ℕ → Option Kind → List Warning
 conflict_list index item kind = some_finding (Argument index) ConflictsWith (Some item) kind
 
 -- findings about the conflicts of an argument, if these ids are known
-abbrev pub conflicts_of : (List ℕ → Bool) → ℕ → Arg → List Finding
+abbrev pub conflicts_of : (List ℕ → Bool) → ℕ → Arg → List Warning
 conflicts_of known index argument = each_from (λ item id.
     conflict_list index item (conflict_kind (known id) id)) 0 argument.conflicts
 
@@ -62,13 +61,13 @@ abbrev pub have_conflicts : List Arg → Bool
 have_conflicts arguments = list_any (λ argument. has_conflicts argument.conflicts) arguments
 
 -- conflicts of a command's arguments with unknown ids
-abbrev pub all_conflicts : List Arg → List Arg → List Finding
+abbrev pub all_conflicts : List Arg → List Arg → List Warning
 all_conflicts inherited arguments = each_from (conflicts_of
     (is_known (all_names named.Id inherited ++ all_names named.Id arguments))) 0 arguments
 
 -- findings about the arguments of a command: ids that an earlier one has; longs, then shorts that
 -- an earlier one or an inherited one has; and conflicts
-abbrev pub together_list : List Arg → List Arg → List Finding
+abbrev pub together_list : List Arg → List Arg → List Warning
 together_list inherited arguments = ((taken_of named.Id [] arguments
     ++ taken_of named.Long inherited arguments)
     ++ taken_of named.Short inherited arguments)

@@ -4,7 +4,7 @@ use Rattle.cc_command.specs.declared.node.Node.{Node}
 use Rattle.cc_command.specs.Tree.{Forest, none, more}
 use Rattle.complgen_lints.specs.Parts.{name_parts}
 use Rattle.complgen_lints.specs.PlacedNames.{named_part, taken_from}
-use Rattle.complgen_lints.specs.declared.found.Finding.{Finding}
+use Rattle.complgen_lints.specs.declared.warning.Warning.{Warning}
 use Rattle.complgen_lints.specs.declared.names.Named.TheVariants.{Child}
 use Rattle.complgen_lints.specs.declared.names.PlacedName.{PlacedName}
 
@@ -18,5 +18,5 @@ names_from index none = []
 names_from index (more node below rest) = names_of index node ++ names_from (suc index) rest
 
 -- the names of subcommands that are already taken
-abbrev pub taken_names : Forest → List Finding
+abbrev pub taken_names : Forest → List Warning
 taken_names children = taken_from Child [] (names_from 0 children)

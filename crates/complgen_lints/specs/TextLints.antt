@@ -16,7 +16,7 @@ use Rattle.complgen_lints.specs.Findings.{some_finding}
 use Rattle.complgen_lints.specs.Parts.{label_parts, listed_texts, long_parts, name_parts, short_parts, some_text, text_part, value_helps, value_names, values_of}
 use Rattle.complgen_lints.specs.Running.{holds_one_of}
 use Rattle.complgen_lints.specs.Walk.{each_from}
-use Rattle.complgen_lints.specs.declared.found.Finding.{Finding}
+use Rattle.complgen_lints.specs.declared.warning.Warning.{Warning}
 use Rattle.complgen_lints.specs.declared.found.Spot.{Spot}
 use Rattle.complgen_lints.specs.declared.found.Spot.TheVariants as spot
 use Rattle.complgen_lints.specs.declared.parts.Content.{Content}
@@ -107,16 +107,16 @@ argument_parts lint.Zsh argument =
     zsh_parts argument ++ value_helps (values_of argument)
 
 -- what a lint finds in a part, in some parts, in an argument, and in a command with its arguments
-abbrev pub part_list : TextLint → Spot → Part → List Finding
+abbrev pub part_list : TextLint → Spot → Part → List Warning
 part_list lint spot part = some_finding spot part.key part.item (part_kind lint part)
 
-abbrev pub parts_list : TextLint → Spot → List Part → List Finding
+abbrev pub parts_list : TextLint → Spot → List Part → List Warning
 parts_list lint spot parts = flat_map (part_list lint spot) parts
 
-abbrev pub argument_list : TextLint → ℕ → Arg → List Finding
+abbrev pub argument_list : TextLint → ℕ → Arg → List Warning
 argument_list lint index argument =
     parts_list lint (spot.Argument index) (argument_parts lint argument)
 
-abbrev pub text_list : TextLint → Tree → List Finding
+abbrev pub text_list : TextLint → Tree → List Warning
 text_list lint tree = parts_list lint spot.Command (command_parts lint tree.node)
     ++ each_from (argument_list lint) 0 tree.node.arguments

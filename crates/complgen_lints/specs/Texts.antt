@@ -8,16 +8,7 @@ use Rattle.complgen_lints.specs.declared.warning.Kind.TheVariants.{BinNotPlain, 
 use Rattle.complgen_lints.specs.declared.warning.Kind.TheVariants.{TakenId, TakenLong, TakenShort, TakenByHelp, TakenByVersion, UnknownConflict}
 use Rattle.complgen_lints.specs.declared.warning.Kind.TheVariants.{IndexOutOfRange, TakenIndex, PositionalWithoutValue, ValuesOfFlag, NoValues, HiddenCommand, HiddenArgument}
 use Rattle.complgen_lints.specs.declared.warning.Kind.TheVariants.{RunsCommand, RunsCode, SourceOfFlag, HintBesideSource}
-use Rattle.complgen_lints.specs.declared.warning.Level.{Level}
-use Rattle.complgen_lints.specs.declared.warning.Level.TheVariants as level
 use Rattle.complgen_lints.specs.declared.warning.Warning.{Warning}
-
--- the severity of a kind
-abbrev pub level_of : Kind → Level
-level_of HiddenCommand = level.Note
-level_of HiddenArgument = level.Note
-level_of (RunsCommand words) = level.Note
-level_of _ = level.Warning
 
 -- what messages call a text at a key
 abbrev pub named : Option Key → List ℕ

@@ -9,7 +9,7 @@ use Rattle.cc_arg.specs.Arguments.{takes_values}
 use Rattle.cc_arg.specs.ValueSources.{slash}
 use Rattle.complgen_lints.specs.Findings.{finding}
 use Rattle.complgen_lints.specs.Walk.{when}
-use Rattle.complgen_lints.specs.declared.found.Finding.{Finding}
+use Rattle.complgen_lints.specs.declared.warning.Warning.{Warning}
 use Rattle.complgen_lints.specs.declared.found.Spot.{Spot}
 use Rattle.complgen_lints.specs.declared.found.Spot.TheVariants.{Argument}
 use Rattle.complgen_lints.specs.declared.place.Key.TheVariants as key
@@ -56,13 +56,13 @@ abbrev pub runs_code : List ℕ → Bool
 runs_code program = list_any (is_called program) code_runners
 
 -- a program that may run its arguments as code
-abbrev pub program_list : Spot → List (List ℕ) → List Finding
+abbrev pub program_list : Spot → List (List ℕ) → List Warning
 program_list spot [] = []
 program_list spot (program ∷ arguments) =
     when (runs_code program) (finding spot key.ValuesFrom (Some 0) (RunsCode program))
 
 -- the command of an argument, and its program
-abbrev pub command_list : Spot → Option (List (List ℕ)) → List Finding
+abbrev pub command_list : Spot → Option (List (List ℕ)) → List Warning
 command_list spot None = []
 command_list spot (Some words) =
     finding spot key.ValuesFrom None (RunsCommand (shown_words words)) ∷ program_list spot words
@@ -78,7 +78,7 @@ hints_paths ExecutablePath = true
 hints_paths _ = false
 
 -- the keys of sources on an argument that takes no values
-abbrev pub flag_list : Spot → Arg → List Finding
+abbrev pub flag_list : Spot → Arg → List Warning
 flag_list spot argument =
     (when (not (takes_values argument) && is_some argument.values_from)
     (finding spot key.ValuesFrom None SourceOfFlag)
@@ -88,7 +88,7 @@ flag_list spot argument =
     (finding spot key.ValuesSplit None SourceOfFlag)
 
 -- a command or a file beside a hint of paths
-abbrev pub hint_list : Spot → Arg → List Finding
+abbrev pub hint_list : Spot → Arg → List Warning
 hint_list spot argument = when (takes_values argument
     && (hints_paths argument.value_hint
     && (is_some argument.values_from || is_some argument.values_file)))
@@ -97,7 +97,7 @@ hint_list spot argument = when (takes_values argument
 -- ---- the whole
 
 -- the command that a tab runs for an argument, and its keys with no effect
-abbrev pub source_list : ℕ → Arg → List Finding
+abbrev pub source_list : ℕ → Arg → List Warning
 source_list index argument =
     (command_list (Argument index) argument.values_from ++ flag_list (Argument index) argument)
     ++ hint_list (Argument index) argument

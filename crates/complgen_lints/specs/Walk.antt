@@ -2,7 +2,6 @@
 use Rattle.std.specs.Prelude.{ℕ, suc, Bool, true, false, List, [], ◌∷◌, ◌++◌, map}
 use Rattle.cc_command.specs.Tree.{Forest, none, more, Tree}
 use Rattle.complgen_lints.specs.Findings.{placed}
-use Rattle.complgen_lints.specs.declared.found.Finding.{Finding}
 use Rattle.complgen_lints.specs.declared.warning.Warning.{Warning}
 
 -- a thing, unless a test passes
@@ -22,7 +21,7 @@ each_from f index (thing ∷ things) = f index thing ++ each_from f (suc index) 
 
 -- the warnings about siblings below a path, from this index on: about each command, by the findings
 -- about it, then about those below it
-abbrev pub forest_list : (Tree → List Finding) → List ℕ → ℕ → Forest → List Warning
+abbrev pub forest_list : (Tree → List Warning) → List ℕ → ℕ → Forest → List Warning
 forest_list of_command path index none = []
 forest_list of_command path index (more node below rest) =
     (map (placed (path ++ index ∷ [])) (of_command (record { node = node; children = below }))
@@ -30,6 +29,6 @@ forest_list of_command path index (more node below rest) =
     ++ forest_list of_command path (suc index) rest
 
 -- the warnings about the command at a path and about those below it
-abbrev pub tree_list : (Tree → List Finding) → List ℕ → Tree → List Warning
+abbrev pub tree_list : (Tree → List Warning) → List ℕ → Tree → List Warning
 tree_list of_command path tree =
     map (placed path) (of_command tree) ++ forest_list of_command path 0 tree.children

@@ -1,11 +1,11 @@
-//! Collects findings about one command.
+//! Collects warnings about one command.
 
-ghost use Rattle.std.specs.Prelude.{◌≡◌, ◌∷◌, [], ◌++◌, None, OnOk};
-ghost use Rattle.complgen_lints.specs.Findings.{finding};
+ghost use Rattle.std.specs.Prelude.{◌≡◌, ◌∷◌, [], ◌++◌, IfOk, None, OnOk};
+ghost use Rattle.complgen_lints.specs.Findings.{finding, spot_argument, spot_path};
 ghost use Rattle.complgen_lints.specs.Walk.{when};
 
-use crate::place::Key;
-use crate::warning::Kind;
+use crate::place::{Key, Place};
+use crate::warning::{Kind, Warning};
 use cc_base::Items;
 use std::alloc::{AllocError, Global};
 use std::marker::Model;
@@ -22,28 +22,19 @@ pub(crate) enum Spot {
     Argument(usize),
 }
 
-/// A finding about a command, whose path is not known yet.
-#[derive(Drop)]
-pub(crate) struct Finding {
-    pub(crate) spot: Spot,
-    pub(crate) key: Key,
-    /// The index of an item in the key's list, counted from 0.
-    pub(crate) item: Option<usize>,
-    pub(crate) kind: Kind,
-}
-
-/// The findings about one command, in the order in which they were added.
+/// The warnings about one command, in the order in which they were added. Their places begin at
+/// the command.
 #[derive(Drop)]
 pub(crate) struct Found {
     alloc: Global,
-    list: Items<Finding>,
+    list: Items<Warning>,
 }
 
 impl Model for Found {
     ghost use Rattle.std.specs.Prelude.{List};
-    ghost use Rattle.complgen_lints.specs.declared.found.Finding.{Finding};
+    ghost use Rattle.complgen_lints.specs.declared.warning.Warning.{Warning};
 
-    ghost Value = { List Finding };
+    ghost Value = { List Warning };
 
     ghost view = { λ found. found.list };
 }
@@ -57,26 +48,26 @@ impl Found {
         Found { alloc, list }
     }
 
-    /// Returns the allocator for the texts of findings.
+    /// Returns the allocator for the texts of warnings.
     pub(crate) fn allocator(&self) -> Global {
         self.alloc
     }
 
-    /// Adds a finding.
+    /// Adds a warning.
     pub(crate) fn note(&mut self, spot: Spot, key: Key, item: Option<usize>, kind: Kind) -> Added
         ensures { OnOk result (self.new ≡ self.old ++ finding spot key item kind ∷ []) }
     {
-        let finding = Finding {
-            spot,
-            key,
+        let place = Place {
+            command: spot_path(self.alloc, spot)?,
+            argument: spot_argument(spot),
+            key: Some(key),
             item,
-            kind,
         };
-        self.list.push(finding)?;
+        self.list.push(Warning { place, kind })?;
         Ok(())
     }
 
-    /// Adds a finding about `key` if `wrong` is true.
+    /// Adds a warning about `key` if `wrong` is true.
     pub(crate) fn note_if(&mut self, wrong: bool, spot: Spot, key: Key, kind: Kind) -> Added
         ensures { OnOk result (self.new ≡ self.old ++ when wrong (finding spot key None kind)) }
     {
@@ -86,10 +77,31 @@ impl Found {
         self.note(spot, key, None, kind)
     }
 
-    /// Returns the findings. Allocates nothing.
-    pub(crate) fn into_vec(self) -> Vec<Finding>
+    /// Returns the warnings. Allocates nothing.
+    pub(crate) fn into_vec(self) -> Vec<Warning>
         ensures { result.items ≡ self }
     {
         self.list.into_vec()
+    }
+}
+
+// Returns the path from a command to the command of a spot.
+fn spot_path(alloc: Global, spot: Spot) -> Result<Items<usize>, AllocError>
+    ensures { IfOk result (λ path. path ≡ spot_path spot) }
+{
+    let mut path = Items::new(alloc);
+    let Spot::Child(index) = spot else {
+        return Ok(path);
+    };
+    path.push(index)?;
+    Ok(path)
+}
+
+fn spot_argument(spot: Spot) -> Option<usize>
+    ensures { result ≡ spot_argument spot }
+{
+    match spot {
+        Spot::Argument(index) => Some(index),
+        _ => None,
     }
 }

@@ -1,14 +1,13 @@
-//! Walks over a tree, and turns the findings about each command into warnings.
+//! Walks over a tree, and collects the warnings about each command with their places in the tree.
 
 ghost use Rattle.std.specs.Prelude.{◌≡◌, ◌∷◌, [], ◌++◌, IfOk, OnOk, map};
 ghost use Rattle.cc_command.specs.Tree.{forest_of};
 ghost use Rattle.complgen_lints.specs.CommandWarnings.{lint_list};
-ghost use Rattle.complgen_lints.specs.Findings.{placed, spot_argument, spot_path};
+ghost use Rattle.complgen_lints.specs.Findings.{placed};
 ghost use Rattle.complgen_lints.specs.Walk.{forest_list, tree_list};
 
-use crate::found::{Added, Finding, Found, Spot};
+use crate::found::{Added, Found};
 use crate::lints::{Lint, push_lint};
-use crate::place::Place;
 use crate::warning::Warning;
 use cc_base::Items;
 use cc_command::Command;
@@ -55,54 +54,38 @@ fn push_children(warnings: &mut Vec<Warning>, lint: Lint, at: At<'_>, children: 
     Ok(())
 }
 
-/// Adds the findings about the command at `at`, as warnings.
+/// Adds the warnings about the command at `at`, with their places in the tree.
 pub(crate) fn place_all(warnings: &mut Vec<Warning>, at: At<'_>, found: Found) -> Added
     ensures { OnOk result (warnings.new.items
         ≡ warnings.old.items ++ map (placed at.entry.path.now) found) }
 {
-    for finding in found.into_vec() {
-        warnings.push(placed(at, finding)?)?;
+    for warning in found.into_vec() {
+        warnings.push(placed(at, warning)?)?;
     }
     Ok(())
 }
 
-fn placed(at: At<'_>, finding: Finding) -> Result<Warning, AllocError>
-    ensures { IfOk result (λ warning. warning ≡ placed at.entry.path.now finding) }
+fn placed(at: At<'_>, mut warning: Warning) -> Result<Warning, AllocError>
+    ensures { IfOk result (λ there. there ≡ placed at.entry.path.now warning) }
 {
-    let place = Place {
-        command: spot_path(at, finding.spot)?,
-        argument: spot_argument(finding.spot),
-        key: Some(finding.key),
-        item: finding.item,
-    };
-    let kind = finding.kind;
-    Ok(Warning { place, kind })
-}
-
-fn spot_path(at: At<'_>, spot: Spot) -> Result<Items<usize>, AllocError>
-    ensures { IfOk result (λ path. path ≡ spot_path at.entry.path.now spot) }
-{
-    match spot {
-        Spot::Child(index) => Ok(Items::from(child_path(at, index)?)),
-        _ => Items::copy_of(at.alloc, at.path),
-    }
-}
-
-fn spot_argument(spot: Spot) -> Option<usize>
-    ensures { result ≡ spot_argument spot }
-{
-    match spot {
-        Spot::Argument(index) => Some(index),
-        _ => None,
-    }
+    let path = path_below(at, warning.place.command.as_slice())?;
+    warning.place.command = Items::from(path);
+    Ok(warning)
 }
 
 /// Returns the path of the subcommand at `index`.
 pub(crate) fn child_path(at: At<'_>, index: usize) -> Result<Vec<usize>, AllocError>
     ensures { IfOk result (λ path. path.items ≡ at.entry.path.now ++ index ∷ []) }
 {
-    let mut path = Vec::with_capacity(at.alloc, at.path.len().saturating_add(1))?;
+    path_below(at, &[index])
+}
+
+// Returns the path of the command to which the steps `below` lead from the one at `at`.
+fn path_below(at: At<'_>, below: &[usize]) -> Result<Vec<usize>, AllocError>
+    ensures { IfOk result (λ path. path.items ≡ at.entry.path.now ++ below.now) }
+{
+    let mut path = Vec::with_capacity(at.alloc, at.path.len().saturating_add(below.len()))?;
     path.extend_from_slice(at.path)?;
-    path.push(index)?;
+    path.extend_from_slice(below)?;
     Ok(path)
 }

@@ -2,19 +2,9 @@
 
 ghost use Rattle.std.specs.Prelude.{◌≡◌};
 ghost use Rattle.complgen_lints.specs.Notes.{are_notes, is_note};
-ghost use Rattle.complgen_lints.specs.Texts.{level_of};
 
 use crate::place::Place;
 use cc_base::Text;
-
-/// The severity of a warning.
-#[derive(Clone, Copy, PartialEq, Eq, Debug)]
-pub enum Level {
-    /// A script may break, or a shell offers something wrong.
-    Warning,
-    /// Nothing is wrong, but the reader may expect something else.
-    Note,
-}
 
 /// The subject of a warning, with the names and numbers in its text. Each comment says what a user
 /// of the shell sees.
@@ -106,7 +96,8 @@ pub struct Warning {
 }
 
 impl Warning {
-    /// Returns whether the warning is a note.
+    /// Returns whether the warning is a note: about a hidden command or argument, or about a command
+    /// that a tab runs.
     pub fn is_note(&self) -> bool
         ensures { result ≡ is_note self.now.kind }
     {
@@ -114,17 +105,6 @@ impl Warning {
             &self.kind,
             Kind::HiddenCommand | Kind::HiddenArgument | Kind::RunsCommand(_)
         )
-    }
-
-    /// Returns the severity of the warning: `Note` for a hidden command or argument and for a
-    /// command that a tab runs, or else `Warning`.
-    pub fn level(&self) -> Level
-        ensures { result ≡ level_of self.now.kind }
-    {
-        match &self.kind {
-            Kind::HiddenCommand | Kind::HiddenArgument | Kind::RunsCommand(_) => Level::Note,
-            _ => Level::Warning,
-        }
     }
 }
 
