@@ -1,5 +1,5 @@
 -- If nothing is found in a tree file but notes, its scripts are written and read back.
-use Rattle.std.proofs.Common.{◌≡◌, ◌∙◌, ◌++◌, ◌&&◌, Bool, IsTrue, List, None, Option, Some, [], ◌∷◌, ap, false, map, refl, subst, sym, true, ℕ}
+use Rattle.std.proofs.Common.{◌≡◌, ◌∙◌, ◌++◌, ◌&&◌, Bool, IsTrue, List, None, Option, Some, [], ◌∷◌, ap, false, if◌then◌else◌, map, refl, subst, sym, true, ℕ}
 use Rattle.std.specs.List.{list_all}
 use Rattle.std.proofs.lemmas.Bool.{and_parts}
 use Rattle.std.proofs.lemmas.List.Elements.{All-head}
@@ -11,9 +11,6 @@ use Rattle.cc_command.specs.Built.{built_tree}
 use Rattle.cc_command.specs.Plain.{is_plain_tree}
 use Rattle.cc_command.specs.Tree.{Tree}
 use Rattle.complgen_lints.specs.Notes.{are_notes, is_note as is_note_kind}
-use Rattle.complgen_lints.specs.Texts.{level_of}
-use Rattle.complgen_lints.specs.declared.warning.Kind.{Kind}
-use Rattle.complgen_lints.specs.declared.warning.Kind.TheVariants.{HiddenArgument, HiddenCommand, RunsCommand}
 use Rattle.complgen_lints.specs.declared.warning.Warning.{Warning}
 use Rattle.cc_fish.proofs.ScriptRead as fish
 use Rattle.cc_shell.specs.Shells.{shell_spec}
@@ -25,7 +22,7 @@ use Rattle.cc_tables.proofs.PowershellFreeScripts.{powershell_plain_reads}
 use Rattle.complgen_tree_errors.specs.Checks.{hidden_list}
 use Rattle.complgen_tree_errors.specs.Findings.{AreErrors, IsError, Shown, shown_placed}
 use Rattle.complgen_tree_errors.specs.declared.finding.Level.{Level}
-use Rattle.complgen_tree_errors.specs.declared.finding.Level.TheVariants.{Error}
+use Rattle.complgen_tree_errors.specs.declared.finding.Level.TheVariants.{Error, Note, Warning as Warns}
 use Rattle.complgen_tree_errors.specs.declared.finding.PlacedFinding.{PlacedFinding}
 use Rattle.complgen_tree_file.specs.Faults.{is_nil}
 use Rattle.complgen_check.proofs.NoWarnings.{premises_hold}
@@ -33,7 +30,7 @@ use Rattle.complgen_check.specs.Promises.{HoldPremises}
 use Rattle.complgen_check.specs.TreeWarnings.{built_as, called, warnings_of}
 use Rattle.cc_zsh.proofs.ReadsBack as zsh
 use Rattle.complgen_check.specs.Checking.{AreSound, Finds, IsSafeFor, described, errors}
-use Rattle.complgen_check.specs.Checking.{finding_level, is_note, only_notes, shown_warning}
+use Rattle.complgen_check.specs.Checking.{is_note, only_notes, shown_warning}
 
 -- ---- scripts
 
@@ -79,11 +76,9 @@ no_notes (finding ∷ more) are clean =
     cc
 
 -- a kind is shown as a note exactly if it is the kind of a note
-kind_shown : (kind : Kind) → is_note (finding_level (level_of kind)) ≡ is_note_kind kind
-kind_shown HiddenCommand = refl
-kind_shown HiddenArgument = refl
-kind_shown (RunsCommand words) = refl
-kind_shown _ = refl
+noted : (note : Bool) → is_note (if note then Note else Warns) ≡ note
+noted true = refl
+noted false = refl
 
 -- whether everything shown is a note
 notes_shown : List Shown → Bool
@@ -98,7 +93,7 @@ warned_notes : (warnings : List Warning) → notes_shown (map shown_warning warn
 unfolding notes_shown
 warned_notes [] = refl
 warned_notes (warning ∷ more) =
-    ap (λ note. note && notes_shown (map shown_warning more)) (kind_shown warning.kind)
+    ap (λ note. note && notes_shown (map shown_warning more)) (noted (is_note_kind warning.kind))
     ∙ ap (λ notes. is_note_kind warning.kind && notes) (warned_notes more)
 
 -- if everything shown is a note, so is the last part of it

@@ -1,5 +1,5 @@
 -- The findings of a check of a tree file, and the outcomes of the check.
-use Rattle.std.specs.Prelude.{◌≡◌, ◌++◌, ℕ, Bool, true, false, IsTrue, List, [], ◌∷◌, Option, Some, None, Result, Ok, Err, codes, map}
+use Rattle.std.specs.Prelude.{◌≡◌, ◌++◌, ℕ, Bool, true, false, if◌then◌else◌, IsTrue, List, [], ◌∷◌, Option, Some, None, Result, Ok, Err, codes, map}
 use Rattle.std.specs.List.{flat_map, list_all}
 use Rattle.std.specs.declared.io.ErrorKind.{ErrorKind}
 use Rattle.json.specs.Json.{Json}
@@ -8,11 +8,11 @@ use Rattle.cc_base.specs.declared.error.Error.TheVariants.{Write}
 use Rattle.cc_base.specs.declared.failures.Failures.{Failures}
 use Rattle.cc_command.specs.Tree.{Tree}
 use Rattle.complgen_lints.specs.Places.{key_text}
-use Rattle.complgen_lints.specs.Texts.{level_of, warning_text}
+use Rattle.complgen_lints.specs.Notes.{is_note as is_note_kind}
+use Rattle.complgen_lints.specs.Texts.{warning_text}
 use Rattle.complgen_lints.specs.declared.place.Key.{Key}
 use Rattle.complgen_lints.specs.declared.place.Place.{Place}
-use Rattle.complgen_lints.specs.declared.warning.Level.{Level as WarningLevel}
-use Rattle.complgen_lints.specs.declared.warning.Level.TheVariants as warning_level
+use Rattle.complgen_lints.specs.declared.warning.Kind.{Kind}
 use Rattle.complgen_lints.specs.declared.warning.Warning.{Warning}
 use Rattle.cc_shell.specs.Shells.{shell_spec}
 use Rattle.cc_shell.specs.declared.shell.Shell.{Shell}
@@ -36,10 +36,9 @@ use Rattle.complgen_check.specs.declared.report.Report.{Report}
 
 -- ---- what is shown of a warning
 
--- the level of a finding for the level of a warning
-abbrev pub finding_level : WarningLevel → Level
-finding_level warning_level.Warning = level.Warning
-finding_level warning_level.Note = level.Note
+-- the level of a warning of this kind
+abbrev pub level_of : Kind → Level
+level_of kind = if is_note_kind kind then level.Note else level.Warning
 
 -- the steps from the whole file to the command at a path
 abbrev pub command_steps : List ℕ → List ShownStep
@@ -66,7 +65,7 @@ place_steps place = ((command_steps place.command ++ argument_steps place.argume
 -- what is shown of a warning
 abbrev pub shown_warning : Warning → Shown
 shown_warning warning = record {
-  level = finding_level (level_of warning.kind);
+  level = level_of warning.kind;
   path = path_text (place_steps warning.place);
   text = on_one_line (warning_text warning);
 }

@@ -5,8 +5,8 @@ ghost use Rattle.std.specs.Option.{option_copied};
 ghost use Rattle.complgen_tree_errors.specs.Findings.{shown, shown_placed};
 ghost use Rattle.complgen_tree_errors.specs.Places.{index, key, shown_step};
 ghost use Rattle.complgen_check.specs.Checking.{AreSound, EndsCheck, Finds};
-ghost use Rattle.complgen_check.specs.Checking.{argument_steps, command_steps, finding_level};
-ghost use Rattle.complgen_check.specs.Checking.{is_note, item_steps, key_steps, only_notes};
+ghost use Rattle.complgen_check.specs.Checking.{argument_steps, command_steps, is_note};
+ghost use Rattle.complgen_check.specs.Checking.{item_steps, key_steps, level_of, only_notes};
 ghost use Rattle.complgen_check.specs.Checking.{place_steps, shown_warning};
 ghost use Rattle.complgen_check.specs.TreeWarnings.{warnings_of};
 
@@ -15,7 +15,7 @@ use crate::report::{Report, put_findings};
 use cc_base::{Sink, on_one_line};
 use cc_command::Command;
 use complgen_commands::{Refusal, UNREADABLE, error_refusal};
-use complgen_lints::{self as warnings, Key, Place, Warning};
+use complgen_lints::{Key, Place, Warning};
 use complgen_tree_errors::{
     Checked, Finding, Level, PlacedFinding, Scratch, Source, Step, check_file, place_findings,
 };
@@ -128,20 +128,20 @@ fn as_finding(alloc: Global, warning: &Warning) -> Result<Finding<'static>, Allo
     let text = warning.to_string(alloc)?;
     let text = on_one_line(alloc, text.as_str())?;
     Ok(Finding {
-        level: as_level(warning.level()),
+        level: level(warning),
         path,
         at_key: false,
         text,
     })
 }
 
-// Converts the level of a warning to the level of a finding.
-fn as_level(level: warnings::Level) -> Level
-    ensures { result ≡ finding_level level }
+fn level(warning: &Warning) -> Level
+    ensures { result ≡ level_of warning.now.kind }
 {
-    match level {
-        warnings::Level::Warning => Level::Warning,
-        warnings::Level::Note => Level::Note,
+    if warning.is_note() {
+        Level::Note
+    } else {
+        Level::Warning
     }
 }
 
