@@ -65,8 +65,8 @@ args[4].action: a positional must take a value
 args[3].index: there is no index 3: indexes go from 1 to 2 here
 args[2].id: an earlier argument has the id `to`
 args[1].conflicts_with[1]: no argument here has the id `no`
-0/args[0].visible_aliases[0]: the argument `to` also has the long `to`
 args[2].hide: scripts still offer a hidden argument; live completion hides it
+0/args[0].visible_aliases[0]: the argument `to` also has the long `to`
 ";
 
 #[test]

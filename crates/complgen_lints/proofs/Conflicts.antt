@@ -6,7 +6,7 @@ use Rattle.std.specs.Str.{bytes_eq}
 use Rattle.cc_arg.specs.declared.parts.ArgParts.{ArgParts as Arg}
 use Rattle.complgen_lints.specs.PlacedNames.{owner_in, owner_with}
 use Rattle.complgen_lints.specs.Scopes.{conflict_kind, conflict_list, conflicts_of, has_conflicts, have_conflicts, is_known, is_known_in}
-use Rattle.complgen_lints.specs.Walk.{each_from}
+use Rattle.complgen_lints.specs.Lists.{each_from}
 use Rattle.complgen_lints.specs.declared.names.PlacedName.{PlacedName}
 
 each_same : {A B : Type 0} (f g : ℕ → A → List B) → ((index : ℕ) (thing : A) → f index thing ≡ g index thing) →

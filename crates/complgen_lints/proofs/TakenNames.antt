@@ -14,7 +14,7 @@ use Rattle.complgen_lints.specs.Notes.{are_notes}
 use Rattle.complgen_lints.specs.Parts.{content_text, listed_text, listed_texts, text_part}
 use Rattle.complgen_lints.specs.PlacedNames.{named_part, owner_with, taken_by, taken_from}
 use Rattle.complgen_lints.specs.SiblingNames.{names_from, names_of, taken_names}
-use Rattle.complgen_lints.specs.Walk.{each_from}
+use Rattle.complgen_lints.specs.Lists.{each_from}
 use Rattle.complgen_lints.specs.declared.names.Named.TheVariants.{Child}
 use Rattle.complgen_lints.specs.declared.place.Key.{Key}
 use Rattle.complgen_lints.specs.declared.names.PlacedName.{PlacedName}

@@ -1,4 +1,5 @@
--- Nothing is found in names and descriptions exactly if the tree is plain, quiet and escaped.
+-- Nothing is found in the names and descriptions of a command exactly if it is plain, quiet and
+-- escaped.
 use Rattle.std.proofs.Common.{◌≡◌, ◌∙◌, ap, ap₂, refl, ℕ, suc, Bool, true, false, not, cond, ◌&&◌, List, [], ◌∷◌, ◌++◌, flat_map, Option, Some, None, is_none, unwrap_or}
 use Rattle.std.specs.Char.{is_ascii_alphanumeric}
 use Rattle.std.specs.List.{list_all}
@@ -9,18 +10,18 @@ use Rattle.cc_arg.specs.declared.possible_value.PossibleValue.{PossibleValue}
 use Rattle.cc_arg.specs.Arguments.{possible_values}
 use Rattle.cc_base.specs.PlainName.{is_plain_name}
 use Rattle.cc_command.specs.declared.node.Node.{Node}
-use Rattle.cc_command.specs.Escaped.{is_escaped_argument, is_escaped_forest, is_escaped_node, is_escaped_text, is_escaped_tree, unescaped_quote}
-use Rattle.cc_command.specs.Plain.{has_no_quote, is_plain_argument, is_plain_forest, is_plain_node, passes_if_some, siblings_differ}
-use Rattle.cc_command.specs.Quiet.{are_quiet_values, is_quiet_argument, is_quiet_forest, is_quiet_node, is_quiet_tree, is_quiet_value}
-use Rattle.cc_command.specs.Tree.{Forest, none, more, Tree}
+use Rattle.cc_command.specs.Escaped.{is_escaped_argument, is_escaped_node, is_escaped_text, unescaped_quote}
+use Rattle.cc_command.specs.Plain.{has_no_quote, is_plain_argument, is_plain_node, passes_if_some, siblings_differ}
+use Rattle.cc_command.specs.Quiet.{are_quiet_values, is_quiet_argument, is_quiet_node, is_quiet_value}
+use Rattle.cc_command.specs.Tree.{Tree}
 use Rattle.complgen_lints.specs.Findings.{some_finding}
 use Rattle.complgen_lints.specs.Notes.{are_notes, is_note}
 use Rattle.complgen_lints.specs.Parts.{label_parts, listed_short, listed_text, listed_shorts, listed_texts, long_parts, name_parts, short_parts, some_short, some_text, value_name}
-use Rattle.complgen_lints.specs.Premises.{names_list}
+use Rattle.complgen_lints.specs.CommandWarnings.{names_list}
 use Rattle.complgen_lints.specs.Running.{holds_one_of}
 use Rattle.complgen_lints.specs.SiblingNames.{taken_names}
 use Rattle.complgen_lints.specs.TextLints.{argument_list, argument_parts, begins_with_hyphen, command_parts, content_kind, ending_signs, is_label, is_long, part_kind, part_list, parts_list, plain_kind, quote_kind, text_kind, text_list, unless_kind, unplain_kind}
-use Rattle.complgen_lints.specs.Walk.{each_from, tree_list}
+use Rattle.complgen_lints.specs.Lists.{each_from}
 use Rattle.complgen_lints.specs.declared.found.Spot.{Spot}
 use Rattle.complgen_lints.specs.declared.found.Spot.TheVariants as spot
 use Rattle.complgen_lints.specs.declared.parts.Content.{Content}
@@ -32,7 +33,7 @@ use Rattle.complgen_lints.specs.declared.text_lints.TextLint.TheVariants as lint
 use Rattle.complgen_lints.specs.declared.warning.Kind.{Kind}
 use Rattle.complgen_lints.specs.declared.warning.Kind.TheVariants.{LongWithHyphen, NotPlain, Quote, ShortNotPlain, LoudValue, ZshSign}
 use Rattle.complgen_lints.proofs.TakenNames.{siblings_notes}
-use Rattle.complgen_lints.proofs.Walked.{all_pass, each_only, notes_append, tree_notes}
+use Rattle.complgen_lints.proofs.Walked.{each_only, notes_append}
 
 -- ---- no kind of a text or a short is a note
 
@@ -191,7 +192,7 @@ plain_argument index argument =
     (passes_if_some is_plain_name argument.long) (list_all is_plain_name argument.visible_aliases) (list_all is_plain_name argument.aliases)
 
 -- the tests of a command: its names are plain, and the names of its subcommands differ
-abbrev plain_test : Tree → Bool
+abbrev pub plain_test : Tree → Bool
 plain_test tree = is_plain_node tree.node && siblings_differ tree.children
 
 of_command : (a b c d e : Bool) → ((((a && b) && c) && d) && e) ≡ ((a && (b && (c && d))) && e)
@@ -199,7 +200,7 @@ of_command false b c d e = refl
 of_command true false c d e = refl
 of_command true true c d e = refl
 
-plain_command : (tree : Tree) → are_notes (names_list tree) ≡ plain_test tree
+pub plain_command : (tree : Tree) → are_notes (names_list tree) ≡ plain_test tree
 plain_command tree =
     let node = tree.node in
     let names = parts_list lint.Plain spot.Command (command_parts lint.Plain node) in
@@ -212,27 +213,6 @@ plain_command tree =
     (siblings_notes tree.children)
     ∙ of_command (is_plain_name node.name) (list_all is_plain_name node.visible_aliases) (list_all is_plain_name node.aliases)
     (list_all is_plain_argument node.arguments) (siblings_differ tree.children)
-
-row_of_three : (a b c : Bool) → ((a && b) && c) ≡ (a && (b && c))
-row_of_three true b c = refl
-row_of_three false b c = refl
-
-row_of_four : (a b c d : Bool) → (((a && b) && c) && d) ≡ (a && (b && (c && d)))
-row_of_four true b c d = row_of_three b c d
-row_of_four false b c d = refl
-
-forest_plain : (forest : Forest) → all_pass names_list plain_test plain_command forest ≡ is_plain_forest forest
-forest_plain none = refl
-forest_plain (more node below rest) =
-    row_of_four (is_plain_node node) (siblings_differ below) _ _
-    ∙ ap₂ (λ a b. is_plain_node node && (siblings_differ below && (a && b))) (forest_plain below) (forest_plain rest)
-
-pub plain_notes : (path : List ℕ) (tree : Tree) → are_notes (tree_list names_list path tree)
-    ≡ (is_plain_node tree.node && (siblings_differ tree.children && is_plain_forest tree.children))
-plain_notes path tree =
-    tree_notes names_list plain_test plain_command path tree
-    ∙ row_of_three (is_plain_node tree.node) (siblings_differ tree.children) _
-    ∙ ap (λ b. is_plain_node tree.node && (siblings_differ tree.children && b)) (forest_plain tree.children)
 
 -- ---- quiet values
 
@@ -254,23 +234,8 @@ quiet_argument index argument =
     parts_only lint.Quiet (spot.Argument index) (argument_parts lint.Quiet argument)
     ∙ some_values_pass (possible_values argument)
 
-abbrev quiet_test : Tree → Bool
-quiet_test tree = is_quiet_node tree.node
-
-quiet_command : (tree : Tree) → are_notes (text_list lint.Quiet tree) ≡ quiet_test tree
+pub quiet_command : (tree : Tree) → are_notes (text_list lint.Quiet tree) ≡ is_quiet_node tree.node
 quiet_command tree = each_only (argument_list lint.Quiet) is_quiet_argument quiet_argument 0 tree.node.arguments
-
-forest_quiet : (forest : Forest) → all_pass (text_list lint.Quiet) quiet_test quiet_command forest ≡ is_quiet_forest forest
-forest_quiet none = refl
-forest_quiet (more node below rest) =
-    row_of_three (is_quiet_node node) _ _
-    ∙ ap₂ (λ a b. is_quiet_node node && (a && b)) (forest_quiet below) (forest_quiet rest)
-
-pub quiet_notes : (path : List ℕ) (tree : Tree) →
-    are_notes (tree_list (text_list lint.Quiet) path tree) ≡ is_quiet_tree tree
-quiet_notes path tree =
-    tree_notes (text_list lint.Quiet) quiet_test quiet_command path tree
-    ∙ ap (λ b. is_quiet_node tree.node && b) (forest_quiet tree.children)
 
 -- ---- quotes
 
@@ -286,10 +251,7 @@ escaped_argument index argument =
     parts_only lint.Quotes (spot.Argument index) (some_text Key.Help None argument.help)
     ∙ some_text_passes lint.Quotes Key.Help is_escaped_text (quotes_same Key.Help) argument.help
 
-abbrev escaped_test : Tree → Bool
-escaped_test tree = is_escaped_node tree.node
-
-escaped_command : (tree : Tree) → are_notes (text_list lint.Quotes tree) ≡ escaped_test tree
+pub escaped_command : (tree : Tree) → are_notes (text_list lint.Quotes tree) ≡ is_escaped_node tree.node
 escaped_command tree =
     let about = some_text Key.About None tree.node.about in
     notes_append (parts_list lint.Quotes spot.Command about) (each_from (argument_list lint.Quotes) 0 tree.node.arguments)
@@ -297,15 +259,3 @@ escaped_command tree =
     (parts_only lint.Quotes spot.Command about
     ∙ some_text_passes lint.Quotes Key.About is_escaped_text (quotes_same Key.About) tree.node.about)
     (each_only (argument_list lint.Quotes) is_escaped_argument escaped_argument 0 tree.node.arguments)
-
-forest_escaped : (forest : Forest) → all_pass (text_list lint.Quotes) escaped_test escaped_command forest ≡ is_escaped_forest forest
-forest_escaped none = refl
-forest_escaped (more node below rest) =
-    row_of_three (is_escaped_node node) _ _
-    ∙ ap₂ (λ a b. is_escaped_node node && (a && b)) (forest_escaped below) (forest_escaped rest)
-
-pub quotes_notes : (path : List ℕ) (tree : Tree) →
-    are_notes (tree_list (text_list lint.Quotes) path tree) ≡ is_escaped_tree tree
-quotes_notes path tree =
-    tree_notes (text_list lint.Quotes) escaped_test escaped_command path tree
-    ∙ ap (λ b. is_escaped_node tree.node && b) (forest_escaped tree.children)

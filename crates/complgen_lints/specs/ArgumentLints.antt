@@ -8,7 +8,7 @@ use Rattle.cc_command.specs.declared.node.Node.{Node}
 use Rattle.cc_command.specs.Names.{has_id}
 use Rattle.cc_command.specs.Tree.{Tree}
 use Rattle.complgen_lints.specs.Findings.{finding}
-use Rattle.complgen_lints.specs.Walk.{each_from, when}
+use Rattle.complgen_lints.specs.Lists.{each_from, when}
 use Rattle.complgen_lints.specs.declared.argument_lints.AddedFlag.{AddedFlag}
 use Rattle.complgen_lints.specs.declared.argument_lints.AddedFlag.TheVariants as added
 use Rattle.complgen_lints.specs.declared.warning.Warning.{Warning}

@@ -4,7 +4,7 @@ use Rattle.cc_arg.specs.declared.parts.ArgParts.{ArgParts as Arg}
 use Rattle.cc_arg.specs.Arguments.{is_positional}
 use Rattle.complgen_lints.specs.Parts.{long_parts, short_parts, text_part}
 use Rattle.complgen_lints.specs.PlacedNames.{named_part, placed_name, taken_from}
-use Rattle.complgen_lints.specs.Walk.{each_from}
+use Rattle.complgen_lints.specs.Lists.{each_from}
 use Rattle.complgen_lints.specs.declared.warning.Warning.{Warning}
 use Rattle.complgen_lints.specs.declared.names.Named.{Named}
 use Rattle.complgen_lints.specs.declared.names.Named.TheVariants as named

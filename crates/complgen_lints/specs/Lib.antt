@@ -2,6 +2,7 @@ pub mod ArgumentLints
 pub mod ArgumentNames
 pub mod CommandWarnings
 pub mod Findings
+pub mod Lists
 pub mod Notes
 pub mod Parts
 pub mod PlacedNames
@@ -14,4 +15,3 @@ pub mod SiblingNames
 pub mod TextLints
 pub mod Texts
 pub mod ValueLints
-pub mod Walk

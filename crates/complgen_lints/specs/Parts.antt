@@ -4,7 +4,7 @@ use Rattle.cc_arg.specs.declared.parts.ArgParts.{ArgParts as Arg}
 use Rattle.cc_arg.specs.declared.possible_value.PossibleValue.{PossibleValue}
 use Rattle.cc_arg.specs.Arguments.{possible_values}
 use Rattle.cc_command.specs.declared.node.Node.{Node}
-use Rattle.complgen_lints.specs.Walk.{each_from}
+use Rattle.complgen_lints.specs.Lists.{each_from}
 use Rattle.complgen_lints.specs.declared.parts.Content.{Content}
 use Rattle.complgen_lints.specs.declared.parts.Content.TheVariants as content
 use Rattle.complgen_lints.specs.declared.parts.Part.{Part}

@@ -6,7 +6,7 @@ use Rattle.cc_command.specs.Built.{lacks_index, next_index}
 use Rattle.complgen_lints.specs.ArgumentNames.{all_names, index_name}
 use Rattle.complgen_lints.specs.Findings.{finding}
 use Rattle.complgen_lints.specs.PlacedNames.{taken_from}
-use Rattle.complgen_lints.specs.Walk.{each_from, when}
+use Rattle.complgen_lints.specs.Lists.{each_from, when}
 use Rattle.complgen_lints.specs.declared.warning.Warning.{Warning}
 use Rattle.complgen_lints.specs.declared.found.Spot.TheVariants.{Argument}
 use Rattle.complgen_lints.specs.declared.names.PlacedName.{PlacedName}

@@ -1,6 +1,6 @@
 -- Findings about the arguments of a command together with the global arguments of the commands above
 -- it: names that another one has, and unknown conflicts.
-use Rattle.std.specs.Prelude.{ℕ, suc, Bool, true, false, not, ◌||◌, List, [], ◌∷◌, ◌++◌, codes, filter, is_some, map, Option, Some, None}
+use Rattle.std.specs.Prelude.{ℕ, Bool, true, false, not, ◌||◌, List, [], ◌∷◌, ◌++◌, codes, filter, is_some, Option, Some, None}
 use Rattle.std.specs.Borrow.{Bor}
 use Rattle.std.specs.BTreeMap.{BTreeMap}
 use Rattle.std.specs.List.{list_any}
@@ -8,11 +8,10 @@ use Rattle.std.specs.Str.{bytes_eq}
 use Rattle.cc_arg.specs.declared.parts.ArgParts.{ArgParts as Arg}
 use Rattle.cc_command.specs.Built.{globals}
 use Rattle.cc_command.specs.Names.{has_id}
-use Rattle.cc_command.specs.Tree.{Forest, none, more, Tree}
 use Rattle.complgen_lints.specs.ArgumentNames.{all_names, taken_of}
 use Rattle.complgen_lints.specs.PlacedNames.{owner_in, owner_with}
-use Rattle.complgen_lints.specs.Findings.{placed, some_finding}
-use Rattle.complgen_lints.specs.Walk.{each_from}
+use Rattle.complgen_lints.specs.Findings.{some_finding}
+use Rattle.complgen_lints.specs.Lists.{each_from}
 use Rattle.complgen_lints.specs.declared.found.Spot.TheVariants.{Argument}
 use Rattle.complgen_lints.specs.declared.names.PlacedName.{PlacedName}
 use Rattle.complgen_lints.specs.declared.names.Named.TheVariants as named
@@ -72,22 +71,3 @@ together_list inherited arguments = ((taken_of named.Id [] arguments
     ++ taken_of named.Long inherited arguments)
     ++ taken_of named.Short inherited arguments)
     ++ all_conflicts inherited arguments
-
--- the warnings about the arguments of each sibling from this index on, which may inherit these
--- arguments, and about all below them
-abbrev pub scopes_list : List Arg → List ℕ → ℕ → Forest → List Warning
-scopes_list others path index none = []
-scopes_list others path index (more node below rest) =
-    (map (placed (path ++ index ∷ []))
-    (together_list (inherited_with node.arguments others) node.arguments)
-    ++ scopes_list (passed_on (inherited_with node.arguments others) node.arguments)
-    (path ++ index ∷ []) 0 below)
-    ++ scopes_list others path (suc index) rest
-
--- the same for one command
-abbrev pub scope_list : List Arg → List ℕ → Tree → List Warning
-scope_list others path tree =
-    map (placed path)
-    (together_list (inherited_with tree.node.arguments others) tree.node.arguments)
-    ++ scopes_list (passed_on (inherited_with tree.node.arguments others) tree.node.arguments)
-    path 0 tree.children

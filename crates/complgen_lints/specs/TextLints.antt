@@ -15,7 +15,7 @@ use Rattle.cc_command.specs.Tree.{Tree}
 use Rattle.complgen_lints.specs.Findings.{some_finding}
 use Rattle.complgen_lints.specs.Parts.{label_parts, listed_texts, long_parts, name_parts, short_parts, some_text, text_part, value_helps, value_names, values_of}
 use Rattle.complgen_lints.specs.Running.{holds_one_of}
-use Rattle.complgen_lints.specs.Walk.{each_from}
+use Rattle.complgen_lints.specs.Lists.{each_from}
 use Rattle.complgen_lints.specs.declared.warning.Warning.{Warning}
 use Rattle.complgen_lints.specs.declared.found.Spot.{Spot}
 use Rattle.complgen_lints.specs.declared.found.Spot.TheVariants as spot

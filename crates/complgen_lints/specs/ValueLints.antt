@@ -8,7 +8,7 @@ use Rattle.cc_arg.specs.declared.value_hint.ValueHint.TheVariants.{AnyPath, File
 use Rattle.cc_arg.specs.Arguments.{takes_values}
 use Rattle.cc_arg.specs.ValueSources.{slash}
 use Rattle.complgen_lints.specs.Findings.{finding}
-use Rattle.complgen_lints.specs.Walk.{when}
+use Rattle.complgen_lints.specs.Lists.{when}
 use Rattle.complgen_lints.specs.declared.warning.Warning.{Warning}
 use Rattle.complgen_lints.specs.declared.found.Spot.{Spot}
 use Rattle.complgen_lints.specs.declared.found.Spot.TheVariants.{Argument}

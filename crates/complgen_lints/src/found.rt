@@ -2,7 +2,7 @@
 
 ghost use Rattle.std.specs.Prelude.{◌≡◌, ◌∷◌, [], ◌++◌, IfOk, None, OnOk};
 ghost use Rattle.complgen_lints.specs.Findings.{finding, spot_argument, spot_path};
-ghost use Rattle.complgen_lints.specs.Walk.{when};
+ghost use Rattle.complgen_lints.specs.Lists.{when};
 
 use crate::place::{Key, Place};
 use crate::warning::{Kind, Warning};

@@ -8,7 +8,7 @@ ghost use Rattle.complgen_lints.specs.ArgumentNames.{all_names, index_name, name
 ghost use Rattle.complgen_lints.specs.Parts.{content_text};
 ghost use Rattle.complgen_lints.specs.PlacedNames.{named_part, owner_in, owner_with, placed_name};
 ghost use Rattle.complgen_lints.specs.PlacedNames.{spot_of, taken_by, taken_from, taken_kind};
-ghost use Rattle.complgen_lints.specs.Walk.{each_from};
+ghost use Rattle.complgen_lints.specs.Lists.{each_from};
 
 use crate::found::{Added, Found, Spot};
 use crate::parts::{Content, Part, push_long_parts, push_short_parts, push_text};

@@ -8,7 +8,7 @@ ghost use Rattle.complgen_lints.specs.PlacedNames.{taken_from};
 ghost use Rattle.complgen_lints.specs.PositionalLints.{count_positionals, counted_from};
 ghost use Rattle.complgen_lints.specs.PositionalLints.{counted_index, counted_with, is_outside};
 ghost use Rattle.complgen_lints.specs.PositionalLints.{outside_list, positional_list};
-ghost use Rattle.complgen_lints.specs.Walk.{each_from};
+ghost use Rattle.complgen_lints.specs.Lists.{each_from};
 ghost use Rattle.complgen_lints.specs.declared.names.Named.TheVariants as named;
 
 use crate::found::{Added, Found, Spot};

@@ -1,16 +1,13 @@
-//! Warns if a premise of the promises about scripts does not hold.
+//! Finds all warnings about a command, and warns of bin names that are not plain.
 
-ghost use Rattle.std.specs.Prelude.{◌≡◌, [], ◌++◌, IfOk, IsTrue, None, OnOk, Some};
+ghost use Rattle.std.specs.Prelude.{◌≡◌, [], ◌++◌, IfOk, IsTrue, OnOk};
 ghost use Rattle.std.specs.Option.{option_copied};
 ghost use Rattle.complgen_lints.specs.CommandWarnings.{command_list};
 ghost use Rattle.complgen_lints.specs.Notes.{are_notes};
-ghost use Rattle.complgen_lints.specs.Premises.{bin_kind, bin_list, holds_premises, premise_list};
+ghost use Rattle.complgen_lints.specs.Premises.{bin_kind, bin_list, holds_premises};
 
 use crate::found::Added;
-use crate::lints::Lint;
 use crate::place::{Key, Place};
-use crate::scopes::push_scope;
-use crate::text_lints::TextLint;
 use crate::walk::{At, push_tree};
 use crate::warning::{Kind, Warning};
 use cc_base::{Items, Text, is_plain_name};
@@ -18,15 +15,16 @@ use cc_command::Command;
 use std::alloc::{AllocError, Global};
 
 /// Returns the warnings and notes about `command`, which is called by the bin name `bin` if that is
-/// not `None`. They come in this order:
+/// not `None`. First come the warnings about bin names that are not plain. Then come the warnings
+/// about each command, before those about the commands below it, in this order:
 ///
-/// 1. names that are not plain, also the bin name `bin`; then possible values that are not quiet;
-///    then quotes that the PowerShell script does not escape;
-/// 2. names and help texts that end a text of the zsh script;
-/// 3. settings of the arguments of each command by itself that make a shell offer something wrong;
-/// 4. the same for the arguments of a command together with those that it inherits;
-/// 5. notes about hidden commands and arguments;
-/// 6. notes about commands that a tab runs, and warnings about sources of values.
+/// 1. names that are not plain, and names of subcommands that are taken;
+/// 2. possible values that are not quiet, quotes that the PowerShell script does not escape, and
+///    signs that end a text of the zsh script;
+/// 3. settings of arguments that make a shell offer something wrong, first by themselves, then
+///    together with the arguments that the command inherits;
+/// 4. notes about a hidden command and hidden arguments;
+/// 5. notes about commands that a tab runs, and warnings about sources of values.
 ///
 /// A label of the bash script that two commands share is not among them. If there are only notes,
 /// the command and the bin name are plain, possible values are quiet, and the PowerShell script
@@ -47,35 +45,10 @@ pub fn command_warnings(
         IsTrue (holds_premises (option_copied bin.entry) command.now)) }
 {
     let mut warnings = Vec::new(alloc);
-    push_premise_warnings(&mut warnings, alloc, bin, command)?;
-    push_tree(
-        &mut warnings,
-        Lint::Texts(TextLint::Zsh),
-        root(alloc),
-        command,
-    )?;
-    push_tree(&mut warnings, Lint::Settings, root(alloc), command)?;
-    push_scope(&mut warnings, root(alloc), &[], command)?;
-    push_tree(&mut warnings, Lint::Hidden, root(alloc), command)?;
-    push_tree(&mut warnings, Lint::Sources, root(alloc), command)?;
+    push_bin(&mut warnings, alloc, None, bin)?;
+    push_bin(&mut warnings, alloc, Some(Key::BinName), command.get_bin_name())?;
+    push_tree(&mut warnings, root(alloc), &[], command)?;
     Ok(warnings)
-}
-
-fn push_premise_warnings(
-    warnings: &mut Vec<Warning>,
-    alloc: Global,
-    bin: Option<&str>,
-    command: &Command,
-) -> Added
-    ensures { OnOk result (warnings.new.items
-        ≡ warnings.old.items ++ premise_list (option_copied bin.entry) command.now) }
-{
-    let root = root(alloc);
-    push_bin(warnings, alloc, None, bin)?;
-    push_bin(warnings, alloc, Some(Key::BinName), command.get_bin_name())?;
-    push_tree(warnings, Lint::Names, root, command)?;
-    push_tree(warnings, Lint::Texts(TextLint::Quiet), root, command)?;
-    push_tree(warnings, Lint::Texts(TextLint::Quotes), root, command)
 }
 
 fn root(alloc: Global) -> At<'static>

@@ -1,84 +1,34 @@
 //! Finds names that two arguments of a command have, also if it inherits one of them, and conflicts
 //! with ids that no argument has.
 
-ghost use Rattle.std.specs.Prelude.{◌≡◌, ◌++◌, [], IfOk, OnOk, map};
-ghost use Rattle.cc_command.specs.Tree.{forest_of};
+ghost use Rattle.std.specs.Prelude.{◌≡◌, ◌++◌, IfOk, OnOk, map};
 ghost use Rattle.complgen_lints.specs.ArgumentNames.{all_names, taken_of};
-ghost use Rattle.complgen_lints.specs.Findings.{placed};
 ghost use Rattle.complgen_lints.specs.Scopes.{all_conflicts, conflict_kind, conflict_list};
 ghost use Rattle.complgen_lints.specs.Scopes.{conflicts_of, has_conflicts, have_conflicts};
 ghost use Rattle.complgen_lints.specs.Scopes.{inherited_with, is_known_in, passed_on};
-ghost use Rattle.complgen_lints.specs.Scopes.{scope_list, scopes_list, together_list};
-ghost use Rattle.complgen_lints.specs.Walk.{each_from};
+ghost use Rattle.complgen_lints.specs.Scopes.{together_list};
+ghost use Rattle.complgen_lints.specs.Lists.{each_from};
 
 use crate::found::{Added, Found, Spot};
 use crate::names::{Named, PlacedName, push_all_names, push_names_of, push_taken, seen_of};
 use crate::place::Key;
-use crate::walk::{At, child_path, place_all};
-use crate::warning::{Kind, Warning};
+use crate::warning::Kind;
 use cc_arg::{Arg, conflicting_ids};
 use cc_base::{Text, TextRef};
 use cc_command::{Command, has_id};
 use std::alloc::{AllocError, Global};
 use std::collections::BTreeMap;
 
-/// Adds the warnings about the arguments of `command` together with those of `others` that it
-/// inherits, then the warnings about each subcommand.
-#[cycle(scopes)]
-pub(crate) fn push_scope<'a>(
-    warnings: &mut Vec<Warning>,
-    at: At<'_>,
-    others: &[&'a Arg],
-    command: &'a Command,
-) -> Added
-    ensures { OnOk result (warnings.new.items ≡ warnings.old.items
-        ++ scope_list (map (λ other. other.now) others.now) at.entry.path.now command.now) }
+/// Adds warnings about the arguments of `command` together with those that it inherits.
+pub(crate) fn push_scope(found: &mut Found, inherited: &[&Arg], command: &Command) -> Added
+    ensures { OnOk result (found.new ≡ found.old ++ together_list
+        (map (λ other. other.now) inherited.now) command.now.node.arguments) }
 {
-    let arguments = command.get_arguments();
-    let mut inherited = inherited_with(at.alloc, arguments, others)?;
-    place_together(warnings, at, &inherited, arguments)?;
-    push_globals(&mut inherited, arguments)?;
-    push_scopes(warnings, at, &inherited, command.get_subcommands())
+    push_together(found, inherited, command.get_arguments())
 }
 
-#[cycle(scopes)]
-fn push_scopes<'a>(
-    warnings: &mut Vec<Warning>,
-    at: At<'_>,
-    others: &[&'a Arg],
-    children: &'a [Command],
-) -> Added
-    ensures { OnOk result (warnings.new.items ≡ warnings.old.items
-        ++ scopes_list (map (λ other. other.now) others.now) at.entry.path.now 0
-        (forest_of children.now)) }
-{
-    for (index, child) in children.iter().enumerate() {
-        let path = child_path(at, index)?;
-        let below = At {
-            alloc: at.alloc,
-            path: path.as_slice(),
-        };
-        push_scope(warnings, below, others, child)?;
-    }
-    Ok(())
-}
-
-fn place_together(
-    warnings: &mut Vec<Warning>,
-    at: At<'_>,
-    inherited: &[&Arg],
-    arguments: &[Arg],
-) -> Added
-    ensures { OnOk result (warnings.new.items ≡ warnings.old.items ++ map (placed at.entry.path.now)
-        (together_list (map (λ other. other.now) inherited.now) arguments.now)) }
-{
-    let mut found = Found::new(at.alloc);
-    push_together(&mut found, inherited, arguments)?;
-    place_all(warnings, at, found)
-}
-
-// Returns `others` without those whose id one of `arguments` has.
-fn inherited_with<'a>(
+/// Returns `others` without those whose id one of `arguments` has.
+pub(crate) fn inherited_with<'a>(
     alloc: Global,
     arguments: &[Arg],
     others: &[&'a Arg],
@@ -96,8 +46,8 @@ fn inherited_with<'a>(
     Ok(kept)
 }
 
-// Adds the global ones among `arguments`.
-fn push_globals<'a>(inherited: &mut Vec<&'a Arg>, arguments: &'a [Arg]) -> Added
+/// Adds the global ones among `arguments`.
+pub(crate) fn push_globals<'a>(inherited: &mut Vec<&'a Arg>, arguments: &'a [Arg]) -> Added
     ensures { OnOk result (map (λ other. other.now) inherited.new.items
         ≡ passed_on (map (λ other. other.now) inherited.old.items) arguments.now) }
 {

@@ -6,7 +6,7 @@ ghost use Rattle.complgen_lints.specs.TextLints.{argument_list, argument_parts, 
 ghost use Rattle.complgen_lints.specs.TextLints.{command_parts, content_kind, ending_signs};
 ghost use Rattle.complgen_lints.specs.TextLints.{is_label, is_long, part_list, parts_list};
 ghost use Rattle.complgen_lints.specs.TextLints.{plain_kind, text_kind, text_list, zsh_parts};
-ghost use Rattle.complgen_lints.specs.Walk.{each_from};
+ghost use Rattle.complgen_lints.specs.Lists.{each_from};
 
 use crate::found::{Added, Found, Spot};
 use crate::parts::{

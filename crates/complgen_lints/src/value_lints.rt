@@ -7,7 +7,7 @@ ghost use Rattle.complgen_lints.specs.ValueLints.{command_list, ends_directories
 ghost use Rattle.complgen_lints.specs.ValueLints.{hint_list, hints_paths, is_called, last_byte};
 ghost use Rattle.complgen_lints.specs.ValueLints.{program_list, runs_code, shown_word, shown_words};
 ghost use Rattle.complgen_lints.specs.ValueLints.{source_list};
-ghost use Rattle.complgen_lints.specs.Walk.{each_from};
+ghost use Rattle.complgen_lints.specs.Lists.{each_from};
 
 use crate::found::{Added, Found, Spot};
 use crate::place::Key;

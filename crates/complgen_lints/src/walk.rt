@@ -2,13 +2,14 @@
 
 ghost use Rattle.std.specs.Prelude.{◌≡◌, ◌∷◌, [], ◌++◌, IfOk, OnOk, map};
 ghost use Rattle.cc_command.specs.Tree.{forest_of};
-ghost use Rattle.complgen_lints.specs.CommandWarnings.{lint_list};
+ghost use Rattle.complgen_lints.specs.CommandWarnings.{findings_of, forest_list, tree_list};
 ghost use Rattle.complgen_lints.specs.Findings.{placed};
-ghost use Rattle.complgen_lints.specs.Walk.{forest_list, tree_list};
 
 use crate::found::{Added, Found};
-use crate::lints::{Lint, push_lint};
+use crate::lints::push_findings;
+use crate::scopes::{inherited_with, push_globals};
 use crate::warning::Warning;
+use cc_arg::Arg;
 use cc_base::Items;
 use cc_command::Command;
 use std::alloc::{AllocError, Global};
@@ -21,41 +22,63 @@ pub(crate) struct At<'a> {
     pub(crate) path: &'a [usize],
 }
 
-/// Adds what `lint` finds in `command`, then in each subcommand and all below it.
+/// Adds the warnings about `command`, which inherits those of `others` whose ids it lacks, then the
+/// warnings about each subcommand and all below it.
 #[cycle(walk)]
-pub(crate) fn push_tree(
+pub(crate) fn push_tree<'a>(
     warnings: &mut Vec<Warning>,
-    lint: Lint,
     at: At<'_>,
-    command: &Command,
+    others: &[&'a Arg],
+    command: &'a Command,
 ) -> Added
-    ensures { OnOk result (warnings.new.items
-        ≡ warnings.old.items ++ tree_list (lint_list lint) at.entry.path.now command.now) }
+    ensures { OnOk result (warnings.new.items ≡ warnings.old.items
+        ++ tree_list (map (λ other. other.now) others.now) at.entry.path.now command.now) }
 {
-    let mut found = Found::new(at.alloc);
-    push_lint(&mut found, lint, command)?;
-    place_all(warnings, at, found)?;
-    push_children(warnings, lint, at, command.get_subcommands())
+    let arguments = command.get_arguments();
+    let mut inherited = inherited_with(at.alloc, arguments, others)?;
+    place_findings(warnings, at, &inherited, command)?;
+    push_globals(&mut inherited, arguments)?;
+    push_children(warnings, at, &inherited, command.get_subcommands())
 }
 
 #[cycle(walk)]
-fn push_children(warnings: &mut Vec<Warning>, lint: Lint, at: At<'_>, children: &[Command]) -> Added
+fn push_children<'a>(
+    warnings: &mut Vec<Warning>,
+    at: At<'_>,
+    others: &[&'a Arg],
+    children: &'a [Command],
+) -> Added
     ensures { OnOk result (warnings.new.items ≡ warnings.old.items
-        ++ forest_list (lint_list lint) at.entry.path.now 0 (forest_of children.now)) }
+        ++ forest_list (map (λ other. other.now) others.now) at.entry.path.now 0
+        (forest_of children.now)) }
 {
     for (index, child) in children.iter().enumerate() {
-        let path = child_path(at, index)?;
+        let path = path_below(at, &[index])?;
         let below = At {
             alloc: at.alloc,
             path: path.as_slice(),
         };
-        push_tree(warnings, lint, below, child)?;
+        push_tree(warnings, below, others, child)?;
     }
     Ok(())
 }
 
-/// Adds the warnings about the command at `at`, with their places in the tree.
-pub(crate) fn place_all(warnings: &mut Vec<Warning>, at: At<'_>, found: Found) -> Added
+fn place_findings(
+    warnings: &mut Vec<Warning>,
+    at: At<'_>,
+    inherited: &[&Arg],
+    command: &Command,
+) -> Added
+    ensures { OnOk result (warnings.new.items ≡ warnings.old.items ++ map (placed at.entry.path.now)
+        (findings_of (map (λ other. other.now) inherited.now) command.now)) }
+{
+    let mut found = Found::new(at.alloc);
+    push_findings(&mut found, inherited, command)?;
+    place_all(warnings, at, found)
+}
+
+// Adds the warnings about the command at `at`, with their places in the tree.
+fn place_all(warnings: &mut Vec<Warning>, at: At<'_>, found: Found) -> Added
     ensures { OnOk result (warnings.new.items
         ≡ warnings.old.items ++ map (placed at.entry.path.now) found) }
 {
@@ -71,13 +94,6 @@ fn placed(at: At<'_>, mut warning: Warning) -> Result<Warning, AllocError>
     let path = path_below(at, warning.place.command.as_slice())?;
     warning.place.command = Items::from(path);
     Ok(warning)
-}
-
-/// Returns the path of the subcommand at `index`.
-pub(crate) fn child_path(at: At<'_>, index: usize) -> Result<Vec<usize>, AllocError>
-    ensures { IfOk result (λ path. path.items ≡ at.entry.path.now ++ index ∷ []) }
-{
-    path_below(at, &[index])
 }
 
 // Returns the path of the command to which the steps `below` lead from the one at `at`.

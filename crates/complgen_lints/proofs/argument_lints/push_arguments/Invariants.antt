@@ -1,6 +1,6 @@
 use Rattle.std.proofs.Common.{◌≡◌, ◌++◌, drop}
 use Rattle.complgen_lints.specs.ArgumentLints.{argument_list}
-use Rattle.complgen_lints.specs.Walk.{each_from}
+use Rattle.complgen_lints.specs.Lists.{each_from}
 use Rattle.complgen_lints.proofs.argument_lints.push_arguments.Given as goal
 
 -- the items so far and the remaining ones make the whole

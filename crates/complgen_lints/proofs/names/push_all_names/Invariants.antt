@@ -1,6 +1,6 @@
 use Rattle.std.proofs.Common.{◌≡◌, ◌++◌, drop}
 use Rattle.complgen_lints.specs.ArgumentNames.{names_of}
-use Rattle.complgen_lints.specs.Walk.{each_from}
+use Rattle.complgen_lints.specs.Lists.{each_from}
 use Rattle.complgen_lints.proofs.names.push_all_names.Given as goal
 
 -- the names so far and the remaining ones make the whole

@@ -1,7 +1,7 @@
 use Rattle.std.proofs.Common.{◌≡◌, ◌++◌, drop}
 use Rattle.cc_arg.specs.Arguments.{is_positional}
 use Rattle.complgen_lints.specs.PositionalLints.{outside_list}
-use Rattle.complgen_lints.specs.Walk.{each_from}
+use Rattle.complgen_lints.specs.Lists.{each_from}
 use Rattle.complgen_lints.proofs.positionals.push_outside.Given as goal
 
 -- the findings so far and the remaining ones make the whole

@@ -4,7 +4,7 @@ use Rattle.cc_arg.specs.Arguments.{is_positional}
 use Rattle.complgen_lints.specs.ArgumentNames.{all_names}
 use Rattle.complgen_lints.specs.PlacedNames.{taken_from}
 use Rattle.complgen_lints.specs.PositionalLints.{counted_from, counted_list, outside_list}
-use Rattle.complgen_lints.specs.Walk.{each_from}
+use Rattle.complgen_lints.specs.Lists.{each_from}
 use Rattle.complgen_lints.specs.declared.names.Named.TheVariants as named
 use Rattle.complgen_lints.proofs.Joined.{two_added}
 use Rattle.complgen_lints.proofs.positionals.push_positionals.Goals as goal

@@ -2,7 +2,7 @@ use Rattle.std.proofs.Common.{◌≡◌, ◌++◌, ◌∙◌, ap, map, rules}
 use Rattle.std.proofs.lemmas.Result.{on_ok_weaker}
 use Rattle.complgen_lints.specs.ArgumentNames.{all_names}
 use Rattle.complgen_lints.specs.Scopes.{conflicts_of, is_known}
-use Rattle.complgen_lints.specs.Walk.{each_from}
+use Rattle.complgen_lints.specs.Lists.{each_from}
 use Rattle.complgen_lints.specs.declared.names.Named.{Named}
 use Rattle.complgen_lints.proofs.Conflicts.{same_conflicts}
 use Rattle.complgen_lints.proofs.scopes.push_all_conflicts.Goals as goal

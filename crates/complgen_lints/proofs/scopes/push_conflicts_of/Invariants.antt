@@ -1,6 +1,6 @@
 use Rattle.std.proofs.Common.{◌≡◌, ◌++◌, drop}
 use Rattle.complgen_lints.specs.Scopes.{conflict_kind, conflict_list, is_known_in}
-use Rattle.complgen_lints.specs.Walk.{each_from}
+use Rattle.complgen_lints.specs.Lists.{each_from}
 use Rattle.complgen_lints.proofs.scopes.push_conflicts_of.Given as goal
 
 -- the findings so far and the remaining ones make the whole
