@@ -7,7 +7,7 @@ use Rattle.cc_command.specs.Escaped.{is_escaped_forest, is_escaped_node, is_esca
 use Rattle.cc_command.specs.Plain.{is_plain_forest, is_plain_node, is_plain_tree, passes_if_some, siblings_differ}
 use Rattle.cc_command.specs.Quiet.{is_quiet_forest, is_quiet_node, is_quiet_tree}
 use Rattle.cc_command.specs.Tree.{Forest, none, more, Tree}
-use Rattle.complgen_lints.specs.CommandWarnings.{command_list, findings_of, forest_list, hidden_list, names_list, settings_list, sources_list, texts_list, tree_list}
+use Rattle.complgen_lints.specs.CommandWarnings.{command_list, findings_of, forest_list, hidden_list, names_list, settings_list, sources_list, texts_list}
 use Rattle.complgen_lints.specs.Findings.{placed}
 use Rattle.complgen_lints.specs.Notes.{are_notes, is_note}
 use Rattle.complgen_lints.specs.Premises.{bin_kind, bin_list, holds_premises}

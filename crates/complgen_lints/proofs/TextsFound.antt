@@ -1,6 +1,6 @@
 -- Nothing is found in the names and descriptions of a command exactly if it is plain, quiet and
 -- escaped.
-use Rattle.std.proofs.Common.{◌≡◌, ◌∙◌, ap, ap₂, refl, ℕ, suc, Bool, true, false, not, cond, ◌&&◌, List, [], ◌∷◌, ◌++◌, flat_map, Option, Some, None, is_none, unwrap_or}
+use Rattle.std.proofs.Common.{◌≡◌, ◌∙◌, ap, ap₂, refl, ℕ, suc, Bool, true, false, not, cond, ◌&&◌, List, [], ◌∷◌, ◌++◌, Option, Some, None, is_none, unwrap_or}
 use Rattle.std.specs.Char.{is_ascii_alphanumeric}
 use Rattle.std.specs.List.{list_all}
 use Rattle.std.proofs.Math.Bool.{and-true}
@@ -20,7 +20,7 @@ use Rattle.complgen_lints.specs.Parts.{label_parts, listed_short, listed_text, l
 use Rattle.complgen_lints.specs.CommandWarnings.{names_list}
 use Rattle.complgen_lints.specs.Running.{holds_one_of}
 use Rattle.complgen_lints.specs.SiblingNames.{taken_names}
-use Rattle.complgen_lints.specs.TextLints.{argument_list, argument_parts, begins_with_hyphen, command_parts, content_kind, ending_signs, is_label, is_long, part_kind, part_list, parts_list, plain_kind, quote_kind, text_kind, text_list, unless_kind, unplain_kind}
+use Rattle.complgen_lints.specs.TextLints.{argument_list, argument_parts, begins_with_hyphen, command_parts, content_kind, ending_signs, is_label, is_long, part_kind, part_list, parts_list, quote_kind, text_kind, text_list, unless_kind, unplain_kind}
 use Rattle.complgen_lints.specs.Lists.{each_from}
 use Rattle.complgen_lints.specs.declared.found.Spot.{Spot}
 use Rattle.complgen_lints.specs.declared.found.Spot.TheVariants as spot

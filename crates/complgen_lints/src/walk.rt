@@ -1,6 +1,6 @@
 //! Walks over a tree, and collects the warnings about each command with their places in the tree.
 
-ghost use Rattle.std.specs.Prelude.{◌≡◌, ◌∷◌, [], ◌++◌, IfOk, OnOk, map};
+ghost use Rattle.std.specs.Prelude.{◌≡◌, ◌++◌, IfOk, OnOk, map};
 ghost use Rattle.cc_command.specs.Tree.{forest_of};
 ghost use Rattle.complgen_lints.specs.CommandWarnings.{findings_of, forest_list, tree_list};
 ghost use Rattle.complgen_lints.specs.Findings.{placed};
