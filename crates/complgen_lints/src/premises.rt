@@ -46,7 +46,12 @@ pub fn command_warnings(
 {
     let mut warnings = Vec::new(alloc);
     push_bin(&mut warnings, alloc, None, bin)?;
-    push_bin(&mut warnings, alloc, Some(Key::BinName), command.get_bin_name())?;
+    push_bin(
+        &mut warnings,
+        alloc,
+        Some(Key::BinName),
+        command.get_bin_name(),
+    )?;
     push_tree(&mut warnings, root(alloc), &[], command)?;
     Ok(warnings)
 }

@@ -57,8 +57,8 @@ pub enum Kind {
     /// An id in a list of conflicts that no argument has: zsh still offers the argument that is
     /// meant.
     UnknownConflict(Text),
-    /// A positional that takes no value: zsh and live completion offer values in its place, and no
-    /// shell offers a flag.
+    /// A positional that takes no value: zsh offers files or values for it, and no shell offers a
+    /// flag.
     PositionalWithoutValue,
     /// An index that is 0, or greater than the number of positionals: the index, and that number.
     /// Live completion offers the values at the wrong word, or never.
