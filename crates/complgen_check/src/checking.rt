@@ -16,9 +16,7 @@ use cc_base::{Sink, on_one_line};
 use cc_command::Command;
 use complgen_commands::{Refusal, UNREADABLE, error_refusal};
 use complgen_lints::{Key, Place, Warning};
-use complgen_tree_errors::{
-    Checked, Finding, Level, Scratch, Source, Step, check_file,
-};
+use complgen_tree_errors::{Checked, Finding, Level, Scratch, Source, Step, check_file};
 use std::alloc::{AllocError, Global};
 
 /// Prints the errors in a tree file, or if there are none, the warnings and notes about the command
@@ -74,11 +72,7 @@ fn is_note(finding: &Finding) -> bool
 
 // Returns the errors in a file; or if there are none, warnings about duplicate keys, then the
 // warnings and notes about the command.
-fn findings(
-    alloc: Global,
-    bin: Option<&str>,
-    bytes: &[u8],
-) -> Result<Vec<Finding>, AllocError>
+fn findings(alloc: Global, bin: Option<&str>, bytes: &[u8]) -> Result<Vec<Finding>, AllocError>
     ensures { IfOk result (λ found. Finds (option_copied bin.entry) bytes.now found.items) }
 {
     let mut scratch = Scratch::new(alloc);
@@ -122,11 +116,7 @@ fn push_warnings(
     Ok(())
 }
 
-fn finding(
-    alloc: Global,
-    source: &mut Source<'_>,
-    warning: &Warning,
-) -> Result<Finding, AllocError>
+fn finding(alloc: Global, source: &mut Source<'_>, warning: &Warning) -> Result<Finding, AllocError>
     ensures { IfOk result (λ found. shown found ≡ shown_warning warning.now) }
 {
     let path = steps(alloc, &warning.place)?;
