@@ -7,7 +7,7 @@ use Rattle.cc_base.specs.declared.failures.Failures.{Failures}
 use Rattle.complgen_commands.specs.declared.refusals.Refusal.{Refusal}
 use Rattle.complgen_commands.specs.Refusals.{IsRefusal}
 use Rattle.complgen_commands.specs.Refusals.{Reports, unreadable_line}
-use Rattle.complgen_tree_errors.specs.declared.finding.PlacedFinding.{PlacedFinding}
+use Rattle.complgen_tree_errors.specs.declared.finding.Finding.{Finding}
 use Rattle.complgen_check.specs.Checking.{EndsCheck, Finds, only_notes, out_of_memory, printed}
 use Rattle.complgen_check.specs.Checking.{unreadable, write_failed}
 use Rattle.complgen_check.specs.Report.{report_text}
@@ -26,7 +26,7 @@ not_printed taken failed bin report bytes old new error refusal is reported coun
 
 -- all findings are printed, and the result is whether they are notes
 pub all_printed : {S : Type 0} (taken : S → List ℕ) (failed : S → Failures) (bin : Option (List ℕ))
-    (report : Report) (bytes : List ℕ) (old new : S) (found : List PlacedFinding) (told : Bool)
+    (report : Report) (bytes : List ℕ) (old new : S) (found : List Finding) (told : Bool)
     → Finds bin bytes found → told ≡ only_notes found
     → taken new ≡ taken old ++ report_text report bytes found → failed new ≡ failed old
     → EndsCheck taken failed bin report old new (Some bytes) (Ok told)

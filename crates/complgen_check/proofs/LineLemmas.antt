@@ -1,7 +1,7 @@
 -- The parts of a line that is printed.
 use Rattle.std.proofs.Common.{◌≡◌, ◌∙◌, ◌++◌, ℕ, List, append_assoc, codes, decimal, string_bytes, sym, take}
 use Rattle.complgen_tree_errors.specs.Places.{column_after, line_after}
-use Rattle.complgen_tree_errors.specs.declared.finding.PlacedFinding.{PlacedFinding}
+use Rattle.complgen_tree_errors.specs.declared.finding.Finding.{Finding}
 use Rattle.complgen_check.specs.Lines.{finding_line, level_text, place_text}
 
 regrouped : (a b c d e f g h : List ℕ) → a ++ b ++ c ++ d ++ e ++ f ++ g ++ h
@@ -16,7 +16,7 @@ place_parts text line column before is first second =
     is ∙ sym (append_assoc (decimal line) (codes ":") (decimal column)) in
     cc
 
-pub line_parts : (line place level path text bytes : List ℕ) (finding : PlacedFinding)
+pub line_parts : (line place level path text bytes : List ℕ) (finding : Finding)
     → line ≡ place ++ (codes ": " ++ (level ++ (codes ": " ++ (path ++ (codes ": "
     ++ (text ++ codes "\n"))))))
     → place ≡ place_text (take finding.offset bytes) → level ≡ level_text finding.level

@@ -20,10 +20,10 @@ use Rattle.cc_tables.proofs.ElvishPlain.{elvish_plain_reads}
 use Rattle.cc_tables.proofs.NushellPlain.{nushell_plain_reads}
 use Rattle.cc_tables.proofs.PowershellFreeScripts.{powershell_plain_reads}
 use Rattle.complgen_tree_errors.specs.Checks.{hidden_list}
-use Rattle.complgen_tree_errors.specs.Findings.{AreErrors, IsError, Shown, shown_placed}
+use Rattle.complgen_tree_errors.specs.Findings.{AreErrors, IsError, Shown, shown}
 use Rattle.complgen_tree_errors.specs.declared.finding.Level.{Level}
 use Rattle.complgen_tree_errors.specs.declared.finding.Level.TheVariants.{Error, Note, Warning as Warns}
-use Rattle.complgen_tree_errors.specs.declared.finding.PlacedFinding.{PlacedFinding}
+use Rattle.complgen_tree_errors.specs.declared.finding.Finding.{Finding}
 use Rattle.complgen_tree_file.specs.Faults.{is_nil}
 use Rattle.complgen_check.proofs.NoWarnings.{premises_hold}
 use Rattle.complgen_check.specs.Promises.{HoldPremises}
@@ -66,11 +66,11 @@ scripts_safe bin tree holds shell = record {
 -- ---- findings that are notes
 
 -- no error is a note
-no_notes : (found : List PlacedFinding) → AreErrors found → IsTrue (only_notes found) → ⊥
+no_notes : (found : List Finding) → AreErrors found → IsTrue (only_notes found) → ⊥
 no_notes [] are clean = let none : true ≡ false = are.some in cc
 no_notes (finding ∷ more) are clean =
     let first = (and_parts (is_note finding.level) (only_notes more) clean).0 in
-    let error = All-head IsError (shown_placed finding) (map shown_placed more) are.each in
+    let error = All-head IsError (shown finding) (map shown more) are.each in
     let is : finding.level ≡ Error = error.level in
     let noted : false ≡ true = subst (λ (level : Level). IsTrue (is_note level)) is first in
     cc
@@ -82,9 +82,9 @@ noted false = refl
 
 -- whether everything shown is a note
 notes_shown : List Shown → Bool
-notes_shown = list_all (λ shown. is_note shown.level)
+notes_shown = list_all (λ said. is_note said.level)
 
-placed_notes : (found : List PlacedFinding) → notes_shown (map shown_placed found) ≡ only_notes found
+placed_notes : (found : List Finding) → notes_shown (map shown found) ≡ only_notes found
 unfolding notes_shown
 placed_notes [] = refl
 placed_notes (finding ∷ more) = ap (λ notes. is_note finding.level && notes) (placed_notes more)
@@ -101,19 +101,19 @@ last_notes : (first last : List Shown) → IsTrue (notes_shown (first ++ last))
     → IsTrue (notes_shown last)
 unfolding notes_shown
 last_notes [] last clean = clean
-last_notes (shown ∷ more) last clean =
-    last_notes more last (and_parts (is_note shown.level) (notes_shown (more ++ last)) clean).1
+last_notes (said ∷ more) last clean =
+    last_notes more last (and_parts (is_note said.level) (notes_shown (more ++ last)) clean).1
 
 -- ---- the whole
 
-warned : (hidden : List Shown) (warnings : List Warning) (found : List PlacedFinding)
-    → map shown_placed found ≡ hidden ++ map shown_warning warnings → IsTrue (only_notes found)
+warned : (hidden : List Shown) (warnings : List Warning) (found : List Finding)
+    → map shown found ≡ hidden ++ map shown_warning warnings → IsTrue (only_notes found)
     → IsTrue (are_notes warnings)
 warned hidden warnings found is clean =
     let all = subst IsTrue (sym (placed_notes found) ∙ ap notes_shown is) clean in
     subst IsTrue (warned_notes warnings) (last_notes hidden (map shown_warning warnings) all)
 
-pub sound : (bin : Option (List ℕ)) (bytes : List ℕ) (found : List PlacedFinding)
+pub sound : (bin : Option (List ℕ)) (bytes : List ℕ) (found : List Finding)
     → Finds bin bytes found → IsTrue (only_notes found) → AreSound bin (Some bytes)
 sound bin bytes found (errors none are) clean = absurd (no_notes found are clean)
 sound bin bytes found (described tree j describes spells is) clean =

@@ -19,11 +19,11 @@ use Rattle.cc_shell.specs.declared.shell.Shell.{Shell}
 use Rattle.cc_base.specs.Shown.{on_one_line}
 use Rattle.complgen_json.specs.Reads.{SpellsJson}
 use Rattle.complgen_tree_errors.specs.Checks.{DescribesNone, hidden_list}
-use Rattle.complgen_tree_errors.specs.Findings.{AreErrors, Shown, shown_placed}
-use Rattle.complgen_tree_errors.specs.Places.{ShownStep, index, key, path_text}
+use Rattle.complgen_tree_errors.specs.Findings.{AreErrors, Shown, says, shown}
+use Rattle.complgen_tree_errors.specs.Places.{ShownStep, index, key}
 use Rattle.complgen_tree_errors.specs.declared.finding.Level.{Level}
 use Rattle.complgen_tree_errors.specs.declared.finding.Level.TheVariants as level
-use Rattle.complgen_tree_errors.specs.declared.finding.PlacedFinding.{PlacedFinding}
+use Rattle.complgen_tree_errors.specs.declared.finding.Finding.{Finding}
 use Rattle.complgen_tree_file.specs.TreeFile.{Describes}
 use Rattle.complgen_check.specs.Promises.{HoldPremises}
 use Rattle.complgen_check.specs.TreeWarnings.{built_as, warnings_of}
@@ -64,22 +64,19 @@ place_steps place = ((command_steps place.command ++ argument_steps place.argume
 
 -- what is shown of a warning
 abbrev pub shown_warning : Warning → Shown
-shown_warning warning = record {
-  level = level_of warning.kind;
-  path = path_text (place_steps warning.place);
-  text = on_one_line (warning_text warning);
-}
+shown_warning warning =
+    says (level_of warning.kind) (place_steps warning.place) (on_one_line (warning_text warning))
 
 -- ---- what is found
 
 -- The findings of a check of the bytes of a tree file.
-pub data Finds (bin : Option (List ℕ)) (bytes : List ℕ) (found : List PlacedFinding) : Type 0 where
+pub data Finds (bin : Option (List ℕ)) (bytes : List ℕ) (found : List Finding) : Type 0 where
   -- errors, at least one: the bytes describe no command
   errors : DescribesNone bytes → AreErrors found → Finds bin bytes found
   -- the bytes describe a command: a warning for each duplicate key, then the warnings and notes
   -- about the command, and nothing else
   described : (tree : Tree) (j : Json) → Describes bytes (Some tree) → SpellsJson bytes j
-      → map shown_placed found ≡ hidden_list j ++ map shown_warning (warnings_of bin tree)
+      → map shown found ≡ hidden_list j ++ map shown_warning (warnings_of bin tree)
       → Finds bin bytes found
 
 -- whether a finding is neither an error nor a warning
@@ -88,7 +85,7 @@ is_note level.Note = true
 is_note _ = false
 
 -- whether nothing is found but notes
-abbrev pub only_notes : List PlacedFinding → Bool
+abbrev pub only_notes : List Finding → Bool
 only_notes found = list_all (λ finding. is_note finding.level) found
 
 -- ---- the outcomes of a check
@@ -108,7 +105,7 @@ pub data EndsCheck {S : Type 0} (taken : S → List ℕ) (failed : S → Failure
       → IsRefusal (error_line (Write kind)) refusal → failed new ≡ add_failure kind (failed old)
       → EndsCheck taken failed bin report old new (Some bytes) (Err refusal)
   -- each finding is printed, and the result is whether all are notes
-  printed : (bytes : List ℕ) (found : List PlacedFinding) → Finds bin bytes found
+  printed : (bytes : List ℕ) (found : List Finding) → Finds bin bytes found
       → taken new ≡ taken old ++ report_text report bytes found → failed new ≡ failed old
       → EndsCheck taken failed bin report old new (Some bytes) (Ok (only_notes found))
 

@@ -3,7 +3,7 @@ use Rattle.std.specs.Prelude.{ℕ, List, ◌++◌, codes, decimal, string_bytes,
 use Rattle.complgen_tree_errors.specs.Places.{column_after, line_after}
 use Rattle.complgen_tree_errors.specs.declared.finding.Level.{Level}
 use Rattle.complgen_tree_errors.specs.declared.finding.Level.TheVariants.{Error, Note, Warning}
-use Rattle.complgen_tree_errors.specs.declared.finding.PlacedFinding.{PlacedFinding}
+use Rattle.complgen_tree_errors.specs.declared.finding.Finding.{Finding}
 
 -- the name of a level
 abbrev pub level_text : Level → List ℕ
@@ -16,7 +16,7 @@ abbrev pub place_text : List ℕ → List ℕ
 place_text before = (decimal (line_after before) ++ codes ":") ++ decimal (column_after before)
 
 -- a finding in a file of these bytes as a line, `LINE:COLUMN: LEVEL: PATH: TEXT`
-abbrev pub finding_line : List ℕ → PlacedFinding → List ℕ
+abbrev pub finding_line : List ℕ → Finding → List ℕ
 finding_line bytes finding = place_text (take finding.offset bytes)
     ++ codes ": " ++ level_text finding.level
     ++ codes ": " ++ string_bytes finding.path

@@ -2,7 +2,7 @@
 
 ghost use Rattle.std.specs.Prelude.{◌≡◌, ◌++◌, [], ◌∷◌, IfOk, IsTrue, OnOk, map};
 ghost use Rattle.std.specs.Option.{option_copied};
-ghost use Rattle.complgen_tree_errors.specs.Findings.{shown, shown_placed};
+ghost use Rattle.complgen_tree_errors.specs.Findings.{shown};
 ghost use Rattle.complgen_tree_errors.specs.Places.{index, key, shown_step};
 ghost use Rattle.complgen_check.specs.Checking.{AreSound, EndsCheck, Finds};
 ghost use Rattle.complgen_check.specs.Checking.{argument_steps, command_steps, is_note};
@@ -16,9 +16,7 @@ use cc_base::{Sink, on_one_line};
 use cc_command::Command;
 use complgen_commands::{Refusal, UNREADABLE, error_refusal};
 use complgen_lints::{Key, Place, Warning};
-use complgen_tree_errors::{
-    Checked, Finding, Level, PlacedFinding, Scratch, Source, Step, check_file, place_findings,
-};
+use complgen_tree_errors::{Checked, Finding, Level, Scratch, Source, Step, check_file};
 use std::alloc::{AllocError, Global};
 
 /// Prints the errors in a tree file, or if there are none, the warnings and notes about the command
@@ -59,14 +57,14 @@ pub fn check<W: Sink>(
 }
 
 // Returns whether nothing is found but notes.
-fn only_notes(found: &[PlacedFinding]) -> bool
+fn only_notes(found: &[Finding]) -> bool
     ensures { result ≡ only_notes found.now }
 {
     found.iter().all(is_note)
 }
 
 // Returns whether a finding is neither an error nor a warning.
-fn is_note(finding: &PlacedFinding) -> bool
+fn is_note(finding: &Finding) -> bool
     ensures { result ≡ is_note finding.now.level }
 {
     matches!(finding.level, Level::Note)
@@ -74,65 +72,57 @@ fn is_note(finding: &PlacedFinding) -> bool
 
 // Returns the errors in a file; or if there are none, warnings about duplicate keys, then the
 // warnings and notes about the command.
-fn findings(
-    alloc: Global,
-    bin: Option<&str>,
-    bytes: &[u8],
-) -> Result<Vec<PlacedFinding>, AllocError>
+fn findings(alloc: Global, bin: Option<&str>, bytes: &[u8]) -> Result<Vec<Finding>, AllocError>
     ensures { IfOk result (λ found. Finds (option_copied bin.entry) bytes.now found.items) }
 {
     let mut scratch = Scratch::new(alloc);
     match check_file(alloc, bytes, &mut scratch)? {
         Checked::Errors(errors) => Ok(errors),
         Checked::Tree(command, doubles, source) => {
-            with_warnings(alloc, bin, &source, command, doubles)
+            with_warnings(alloc, bin, source, command, doubles)
         }
     }
 }
 
-// Adds the warnings and notes about a command to `findings`, and finds the places of all.
+// Adds the warnings and notes about a command to `findings`.
 fn with_warnings(
     alloc: Global,
     bin: Option<&str>,
-    source: &Source<'_>,
+    mut source: Source<'_>,
     mut command: Command,
-    mut findings: Vec<Finding<'_>>,
-) -> Result<Vec<PlacedFinding>, AllocError>
-    ensures { IfOk result (λ placed. map shown_placed placed.items
-        ≡ map shown findings.entry.items ++ map shown_warning (warnings_of (option_copied bin.entry)
+    mut findings: Vec<Finding>,
+) -> Result<Vec<Finding>, AllocError>
+    ensures { IfOk result (λ all. map shown all.items
+        ≡ map shown findings.items ++ map shown_warning (warnings_of (option_copied bin.entry)
         command)) }
 {
     let warnings = tree_warnings(alloc, bin, &mut command)?;
-    push_warnings(&mut findings, alloc, warnings.as_slice())?;
-    place_findings(alloc, source, findings)
+    push_warnings(&mut findings, alloc, &mut source, warnings.as_slice())?;
+    Ok(findings)
 }
 
 fn push_warnings(
-    findings: &mut Vec<Finding<'_>>,
+    findings: &mut Vec<Finding>,
     alloc: Global,
+    source: &mut Source<'_>,
     warnings: &[Warning],
 ) -> Result<(), AllocError>
     ensures { OnOk result (map shown findings.new.items
         ≡ map shown findings.old.items ++ map shown_warning warnings.now) }
 {
     for warning in warnings {
-        findings.push(as_finding(alloc, warning)?)?;
+        findings.push(finding(alloc, source, warning)?)?;
     }
     Ok(())
 }
 
-fn as_finding(alloc: Global, warning: &Warning) -> Result<Finding<'static>, AllocError>
-    ensures { IfOk result (λ finding. shown finding ≡ shown_warning warning.now) }
+fn finding(alloc: Global, source: &mut Source<'_>, warning: &Warning) -> Result<Finding, AllocError>
+    ensures { IfOk result (λ found. shown found ≡ shown_warning warning.now) }
 {
     let path = steps(alloc, &warning.place)?;
     let text = warning.to_string(alloc)?;
     let text = on_one_line(alloc, text.as_str())?;
-    Ok(Finding {
-        level: level(warning),
-        path,
-        at_key: false,
-        text,
-    })
+    source.finding(alloc, level(warning), path.as_slice(), false, text)
 }
 
 fn level(warning: &Warning) -> Level

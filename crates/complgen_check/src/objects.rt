@@ -8,7 +8,7 @@ ghost use Rattle.json.specs.Value.{value_view};
 ghost use Rattle.complgen_check.specs.Objects.{finding_json, finding_object, object_with};
 
 use crate::lines::level_text;
-use complgen_tree_errors::{Lines, PlacedFinding};
+use complgen_tree_errors::{Finding, Lines};
 use json::{Value, to_vec};
 use std::alloc::{AllocError, Global};
 
@@ -21,7 +21,7 @@ use std::alloc::{AllocError, Global};
 pub(crate) fn object(
     alloc: Global,
     lines: &Lines<'_>,
-    finding: &PlacedFinding,
+    finding: &Finding,
 ) -> Result<Vec<u8>, AllocError>
     ensures text { IfOk result (λ text. text.items ≡ finding_object lines.now finding.now) }
     ensures reads { IfOk result (λ text.
@@ -46,7 +46,7 @@ fn value<'f>(
     alloc: Global,
     line: &'f str,
     column: &'f str,
-    finding: &'f PlacedFinding,
+    finding: &'f Finding,
 ) -> Result<Value<'f>, AllocError>
     ensures { IfOk result (λ value. value_view value
         ≡ object_with line.now column.now finding.now) }

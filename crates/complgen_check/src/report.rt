@@ -6,7 +6,7 @@ ghost use Rattle.complgen_check.specs.Report.{finding_text, report_text};
 use crate::lines::line;
 use crate::objects::object;
 use cc_base::{Error, Sink, put_all, put_piece};
-use complgen_tree_errors::{Lines, PlacedFinding};
+use complgen_tree_errors::{Finding, Lines};
 use std::alloc::Global;
 
 /// The form in which findings are printed.
@@ -29,7 +29,7 @@ pub(crate) fn put_findings<W: Sink>(
     alloc: Global,
     report: Report,
     bytes: &[u8],
-    findings: &[PlacedFinding],
+    findings: &[Finding],
 ) -> Result<(), Error>
     ensures { Writes W.taken W.failed result out.old out.new
         (report_text report bytes.now findings.now) }
@@ -43,7 +43,7 @@ fn put_each<W: Sink>(
     alloc: Global,
     report: Report,
     lines: &Lines<'_>,
-    findings: &[PlacedFinding],
+    findings: &[Finding],
 ) -> Result<(), Error>
     ensures { Writes W.taken W.failed result out.old out.new
         (report_text report lines.now findings.now) }
@@ -59,7 +59,7 @@ fn put_finding<W: Sink>(
     alloc: Global,
     report: Report,
     lines: &Lines<'_>,
-    finding: &PlacedFinding,
+    finding: &Finding,
 ) -> Result<(), Error>
     ensures { Writes W.taken W.failed result out.old out.new
         (finding_text report lines.now finding.now) }
@@ -74,7 +74,7 @@ fn put_line<W: Sink>(
     out: &mut W,
     alloc: Global,
     lines: &Lines<'_>,
-    finding: &PlacedFinding,
+    finding: &Finding,
 ) -> Result<(), Error>
     ensures { Writes W.taken W.failed result out.old out.new
         (finding_text Report.Lines lines.now finding.now) }
@@ -88,7 +88,7 @@ fn put_object<W: Sink>(
     out: &mut W,
     alloc: Global,
     lines: &Lines<'_>,
-    finding: &PlacedFinding,
+    finding: &Finding,
 ) -> Result<(), Error>
     ensures { Writes W.taken W.failed result out.old out.new
         (finding_text Report.Json lines.now finding.now) }

@@ -1,6 +1,7 @@
 -- A check of a value is a check of the bytes that spell it.
-use Rattle.std.proofs.Common.{◌≡◌, ◌∙◌, ℕ, List, [], ◌∷◌, Some, None, ap, length, refl}
+use Rattle.std.proofs.Common.{◌≡◌, ◌∙◌, ℕ, List, [], ◌∷◌, Some, None, ap, length, refl, subst, sym}
 use Rattle.std.specs.Str.{IsUtf8}
+use Rattle.cc_base.specs.Shown.{HoldsNoControl}
 use Rattle.json.specs.Json.{Json}
 use Rattle.serde_json.specs.Data.{Data}
 use Rattle.serde_json.specs.Read.{read}
@@ -10,8 +11,11 @@ use Rattle.complgen_tree_file.specs.CommandForm.{command_of}
 use Rattle.complgen_tree_file.specs.Faults.{is_nil}
 use Rattle.complgen_tree_file.specs.TreeFile.{Spells}
 use Rattle.complgen_tree_errors.specs.Checks.{Checks, ChecksValue, DescribesNone}
+use Rattle.complgen_tree_errors.specs.Findings.{IsError, Shown, says}
+use Rattle.complgen_tree_errors.specs.Places.{ShownStep}
 use Rattle.complgen_tree_errors.specs.declared.checking.Checked.{Checked}
 use Rattle.complgen_tree_errors.specs.declared.checking.Checked.TheVariants.{Errors, Tree as Reads}
+use Rattle.complgen_tree_errors.specs.declared.finding.Level.TheVariants.{Error}
 
 pub nil_by_length : {A B : Type 0} (xs : List A) (ys : List B) → length xs ≡ length ys
     → is_nil xs ≡ is_nil ys
@@ -47,3 +51,8 @@ checks_bytes bytes j (Reads command doubles source) spelled json is =
     ((data_of j, spelled, is.0), record { json = j; spells = json; each = is.1 })
 checks_bytes bytes j (Errors errors) spelled json is =
     (is.0, no_command bytes (data_of j) spelled is.1)
+
+-- what says an error is one, if its text is on one line
+pub said_error : (error : Shown) (path : List ShownStep) (text : List ℕ) → error ≡ says Error path text
+    → HoldsNoControl text → IsError error
+said_error error path text is line = subst IsError (sym is) (record { level = refl; line = line })

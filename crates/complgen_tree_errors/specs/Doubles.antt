@@ -1,9 +1,15 @@
 -- Members of an object that a later member of the same key hides.
-use Rattle.std.specs.Prelude.{ℕ, ◌+◌, ◌++◌, ◌||◌, Bool, true, false, List, [], ◌∷◌}
+use Rattle.std.specs.Prelude.{ℕ, ◌+◌, ◌++◌, ◌||◌, Bool, true, false, List, [], ◌∷◌, Vec, map}
 use Rattle.std.specs.Str.{bytes_eq}
+use Rattle.std.specs.declared.alloc.Global.{Global}
 use Rattle.json.specs.Json.{Json, null, boolean, number, string, array, object}
 use Rattle.json.specs.Json.{Items, no_items, item, Members, no_members, member}
-use Rattle.complgen_tree_errors.specs.Places.{ShownStep, index, key}
+use Rattle.complgen_tree_errors.specs.Places.{ShownStep, index, key, shown_step}
+use Rattle.complgen_tree_file.specs.declared.faults.Step.{Step}
+
+-- paths as they are shown
+abbrev pub shown_paths : List (Vec Step Global) → List (List ShownStep)
+shown_paths paths = map (λ path. map shown_step path.items) paths
 
 -- whether a member has the key
 abbrev pub has_key : List ℕ → Members → Bool

@@ -1,12 +1,11 @@
 -- The parts of a finding that are shown, apart from its line and its column.
 use Rattle.std.specs.Prelude.{◌≡◌, ℕ, ◌-◌, All, List, [], ◌++◌, Option, Some, codes, false, length, map, slice_get, string_bytes}
 use Rattle.cc_base.specs.Shown.{HoldsNoControl}
-use Rattle.complgen_tree_errors.specs.Places.{ShownStep, key, path_text, shown_step}
+use Rattle.complgen_tree_errors.specs.Places.{ShownStep, key, path_text}
 use Rattle.complgen_tree_errors.specs.Shown.{shown_text}
 use Rattle.complgen_tree_errors.specs.declared.finding.Finding.{Finding}
 use Rattle.complgen_tree_errors.specs.declared.finding.Level.{Level}
 use Rattle.complgen_tree_errors.specs.declared.finding.Level.TheVariants.{Error, Warning}
-use Rattle.complgen_tree_errors.specs.declared.finding.PlacedFinding.{PlacedFinding}
 use Rattle.complgen_tree_file.specs.Faults.{is_nil}
 
 -- a level, a path and a text
@@ -15,17 +14,13 @@ pub record Shown : Type 0 where
   pub path : List ℕ
   pub text : List ℕ
 
--- what is shown of a finding before its place is known
+-- a level, the text of this path, and a text
+abbrev pub says : Level → List ShownStep → List ℕ → Shown
+says level path text = record { level = level; path = path_text path; text = text }
+
+-- what is shown of a finding
 abbrev pub shown : Finding → Shown
 shown finding = record {
-  level = finding.level;
-  path = path_text (map shown_step finding.path.items);
-  text = string_bytes finding.text;
-}
-
--- what is shown of a finding with its place
-abbrev pub shown_placed : PlacedFinding → Shown
-shown_placed finding = record {
   level = finding.level;
   path = string_bytes finding.path;
   text = string_bytes finding.text;
@@ -47,8 +42,7 @@ double_text path = (codes "duplicate key `" ++ shown_text (last_key path))
 
 -- what is shown of a member that a later one hides
 abbrev pub shown_double : List ShownStep → Shown
-shown_double path =
-    record { level = Warning; path = path_text path; text = double_text path }
+shown_double path = says Warning path (double_text path)
 
 -- what is shown of an error; its text is on one line
 pub record IsError (error : Shown) : Type 0 where
@@ -56,6 +50,6 @@ pub record IsError (error : Shown) : Type 0 where
   pub line : HoldsNoControl error.text
 
 -- errors, at least one
-pub record AreErrors (found : List PlacedFinding) : Type 0 where
+pub record AreErrors (found : List Finding) : Type 0 where
   pub some : is_nil found ≡ false
-  pub each : All IsError (map shown_placed found)
+  pub each : All IsError (map shown found)

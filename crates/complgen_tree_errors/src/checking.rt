@@ -8,12 +8,11 @@ ghost use Rattle.complgen_json.specs.Seen.{view};
 ghost use Rattle.complgen_tree_file.specs.CommandForm.{command_of};
 ghost use Rattle.complgen_tree_file.specs.Faults.{is_nil};
 ghost use Rattle.complgen_tree_errors.specs.Checks.{Checks, ChecksValue};
-ghost use Rattle.complgen_tree_errors.specs.Findings.{IsError, shown, shown_placed};
+ghost use Rattle.complgen_tree_errors.specs.Findings.{IsError, shown};
 
 use crate::doubles::hidden_members;
-use crate::finding::{Finding, Level, PlacedFinding, place_findings};
+use crate::finding::{Finding, Level, Source};
 use crate::not_json::{json_errors, one_error};
-use crate::spots::Source;
 use crate::texts::fault_text;
 use crate::walk::tree_errors;
 use cc_base::on_one_line;
@@ -27,9 +26,9 @@ use std::alloc::{AllocError, Global};
 pub enum Checked<'t> {
     /// The command that the file describes; a warning for each member of an object that a later
     /// member of the same key hides, in the order of the file; and the file as it was read.
-    Tree(Command, Vec<Finding<'t>>, Source<'t>),
+    Tree(Command, Vec<Finding>, Source<'t>),
     /// The errors in the file, in its order.
-    Errors(Vec<PlacedFinding>),
+    Errors(Vec<Finding>),
 }
 
 /// Returns the command that `bytes` describe, or if they describe none, the errors in them, at
@@ -60,7 +59,12 @@ fn check_text<'t>(
 {
     match read_value(alloc, text, scratch) {
         Ok(value) => {
-            let checked = check_value(alloc, Source { text, value })?;
+            let source = Source {
+                text,
+                value,
+                spots: None,
+            };
+            let checked = check_value(alloc, source)?;
             Ok(checked)
         }
         Err(JsonError::NotJson) => Ok(Checked::Errors(json_errors(alloc, text)?)),
@@ -68,15 +72,15 @@ fn check_text<'t>(
     }
 }
 
-fn check_value<'t>(alloc: Global, source: Source<'t>) -> Result<Checked<'t>, AllocError>
+fn check_value<'t>(alloc: Global, mut source: Source<'t>) -> Result<Checked<'t>, AllocError>
     ensures { IfOk result (λ checked. ChecksValue (value_view source.entry.value) checked) }
 {
     match tree_of(alloc, &source.value) {
         Ok(command) => {
-            let doubles = hidden_members(alloc, &source.value)?;
+            let doubles = hidden_members(alloc, &mut source)?;
             Ok(Checked::Tree(command, doubles, source))
         }
-        Err(TreeError::BadForm) => Ok(Checked::Errors(placed_errors(alloc, &source)?)),
+        Err(TreeError::BadForm) => Ok(Checked::Errors(placed_errors(alloc, &mut source)?)),
         Err(_) => Err(AllocError),
     }
 }
@@ -89,54 +93,48 @@ fn check_value<'t>(alloc: Global, source: Source<'t>) -> Result<Checked<'t>, All
 /// `AllocError` if an allocation fails.
 pub(crate) fn placed_errors(
     alloc: Global,
-    source: &Source<'_>,
-) -> Result<Vec<PlacedFinding>, AllocError>
-    ensures none { IfOk result (λ placed. is_nil placed.items
-        ≡ is_some (command_of (view source.now.value))) }
-    ensures errors { IfOk result (λ placed. All IsError (map shown_placed placed.items)) }
+    source: &mut Source<'_>,
+) -> Result<Vec<Finding>, AllocError>
+    ensures none { IfOk result (λ errors. is_nil errors.items
+        ≡ is_some (command_of (view source.old.value))) }
+    ensures errors { IfOk result (λ errors. All IsError (map shown errors.items)) }
 {
     let faults = tree_errors(alloc, &source.value)?;
-    let errors = errors(alloc, &source.value, faults)?;
-    in_order(place_findings(alloc, source, errors)?)
+    in_order(errors(alloc, source, faults)?)
 }
 
 // Sorts errors by their places.
-fn in_order(mut errors: Vec<PlacedFinding>) -> Result<Vec<PlacedFinding>, AllocError>
+fn in_order(mut errors: Vec<Finding>) -> Result<Vec<Finding>, AllocError>
     ensures none { IfOk result (λ sorted. is_nil sorted.items ≡ is_nil errors.items) }
-    ensures errors { IfOk result (λ sorted. All IsError (map shown_placed errors.items)
-        → All IsError (map shown_placed sorted.items)) }
+    ensures errors { IfOk result (λ sorted. All IsError (map shown errors.items)
+        → All IsError (map shown sorted.items)) }
 {
     errors.sort_by_key(|error| error.offset)?;
     Ok(errors)
 }
 
-// Makes an error of each fault in `value`.
-fn errors<'t>(
+// Makes an error of each fault in the value of `source`.
+fn errors(
     alloc: Global,
-    value: &Value<'t>,
-    faults: Vec<Fault<'t>>,
-) -> Result<Vec<Finding<'t>>, AllocError>
+    source: &mut Source<'_>,
+    faults: Vec<Fault<'_>>,
+) -> Result<Vec<Finding>, AllocError>
     ensures none { IfOk result (λ errors. is_nil errors.items ≡ is_nil faults.entry.items) }
     ensures errors { IfOk result (λ errors. All IsError (map shown errors.items)) }
 {
     let mut errors = Vec::new(alloc);
     for fault in faults {
-        errors.push(error(alloc, value, fault)?)?;
+        errors.push(error(alloc, source, fault)?)?;
     }
     Ok(errors)
 }
 
-fn error<'t>(alloc: Global, value: &Value<'t>, fault: Fault<'t>) -> Result<Finding<'t>, AllocError>
+fn error(alloc: Global, source: &mut Source<'_>, fault: Fault<'_>) -> Result<Finding, AllocError>
     ensures { IfOk result (λ error. IsError (shown error)) }
 {
-    let text = shown_text(alloc, value, &fault)?;
+    let text = shown_text(alloc, &source.value, &fault)?;
     let at_key = matches!(fault.kind, FaultKind::UnknownKey(_));
-    Ok(Finding {
-        level: Level::Error,
-        path: fault.path,
-        at_key,
-        text,
-    })
+    source.finding(alloc, Level::Error, fault.path.as_slice(), at_key, text)
 }
 
 fn shown_text(alloc: Global, value: &Value<'_>, fault: &Fault<'_>) -> Result<String, AllocError>

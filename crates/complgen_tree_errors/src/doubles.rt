@@ -4,27 +4,65 @@ ghost use Rattle.std.specs.Prelude.{◌≡◌, ◌++◌, [], IfOk, map};
 ghost use Rattle.json.specs.Value.{items_view, members_view, value_view};
 ghost use Rattle.complgen_tree_errors.specs.Checks.{hidden_list};
 ghost use Rattle.complgen_tree_errors.specs.Doubles.{has_key, hidden_in, hidden_in_items};
-ghost use Rattle.complgen_tree_errors.specs.Doubles.{hidden_in_members, if_hidden};
+ghost use Rattle.complgen_tree_errors.specs.Doubles.{hidden_in_members, if_hidden, shown_paths};
 ghost use Rattle.complgen_tree_errors.specs.Findings.{shown, shown_double};
 ghost use Rattle.complgen_tree_errors.specs.Places.{shown_step};
 
-use crate::finding::{Finding, Level};
+use crate::finding::{Finding, Level, Source};
 use crate::texts::double_text;
 use complgen_json::Value;
 use complgen_tree_file::Step;
 use std::alloc::{AllocError, Global};
 
-/// Returns a warning for each member in `value` that a later member of the same key hides, in the
-/// order of the file.
+/// Returns a warning for each member in the value of `source` that a later member of the same key
+/// hides, in the order of the file.
 ///
 /// # Errors
 ///
 /// `AllocError` if an allocation fails.
-pub(crate) fn hidden_members<'t>(
+pub(crate) fn hidden_members(
     alloc: Global,
-    value: &Value<'t>,
-) -> Result<Vec<Finding<'t>>, AllocError>
-    ensures { IfOk result (λ found. map shown found.items ≡ hidden_list (value_view value.now)) }
+    source: &mut Source<'_>,
+) -> Result<Vec<Finding>, AllocError>
+    ensures { IfOk result (λ found. map shown found.items
+        ≡ hidden_list (value_view source.old.value)) }
+{
+    let paths = hidden_paths(alloc, &source.value)?;
+    found_at(alloc, source, paths)
+}
+
+// Returns a warning about the hidden member at each of `paths`.
+fn found_at(
+    alloc: Global,
+    source: &mut Source<'_>,
+    paths: Vec<Vec<Step<'_>>>,
+) -> Result<Vec<Finding>, AllocError>
+    ensures { IfOk result (λ found. map shown found.items
+        ≡ map shown_double (shown_paths paths.entry.items)) }
+{
+    let mut found = Vec::new(alloc);
+    for path in paths {
+        found.push(hidden_member(alloc, source, path.as_slice())?)?;
+    }
+    Ok(found)
+}
+
+// Returns the warning that the member at `path` is hidden.
+fn hidden_member(
+    alloc: Global,
+    source: &mut Source<'_>,
+    path: &[Step<'_>],
+) -> Result<Finding, AllocError>
+    ensures { IfOk result (λ finding. shown finding ≡ shown_double (map shown_step path.now)) }
+{
+    let text = double_text(alloc, path)?;
+    source.finding(alloc, Level::Warning, path, true, text)
+}
+
+// Returns the paths to all hidden members in `value`, in the order of the file.
+fn hidden_paths<'t>(alloc: Global, value: &Value<'t>) -> Result<Vec<Vec<Step<'t>>>, AllocError>
+    ensures { IfOk result (λ paths. shown_paths paths.items
+        ≡ hidden_in [] (value_view value.now)) }
 {
     let mut walk = Walk {
         alloc,
@@ -35,20 +73,19 @@ pub(crate) fn hidden_members<'t>(
     Ok(walk.found)
 }
 
-// A walk through a value, with its current path and its findings.
+// A walk through a value, with its current path and the paths that it has found.
 #[derive(Drop)]
 struct Walk<'t> {
     alloc: Global,
     path: Vec<Step<'t>>,
-    found: Vec<Finding<'t>>,
+    found: Vec<Vec<Step<'t>>>,
 }
 
 #[cycle(find)]
 fn find<'t>(walk: &mut Walk<'t>, value: &Value<'t>) -> Result<(), AllocError>
     ensures path { IfOk result (λ _. walk.new.path.items ≡ walk.old.path.items) }
-    ensures found { IfOk result (λ _. map shown walk.new.found.items ≡ map shown walk.old.found.items
-        ++ map shown_double (hidden_in (map shown_step walk.old.path.items)
-        (value_view value.now))) }
+    ensures found { IfOk result (λ _. shown_paths walk.new.found.items ≡ shown_paths walk.old.found.items
+        ++ hidden_in (map shown_step walk.old.path.items) (value_view value.now)) }
 {
     match value {
         Value::Array(items) => find_in_items(walk, items),
@@ -60,9 +97,9 @@ fn find<'t>(walk: &mut Walk<'t>, value: &Value<'t>) -> Result<(), AllocError>
 #[cycle(find)]
 fn find_in_items<'t>(walk: &mut Walk<'t>, items: &Vec<Value<'t>>) -> Result<(), AllocError>
     ensures path { IfOk result (λ _. walk.new.path.items ≡ walk.old.path.items) }
-    ensures found { IfOk result (λ _. map shown walk.new.found.items ≡ map shown walk.old.found.items
-        ++ map shown_double (hidden_in_items (map shown_step walk.old.path.items) 0
-        (items_view items.now.items))) }
+    ensures found { IfOk result (λ _. shown_paths walk.new.found.items ≡ shown_paths walk.old.found.items
+        ++ hidden_in_items (map shown_step walk.old.path.items) 0
+        (items_view items.now.items)) }
 {
     for (index, item) in items.iter().enumerate() {
         walk.path.push(Step::Item(index))?;
@@ -78,9 +115,9 @@ fn find_in_members<'t>(
     members: &Vec<(&'t str, Value<'t>)>,
 ) -> Result<(), AllocError>
     ensures path { IfOk result (λ _. walk.new.path.items ≡ walk.old.path.items) }
-    ensures found { IfOk result (λ _. map shown walk.new.found.items ≡ map shown walk.old.found.items
-        ++ map shown_double (hidden_in_members (map shown_step walk.old.path.items)
-        (members_view members.now.items))) }
+    ensures found { IfOk result (λ _. shown_paths walk.new.found.items ≡ shown_paths walk.old.found.items
+        ++ hidden_in_members (map shown_step walk.old.path.items)
+        (members_view members.now.items)) }
 {
     for (index, member) in members.iter().enumerate() {
         walk.path.push(Step::Member(member.0, index))?;
@@ -91,37 +128,23 @@ fn find_in_members<'t>(
     Ok(())
 }
 
-// Notes the member at the path of `walk` if one of the members `later` has its key.
+// Notes the path of `walk` if one of the members `later` has the key of the member there.
 fn note_if_hidden(
     walk: &mut Walk<'_>,
     later: &[(&str, Value<'_>)],
     key: &str,
 ) -> Result<(), AllocError>
     ensures path { IfOk result (λ _. walk.new.path.items ≡ walk.old.path.items) }
-    ensures found { IfOk result (λ _. map shown walk.new.found.items ≡ map shown walk.old.found.items
-        ++ map shown_double (if_hidden (has_key key.now (members_view later.now))
-        (map shown_step walk.old.path.items))) }
+    ensures found { IfOk result (λ _. shown_paths walk.new.found.items ≡ shown_paths walk.old.found.items
+        ++ if_hidden (has_key key.now (members_view later.now))
+        (map shown_step walk.old.path.items)) }
 {
     if !has_key(later, key) {
         return Ok(());
     }
-    let finding = hidden_member(walk.alloc, walk.path.as_slice())?;
-    walk.found.push(finding)?;
+    let path = Vec::from_slice(walk.alloc, walk.path.as_slice())?;
+    walk.found.push(path)?;
     Ok(())
-}
-
-// Returns the warning that the member at `path` is hidden.
-fn hidden_member<'t>(alloc: Global, path: &[Step<'t>]) -> Result<Finding<'t>, AllocError>
-    ensures { IfOk result (λ finding. shown finding ≡ shown_double (map shown_step path.now)) }
-{
-    let text = double_text(alloc, path)?;
-    let path = Vec::from_slice(alloc, path)?;
-    Ok(Finding {
-        level: Level::Warning,
-        path,
-        at_key: true,
-        text,
-    })
 }
 
 fn has_key(members: &[(&str, Value<'_>)], key: &str) -> bool

@@ -1,10 +1,12 @@
 //! Findings about a tree file.
 
 ghost use Rattle.std.specs.Prelude.{◌≡◌, IfOk, map};
-ghost use Rattle.complgen_tree_errors.specs.Findings.{shown, shown_placed};
+ghost use Rattle.std.specs.String.{string_bytes};
+ghost use Rattle.complgen_tree_errors.specs.Findings.{says, shown};
+ghost use Rattle.complgen_tree_errors.specs.Places.{shown_step};
 
 use crate::places::show_path;
-use crate::spots::{Source, Spot, offset_at, spots};
+use crate::spots::{Spot, offset_at, spots};
 use complgen_json::Value;
 use complgen_tree_file::Step;
 use std::alloc::{AllocError, Global};
@@ -14,85 +16,71 @@ use std::alloc::{AllocError, Global};
 pub enum Level {
     /// Nothing is wrong.
     Note,
-    /// The scripts may not do what the file says.
+    /// A script may break, or a shell offers something wrong.
     Warning,
     /// The file describes no command.
     Error,
 }
 
-/// A finding about a value of a tree file.
+/// A finding about a value of a tree file, with its place.
 #[derive(Drop)]
-pub struct Finding<'t> {
-    pub level: Level,
-    /// The steps from the whole file to the value.
-    pub path: Vec<Step<'t>>,
-    /// True if the finding is about the key of the last step instead of the value there.
-    pub at_key: bool,
-    pub text: String,
-}
-
-/// A finding with its place in the file.
-#[derive(Drop)]
-pub struct PlacedFinding {
+pub struct Finding {
     pub level: Level,
     /// The number of bytes in the file before the place.
     pub offset: usize,
-    /// The path as it is shown.
+    /// The path to the value, as it is shown.
     pub path: String,
     pub text: String,
 }
 
-/// Returns `findings` with their places in `source`, in the same order. Levels, paths and texts
-/// stay the same. All places are found in one pass over the text.
-///
-/// # Errors
-///
-/// `AllocError` if an allocation fails.
-pub fn place_findings(
-    alloc: Global,
-    source: &Source<'_>,
-    findings: Vec<Finding<'_>>,
-) -> Result<Vec<PlacedFinding>, AllocError>
-    ensures { IfOk result (λ placed.
-        map shown_placed placed.items ≡ map shown findings.entry.items) }
-{
-    if findings.is_empty() {
-        return Ok(Vec::new(alloc));
-    }
-    let spot = spots(alloc, source)?;
-    place_each(alloc, &spot, &source.value, findings)
+/// A text, the value that it spells, and once a finding needs them, the offsets of all values.
+#[derive(Drop)]
+pub struct Source<'t> {
+    pub(crate) text: &'t str,
+    pub(crate) value: Value<'t>,
+    pub(crate) spots: Option<Spot>,
 }
 
-fn place_each(
-    alloc: Global,
-    spot: &Spot,
-    value: &Value<'_>,
-    findings: Vec<Finding<'_>>,
-) -> Result<Vec<PlacedFinding>, AllocError>
-    ensures { IfOk result (λ placed.
-        map shown_placed placed.items ≡ map shown findings.entry.items) }
-{
-    let mut placed = Vec::new(alloc);
-    for finding in findings {
-        placed.push(place(alloc, spot, value, finding)?)?;
+impl<'t> Source<'t> {
+    /// Returns a finding about the value at `path`, or with `at_key`, about the key of the last
+    /// step. The first call finds the places of all values in one pass over the text.
+    ///
+    /// # Errors
+    ///
+    /// `AllocError` if an allocation fails.
+    pub fn finding(
+        &mut self,
+        alloc: Global,
+        level: Level,
+        path: &[Step<'_>],
+        at_key: bool,
+        text: String,
+    ) -> Result<Finding, AllocError>
+        ensures { IfOk result (λ finding. shown finding
+            ≡ says level (map shown_step path.now) (string_bytes text)) }
+    {
+        let offset = self.offset(alloc, path, at_key)?;
+        let path = show_path(alloc, path)?;
+        Ok(Finding {
+            level,
+            offset,
+            path,
+            text,
+        })
     }
-    Ok(placed)
-}
 
-fn place(
-    alloc: Global,
-    spot: &Spot,
-    value: &Value<'_>,
-    finding: Finding<'_>,
-) -> Result<PlacedFinding, AllocError>
-    ensures { IfOk result (λ placed. shown_placed placed ≡ shown finding.entry) }
-{
-    let offset = offset_at(spot, value, finding.path.as_slice(), finding.at_key);
-    let path = show_path(alloc, finding.path.as_slice())?;
-    Ok(PlacedFinding {
-        level: finding.level,
-        offset,
-        path,
-        text: finding.text,
-    })
+    fn offset(
+        &mut self,
+        alloc: Global,
+        path: &[Step<'_>],
+        at_key: bool,
+    ) -> Result<usize, AllocError> {
+        let found = match self.spots.take() {
+            Some(found) => found,
+            None => spots(alloc, self.text, &self.value)?,
+        };
+        let offset = offset_at(&found, &self.value, path, at_key);
+        self.spots = Some(found);
+        Ok(offset)
+    }
 }

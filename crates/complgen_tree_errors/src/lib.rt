@@ -15,8 +15,7 @@ mod texts;
 mod walk;
 
 pub use crate::checking::{Checked, check_file};
-pub use crate::finding::{Finding, Level, PlacedFinding, place_findings};
+pub use crate::finding::{Finding, Level, Source};
 pub use crate::lines::Lines;
-pub use crate::spots::Source;
 pub use complgen_json::Scratch;
 pub use complgen_tree_file::Step;

@@ -4,8 +4,7 @@ ghost use Rattle.std.specs.Prelude.{IfOk};
 ghost use Rattle.complgen_tree_errors.specs.Findings.{AreErrors, IsError, shown};
 
 use crate::checking::placed_errors;
-use crate::finding::{Finding, Level, PlacedFinding, place_findings};
-use crate::spots::Source;
+use crate::finding::{Finding, Level, Source};
 use cc_base::on_one_line;
 use complgen_json::{Scratch, Value};
 use complgen_tree_file::Step;
@@ -20,13 +19,13 @@ const MOST_OPEN: usize = 127;
 /// # Errors
 ///
 /// `AllocError` if an allocation fails.
-pub fn one_error(alloc: Global, offset: usize, text: &str) -> Result<Vec<PlacedFinding>, AllocError>
+pub fn one_error(alloc: Global, offset: usize, text: &str) -> Result<Vec<Finding>, AllocError>
     ensures { IfOk result (λ found. AreErrors found.items) }
 {
     let path = String::from_str(alloc, "the file")?;
     let text = on_one_line(alloc, text)?;
     let mut found = Vec::new(alloc);
-    found.push(PlacedFinding {
+    found.push(Finding {
         level: Level::Error,
         offset,
         path,
@@ -40,24 +39,27 @@ pub fn one_error(alloc: Global, offset: usize, text: &str) -> Result<Vec<PlacedF
 /// # Errors
 ///
 /// `AllocError` if an allocation fails.
-pub fn json_errors(alloc: Global, text: &str) -> Result<Vec<PlacedFinding>, AllocError>
+pub fn json_errors(alloc: Global, text: &str) -> Result<Vec<Finding>, AllocError>
     ensures { IfOk result (λ found. AreErrors found.items) }
 {
     let mut scratch = Scratch::new(alloc);
     let mut reader = Reader::new(text, &mut scratch)?;
     match Value::read(alloc, &mut reader, MOST_OPEN) {
-        Ok(value) => after_value(alloc, Source { text, value }, &mut reader),
+        Ok(value) => {
+            let source = Source {
+                text,
+                value,
+                spots: None,
+            };
+            after_value(alloc, source, &mut reader)
+        }
         Err(json::Error::OutOfMemory) => Err(AllocError),
         Err(_) => reading_error(alloc, text.as_bytes(), reader.offset()),
     }
 }
 
 // Explains why reading ended at `offset`.
-fn reading_error(
-    alloc: Global,
-    bytes: &[u8],
-    offset: usize,
-) -> Result<Vec<PlacedFinding>, AllocError>
+fn reading_error(alloc: Global, bytes: &[u8], offset: usize) -> Result<Vec<Finding>, AllocError>
     ensures { IfOk result (λ found. AreErrors found.items) }
 {
     let offset = offset.min(bytes.len());
@@ -72,9 +74,9 @@ fn reading_error(
 // Explains what is wrong with a text that begins with a value.
 fn after_value(
     alloc: Global,
-    source: Source<'_>,
+    mut source: Source<'_>,
     reader: &mut Reader<'_>,
-) -> Result<Vec<PlacedFinding>, AllocError>
+) -> Result<Vec<Finding>, AllocError>
     ensures { IfOk result (λ found. AreErrors found.items) }
 {
     let offset = reader.offset().min(source.text.len());
@@ -85,35 +87,30 @@ fn after_value(
             "not JSON: there is more text after the value",
         );
     }
-    range_error(alloc, &source)
+    range_error(alloc, &mut source)
 }
 
 // Finds the first number out of range, unless the value has other errors. If it has none, the
 // number is in a member that a later one hides.
-fn range_error(alloc: Global, source: &Source<'_>) -> Result<Vec<PlacedFinding>, AllocError>
+fn range_error(alloc: Global, source: &mut Source<'_>) -> Result<Vec<Finding>, AllocError>
     ensures { IfOk result (λ found. AreErrors found.items) }
 {
     let found = placed_errors(alloc, source)?;
     if !found.is_empty() {
         return Ok(found);
     }
-    let mut findings = Vec::new(alloc);
-    findings.push(out_of_range(alloc, &source.value)?)?;
-    place_findings(alloc, source, findings)
+    let mut errors = Vec::new(alloc);
+    errors.push(out_of_range(alloc, source)?)?;
+    Ok(errors)
 }
 
-fn out_of_range<'t>(alloc: Global, value: &Value<'t>) -> Result<Finding<'t>, AllocError>
+fn out_of_range(alloc: Global, source: &mut Source<'_>) -> Result<Finding, AllocError>
     ensures { IfOk result (λ found. IsError (shown found)) }
 {
     let mut path = Vec::new(alloc);
-    let _ = push_out_of_range(&mut path, value)?;
+    let _ = push_out_of_range(&mut path, &source.value)?;
     let text = on_one_line(alloc, "number out of range")?;
-    Ok(Finding {
-        level: Level::Error,
-        path,
-        at_key: false,
-        text,
-    })
+    source.finding(alloc, Level::Error, path.as_slice(), false, text)
 }
 
 // Appends the steps to the first number out of range, and returns whether there is one.

@@ -6,13 +6,6 @@ use complgen_tree_file::Step;
 use json::Reader;
 use std::alloc::{AllocError, Global};
 
-/// A text and the value that it spells.
-#[derive(Drop)]
-pub struct Source<'t> {
-    pub(crate) text: &'t str,
-    pub(crate) value: Value<'t>,
-}
-
 /// The offsets of a value and of its key, and the same for each value inside.
 #[derive(Drop)]
 pub(crate) struct Spot {
@@ -22,16 +15,16 @@ pub(crate) struct Spot {
     inside: Vec<Spot>,
 }
 
-/// Returns the offsets of all values of `source`.
+/// Returns the offsets of `value`, which `text` spells, and of all values inside.
 ///
 /// # Errors
 ///
 /// `AllocError` if an allocation fails.
-pub(crate) fn spots(alloc: Global, source: &Source<'_>) -> Result<Spot, AllocError> {
+pub(crate) fn spots(alloc: Global, text: &str, value: &Value<'_>) -> Result<Spot, AllocError> {
     let mut scratch = Scratch::new(alloc);
-    let mut reader = Reader::new(source.text, &mut scratch)?;
+    let mut reader = Reader::new(text, &mut scratch)?;
     let start = reader.offset();
-    read_spot(alloc, &mut reader, start, &source.value)
+    read_spot(alloc, &mut reader, start, value)
 }
 
 // Reads past `value`, which comes next, and returns its offsets. Its key begins at `key`.

@@ -1,7 +1,7 @@
 use Rattle.std.proofs.Common.{rules}
 use Rattle.std.proofs.lemmas.Map.Views.{All-map-IsPermutation}
 use Rattle.complgen_tree_errors.proofs.CheckLemmas.{nil_by_length}
-use Rattle.complgen_tree_errors.specs.Findings.{IsError, shown_placed}
+use Rattle.complgen_tree_errors.specs.Findings.{IsError, shown}
 use Rattle.complgen_tree_errors.proofs.checking.in_order.Goals as goal
 
 pub returns-clause-none : goal.returns-clause-none
@@ -9,4 +9,4 @@ returns-clause-none c = nil_by_length _ _ (search rules)
 
 pub returns-clause-errors : goal.returns-clause-errors
 returns-clause-errors c =
-    All-map-IsPermutation shown_placed IsError _ _ c.sort_by_key.ensures.permutation
+    All-map-IsPermutation shown IsError _ _ c.sort_by_key.ensures.permutation
