@@ -5,7 +5,7 @@
     release/declarations.py --write     writes the comments of the declarations from the source
 
 The source is crates/complgen_c/src. Each function that it exports must be declared in
-release/library/lagvtsune.h and in rust/lagvtsune/src/native.rs with these parameters, and neither file may
+packages/c/lagvtsune.h and in packages/rust/lagvtsune/src/native.rs with these parameters, and neither file may
 declare another function. Its comment there must be the doc comment of the source, and the clause of its
 contract. A function must have one clause, and no precondition. A record that a function takes must have the
 same fields there, in the same order.
@@ -20,8 +20,8 @@ import textwrap
 
 TOP = pathlib.Path(__file__).resolve().parent.parent
 SOURCES = TOP / "crates/complgen_c/src"
-HEADER = TOP / "release/library/lagvtsune.h"
-NATIVE = TOP / "rust/lagvtsune/src/native.rs"
+HEADER = TOP / "packages/c/lagvtsune.h"
+NATIVE = TOP / "packages/rust/lagvtsune/src/native.rs"
 
 # The declarations of a parameter and a result of each type.
 C = {

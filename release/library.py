@@ -27,7 +27,7 @@ Cflags: -I${{includedir}}
 def put_library(args):
     """Writes liblagvtsune-VERSION-x86_64-linux.tar.xz, and returns the linker's command for the shared library."""
     name = f"liblagvtsune-{args.version}-x86_64-linux"
-    root, own = args.work / name, args.release / "library"
+    root, own = args.work / name, args.source / "packages/c"
     (root / "lib").mkdir(parents=True)
     put_static(args, root / "lib/liblagvtsune.a")
     linked = put_shared(args, root / "lib")
@@ -35,11 +35,14 @@ def put_library(args):
         copy(own / header, root / "include" / header)
     put(root / "lib/pkgconfig/lagvtsune.pc", PKG_CONFIG.format(version=args.version))
     share = root / "share/lagvtsune"
-    for helper in ("lagvtsune_posix.c", "lagvtsune.py"):
-        copy(own / helper, share / helper)
-    for path in sorted((args.release / "examples").rglob("*")):
-        if path.is_file() and "__pycache__" not in path.parts:
-            copy(path, share / "examples" / path.relative_to(args.release / "examples"), path.stat().st_mode & 0o777)
+    copy(own / "lagvtsune_posix.c", share / "lagvtsune_posix.c")
+    copy(args.source / "packages/python/lagvtsune.py", share / "lagvtsune.py")
+    for language in ("c", "python"):
+        examples = args.source / "packages" / language / "examples"
+        for path in sorted(examples.rglob("*")):
+            if path.is_file() and "__pycache__" not in path.parts:
+                to = share / "examples" / language / path.relative_to(examples)
+                copy(path, to, path.stat().st_mode & 0o777)
     put_licences(args, root / "share/doc/lagvtsune")
     put_tar_xz(root, args.out / f"{name}.tar.xz", args.time)
     return linked
@@ -54,7 +57,7 @@ def put_licences(args, folder):
 
 def put_static(args, to):
     """Writes the static library: the proved archive, and memory.o as a member of its own."""
-    objects, own = args.work / "objects", args.release / "library"
+    objects, own = args.work / "objects", args.source / "packages/c"
     objects.mkdir()
     run("ar", "x", args.archive, cwd=objects)
     words = ["-std=c11", "-O2", "-fPIC", f"-ffile-prefix-map={own}=.", "-I", own, "-c", own / "memory.c"]
@@ -64,7 +67,7 @@ def put_static(args, to):
 
 def put_shared(args, folder):
     """Writes the shared library with its two links, and returns the command that linked it."""
-    file, own = f"liblagvtsune.so.{args.version}", args.release / "library"
+    file, own = f"liblagvtsune.so.{args.version}", args.source / "packages/c"
     words = ["cc", "-shared", "-o", file, "-Wl,-soname,liblagvtsune.so.0", "-Wl,--gc-sections", "-Wl,--build-id=none"]
     words += ["-Wl,--version-script=lagvtsune.map", "-Wl,-z,relro,-z,now,-z,noexecstack"]
     words += ["-Wl,--whole-archive", "liblagvtsune.a", "-Wl,--no-whole-archive"]
@@ -83,7 +86,7 @@ def put_crate(args):
     cargo needs no network and no crates for this. It gives all files one time of its own.
     """
     root, target = args.work / "crate", args.work / "target"
-    shutil.copytree(args.source / "rust/lagvtsune", root, ignore=LEFT_OUT)
+    shutil.copytree(args.source / "packages/rust/lagvtsune", root, ignore=LEFT_OUT)
     put_licences(args, root)
     copy(args.archive, root / "native" / TARGET / ARCHIVE)
     for path in root.rglob("*"):

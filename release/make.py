@@ -37,7 +37,7 @@ TOP = RELEASE.parent
 # The two places of the version, in this order.
 VERSIONS = {
     "crates/complgen_command_line/src/texts.rt": r'const VERSION: &str = "(\d+\.\d+\.\d+)',
-    "rust/lagvtsune/Cargo.toml": r'^version = "(\d+\.\d+\.\d+)"$',
+    "packages/rust/lagvtsune/Cargo.toml": r'^version = "(\d+\.\d+\.\d+)"$',
 }
 NOT_GIVEN = "not given"
 

@@ -28,7 +28,7 @@ import common
 import refusals
 from shells import SHELLS
 
-MOST_SECONDS = 900
+MOST_SECONDS = 1800
 MOST_LINES = 40
 PROGRAMS = ("complgen", "larder")
 # The parts of these scripts without those that measure times, which need a machine that does nothing else.

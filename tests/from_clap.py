@@ -56,7 +56,8 @@ def build(work, name):
     package = os.path.join(work, "source", name)
     examples = os.path.join(package, "examples")
     main_file = os.path.join(examples, "tree", "main.rs")
-    shutil.copy(os.path.join(common.TOP, "rust", "lagvtsune", "src", "tree_file.rs"), os.path.join(examples, "tree"))
+    writer = os.path.join(common.TOP, "packages", "rust", "lagvtsune", "src", "tree_file.rs")
+    shutil.copy(writer, os.path.join(examples, "tree"))
     with open(main_file, encoding="utf-8") as file:
         text = re.sub(r'.*tree_file\.rs"\]\n', "", file.read())
     write(main_file, text)

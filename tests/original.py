@@ -199,7 +199,7 @@ class Cargo:
     def __init__(self, work, options):
         self.package = work / "original"
         copy = work / "lagvtsune"
-        shutil.copytree(TOP / "rust/lagvtsune", copy, ignore=shutil.ignore_patterns("target", "Cargo.lock"))
+        shutil.copytree(TOP / "packages/rust/lagvtsune", copy, ignore=shutil.ignore_patterns("target", "Cargo.lock"))
         dynamic = has_add(options.clap) if options.clap else common.has_completers()
         common.fit_manifest(copy / "Cargo.toml", dynamic)
         put(work / "snapbox/Cargo.toml", SNAPBOX)

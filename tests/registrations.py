@@ -3,7 +3,7 @@
 
     tests/registrations.py [--archive FOLDER]
 
-It links the archive as a shared library, and calls that by release/library/lagvtsune.py. For each shell it
+It links the archive as a shared library, and calls that by packages/python/lagvtsune.py. For each shell it
 makes the registrations of the safe set and of the original's, with plain names and with names full of signs.
 It takes the texts from docs/TEXTS.md, and fills in the names as the tables there say. --archive names the
 directory of the archive. Without it, that is crates/complgen_c/out, where `rt lib` leaves it.
@@ -28,7 +28,7 @@ sys.path.append(os.path.join(os.path.dirname(os.path.realpath(__file__)), "..", 
 import common
 
 sys.dont_write_bytecode = True
-OWN = os.path.join(common.TOP, "release", "library")
+C, PYTHON = (os.path.join(common.TOP, "packages", language) for language in ("c", "python"))
 Quote = Callable[[str], str]
 
 
@@ -112,9 +112,9 @@ def loaded(archive: str, work: str) -> ModuleType:
     """Links the archive as a shared library, and returns the module that calls it."""
     made = os.path.join(work, "liblagvtsune.so")
     whole = ["-Wl,--whole-archive", os.path.join(archive, "libcomplgen_c.a"), "-Wl,--no-whole-archive"]
-    subprocess.run(["cc", "-shared", "-fPIC", "-I", OWN, "-o", made, os.path.join(OWN, "memory.c"), *whole], check=True)
+    subprocess.run(["cc", "-shared", "-fPIC", "-I", C, "-o", made, os.path.join(C, "memory.c"), *whole], check=True)
     os.environ["LAGVTSUNE_SO"] = made
-    sys.path.append(OWN)
+    sys.path.append(PYTHON)
     return importlib.import_module("lagvtsune")
 
 

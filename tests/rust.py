@@ -4,10 +4,10 @@
     tests/rust.py [--archive FOLDER] [--genuine | --original FOLDER]
 
 `rt lib` proves and builds crates/complgen_c. --archive names a directory that has the archive already.
-cargo runs the tests of rust/lagvtsune, and again under valgrind if it is installed. valgrind must report
+cargo runs the tests of packages/rust/lagvtsune, and again under valgrind if it is installed. valgrind must report
 no error and no leak. examples/from-rust has to build.
 
-Then the program in rust/herd is built with the package, and with the crate `clap_complete`. The two
+Then the program in packages/rust/herd is built with the package, and with the crate `clap_complete`. The two
 programs differ only in the name of the crate. It is also built without an archive, with the feature
 `original`, if cargo has clap_complete. The script compares their scripts, and their replies to
 1,000 random live requests, except those at which the original panics. If Debian's crates are installed,
@@ -71,9 +71,9 @@ def main():
     options = arguments()
     with tempfile.TemporaryDirectory() as work:
         cargo = Cargo(work, options.archive or build_archive(), options.original)
-        for folder in ("rust", "examples"):
+        for folder in ("packages/rust", "examples"):
             shutil.copytree(os.path.join(common.TOP, folder), os.path.join(work, folder))
-        package = os.path.join(work, "rust", "lagvtsune")
+        package = os.path.join(work, "packages", "rust", "lagvtsune")
         has_add = options.original is not None or common.has_completers()
         common.fit_manifest(os.path.join(package, "Cargo.toml"), has_add)
         features = ["--features", "unstable-dynamic"] if has_add else []
@@ -179,7 +179,7 @@ def compare(cargo, work, package):
     if version is None:
         print("clap_complete: not available")
         return True
-    herd = os.path.join(work, "rust", "herd")
+    herd = os.path.join(work, "packages", "rust", "herd")
     cargo.run(herd, "build", "--quiet", "--release")
     ours = os.path.join(cargo.built, "release", "herd")
     theirs = os.path.join(cargo.built, "release", "other")
@@ -202,7 +202,7 @@ def build_other(cargo, work, package):
     write(os.path.join(other, "Cargo.toml"), MANIFEST)
     cli = os.path.join(work, "examples", "from-clap", "herd", "src", "cli.rs")
     shutil.copy(cli, os.path.join(other, "src"))
-    with open(os.path.join(work, "rust", "herd", "src", "main.rs"), encoding="utf-8") as file:
+    with open(os.path.join(work, "packages", "rust", "herd", "src", "main.rs"), encoding="utf-8") as file:
         program = re.sub(r"#\[path.*\n", "", file.read()).replace("lagvtsune", "clap_complete")
     scripts_alone = re.sub(r".*CompleteEnv::.*\n", "", program).replace("CompleteEnv, ", "")
     for source in (program, scripts_alone):

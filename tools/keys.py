@@ -17,7 +17,7 @@ From the schema come:
 - a key of the schema has no description;
 - complgen_tree_file reads other keys, actions or value hints than the schema has;
 - the tree in examples/complgen.json is not the one that complgen_live has built in;
-- rust/lagvtsune/src/tree_file.rs does not write a key of the schema that clap has, or writes another one.
+- packages/rust/lagvtsune/src/tree_file.rs does not write a key of the schema that clap has, or writes another one.
 
 `--write` prints the markers that it does not find, and then exits with status 1.
 """
@@ -30,7 +30,7 @@ import sys
 
 TOP = pathlib.Path(__file__).resolve().parent.parent
 SCHEMA = TOP / "docs/tree.schema.json"
-WRITER = TOP / "rust/lagvtsune/src/tree_file.rs"
+WRITER = TOP / "packages/rust/lagvtsune/src/tree_file.rs"
 SOURCES = TOP / "crates/complgen_tree_file/src"
 
 PAGE = "docs/TREE_FILE.md"

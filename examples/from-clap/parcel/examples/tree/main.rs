@@ -2,7 +2,7 @@
 
 #[path = "../../src/cli.rs"]
 mod cli;
-#[path = "../../../../../rust/lagvtsune/src/tree_file.rs"]
+#[path = "../../../../../packages/rust/lagvtsune/src/tree_file.rs"]
 mod tree_file;
 
 fn main() {

@@ -1,7 +1,7 @@
 //! `herd`, the command line of a program that would run a cluster. It prints its script for a
 //! shell, and completes itself.
 
-#[path = "../../../examples/from-clap/herd/src/cli.rs"]
+#[path = "../../../../examples/from-clap/herd/src/cli.rs"]
 mod cli;
 
 use clap::{value_parser, Arg, Command, CommandFactory};
