@@ -182,7 +182,8 @@ fn registered(rt: &HostRuntime, safe: bool, shell: &[u8], bin: &[u8]) -> (usize,
 
 #[test]
 fn the_original_s_registration_is_made(rt: HostRuntime) -> Result<(), Fail> {
-    let text = b"complete --keep-order --exclusive --command my-app --arguments \"(ASK=fish /bin/app -- (commandline --current-process --tokenize --cut-at-cursor) (commandline --current-token))\"\n";
+    let text =
+        b"complete --keep-order --exclusive --command my-app --arguments \"(ASK=fish /bin/app -- (commandline --current-process --tokenize --cut-at-cursor) (commandline --current-token))\"\n";
     let (length, status, room) = registered(&rt, false, b"fish", b"my-app");
     same(&rt, (length, status), (text.len(), 0));
     assert!(rt; room.starts_with(text));
