@@ -74,12 +74,7 @@ pub extern "C" fn lagvtsune_registration(
 }
 
 // Makes the registration in memory.
-fn make_registration(
-    alloc: Global,
-    safe: bool,
-    shell: &[u8],
-    names: &PassedNames<'_>,
-) -> Outcome
+fn make_registration(alloc: Global, safe: bool, shell: &[u8], names: &PassedNames<'_>) -> Outcome
     ensures { MakesRegistration safe shell.now (passed_names names.now) result }
 {
     let (Some(shell), Some(names)) = (as_text(shell), as_texts(names)) else {

@@ -14,12 +14,12 @@ fn same(rt: &impl Abort, shown: (usize, u8), wanted: (usize, u8)) {
 
 // Requests the value of `--file` in the directory `/x`, and returns the length, the status and the
 // room.
-fn asked(
+fn asked<'p>(
     rt: &HostRuntime,
-    shell: &[u8],
-    listed: &[u8],
-    names: &[&[u8]],
-    folders: &[&[u8]],
+    shell: &'p [u8],
+    listed: &'p [u8],
+    names: &'p [&'p [u8]],
+    folders: &'p [&'p [u8]],
 ) -> (usize, u8, [u8; 96]) {
     let words: [&[u8]; 5] = [b"app", b"--", b"app", b"--file", b""];
     let variables: [&[u8]; 8] = [
@@ -182,7 +182,8 @@ fn registered(rt: &HostRuntime, safe: bool, shell: &[u8], bin: &[u8]) -> (usize,
 
 #[test]
 fn the_original_s_registration_is_made(rt: HostRuntime) -> Result<(), Fail> {
-    let text = b"complete --keep-order --exclusive --command my-app --arguments \"(ASK=fish /bin/app -- (commandline --current-process --tokenize --cut-at-cursor) (commandline --current-token))\"\n";
+    let text =
+        b"complete --keep-order --exclusive --command my-app --arguments \"(ASK=fish /bin/app -- (commandline --current-process --tokenize --cut-at-cursor) (commandline --current-token))\"\n";
     let (length, status, room) = registered(&rt, false, b"fish", b"my-app");
     same(&rt, (length, status), (text.len(), 0));
     assert!(rt; room.starts_with(text));
