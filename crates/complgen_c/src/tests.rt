@@ -16,7 +16,7 @@ fn same(rt: &impl Abort, shown: (usize, u8), wanted: (usize, u8)) {
 // room.
 fn asked<'p>(
     rt: &HostRuntime,
-    shell: &'p [u8],
+    shell: &[u8],
     listed: &'p [u8],
     names: &'p [&'p [u8]],
     folders: &'p [&'p [u8]],
