@@ -14,12 +14,12 @@ fn same(rt: &impl Abort, shown: (usize, u8), wanted: (usize, u8)) {
 
 // Requests the value of `--file` in the directory `/x`, and returns the length, the status and the
 // room.
-fn asked(
+fn asked<'p>(
     rt: &HostRuntime,
     shell: &[u8],
-    listed: &[u8],
-    names: &[&[u8]],
-    folders: &[&[u8]],
+    listed: &'p [u8],
+    names: &'p [&'p [u8]],
+    folders: &'p [&'p [u8]],
 ) -> (usize, u8, [u8; 96]) {
     let words: [&[u8]; 5] = [b"app", b"--", b"app", b"--file", b""];
     let variables: [&[u8]; 8] = [

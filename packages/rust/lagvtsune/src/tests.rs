@@ -727,13 +727,13 @@ fn any_names_end_with_a_status() {
     let mut ends = [0; 3];
     let mut room = vec![0; 1 << 14];
     for number in 0..20_000 {
-        let shell = match numbers.below(6) {
-            5 => numbers.bytes(8),
-            at => LIVE_SHELLS[at].as_bytes().to_vec(),
+        let shell = match numbers.below(SHELLS.len() + 1) {
+            at if at < SHELLS.len() => SHELLS[at].as_bytes().to_vec(),
+            _ => numbers.bytes(8),
         };
         let texts = [(); 4].map(|()| match numbers.below(8) {
             0 => numbers.bytes(20),
-            _ => b"it's \\ \xe2\x80\x99\n$(x)"[..numbers.below(9)].to_vec(),
+            _ => "it's \\\n$(x)\u{2019}".as_bytes()[..numbers.below(15)].to_vec(),
         });
         let [variable, name, bin, completer] = texts.each_ref().map(|text| (&**text).into());
         let names = Names { variable, name, bin, completer };
