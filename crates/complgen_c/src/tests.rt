@@ -12,36 +12,42 @@ fn same(rt: &impl Abort, shown: (usize, u8), wanted: (usize, u8)) {
     assert_eq!(rt; shown, wanted);
 }
 
-// Requests the value of `--file` in the directory `/x`, and returns the length, the status and the
-// room.
-fn asked<'p>(
+// The variables of a request of bash for the value of `--file` in the directory `/x`.
+const BASH: &[&[u8]] = &[
+    b"COMPLETE",
+    b"bash",
+    b"_CLAP_COMPLETE_INDEX",
+    b"2",
+    b"_CLAP_IFS",
+    b",",
+    b"PWD",
+    b"/x",
+];
+
+const WORDS: &[&[u8]] = &[b"app", b"--", b"app", b"--file", b""];
+
+// The names in the directory that is passed, and the path of the one that is a directory.
+const NAMES: &[&[u8]] = &[b"b", b"a"];
+
+const FOLDERS: &[&[u8]] = &[b"/x/b"];
+
+// Makes a request with these variables over the directory `listed`, and returns the length, the
+// status and the room.
+fn asked(
     rt: &HostRuntime,
-    shell: &[u8],
-    listed: &'p [u8],
-    names: &'p [&'p [u8]],
-    folders: &'p [&'p [u8]],
+    variables: &'static [&'static [u8]],
+    listed: &'static [u8],
 ) -> (usize, u8, [u8; 96]) {
-    let words: [&[u8]; 5] = [b"app", b"--", b"app", b"--file", b""];
-    let variables: [&[u8]; 8] = [
-        b"COMPLETE",
-        shell,
-        b"_CLAP_COMPLETE_INDEX",
-        b"2",
-        b"_CLAP_IFS",
-        b",",
-        b"PWD",
-        b"/x",
-    ];
     let mut room = [0; 96];
     let mut status = u8::MAX;
     let request = PassedRequest {
         tree: TREE,
-        words: &words,
-        variables: &variables,
-        output: &[],
+        words: WORDS,
+        variables,
+        output: b"",
         listed,
-        names,
-        folders,
+        names: NAMES,
+        folders: FOLDERS,
         files: &[],
     };
     let length = lagvtsune_live(rt.alloc(), &request, &mut room, &mut status);
@@ -50,7 +56,7 @@ fn asked<'p>(
 
 #[test]
 fn other_names_are_wanted(rt: HostRuntime) -> Result<(), Fail> {
-    let (length, status, room) = asked(&rt, b"bash", b"/y", &[b"a"], &[]);
+    let (length, status, room) = asked(&rt, BASH, b"/y");
     same(&rt, (length, status), (3, 4));
     assert!(rt; room.starts_with(b"/x/"));
     Ok(())
@@ -58,7 +64,7 @@ fn other_names_are_wanted(rt: HostRuntime) -> Result<(), Fail> {
 
 #[test]
 fn names_that_were_handed_in_are_offered(rt: HostRuntime) -> Result<(), Fail> {
-    let (length, status, room) = asked(&rt, b"bash", b"/x/", &[b"b", b"a"], &[b"/x/b"]);
+    let (length, status, room) = asked(&rt, BASH, b"/x/");
     same(&rt, (length, status), (6, 0));
     assert!(rt; room.starts_with(b".,a,b/"));
     Ok(())
@@ -66,7 +72,7 @@ fn names_that_were_handed_in_are_offered(rt: HostRuntime) -> Result<(), Fail> {
 
 #[test]
 fn an_unknown_shell_is_named(rt: HostRuntime) -> Result<(), Fail> {
-    let (_, status, room) = asked(&rt, b"tcsh", b"", &[], &[]);
+    let (_, status, room) = asked(&rt, &[b"COMPLETE", b"tcsh"], b"");
     assert!(rt; status == 1);
     assert!(rt; room.starts_with(b"unknown shell `tcsh`, expected one of `bash`"));
     Ok(())
@@ -74,14 +80,14 @@ fn an_unknown_shell_is_named(rt: HostRuntime) -> Result<(), Fail> {
 
 #[test]
 fn what_is_not_utf8_is_refused(rt: HostRuntime) -> Result<(), Fail> {
-    let (length, status, _) = asked(&rt, b"\xff", b"", &[], &[]);
+    let (length, status, _) = asked(&rt, &[b"COMPLETE", b"\xff"], b"");
     same(&rt, (length, status), (0, 2));
     Ok(())
 }
 
 #[test]
 fn nothing_is_requested(rt: HostRuntime) -> Result<(), Fail> {
-    let (length, status, _) = asked(&rt, b"", b"", &[], &[]);
+    let (length, status, _) = asked(&rt, &[b"COMPLETE", b""], b"");
     same(&rt, (length, status), (0, 3));
     Ok(())
 }
