@@ -222,10 +222,8 @@ def requested(chance, trees, path):
             [folder, folder + b"::" + folder, b"", b":", b"/no/such", path, b"\xff", b"relative"]
         )
     else:
-        variables |= {
-            "XDG_DATA_HOME": chance.choice([folder, b"", b"\xff"]),
-            "XDG_DATA_DIRS": chance.choice([folder, b"", b":", b"relative:" + folder]),
-        }
+        variables["XDG_DATA_HOME"] = chance.choice([folder, b"", b"\xff"])
+        variables["XDG_DATA_DIRS"] = chance.choice([folder, b"", b":", b"relative:" + folder])
     return Case("complgen", words, variables)
 
 
@@ -260,7 +258,8 @@ def with_lines(chance, path):
         file.write(odd_lines(chance))
     asked = chance.choice([b"--onto", b"-o", b"--image", b"--package", b"--user", b"--host", b"--program"])
     before = chance.choice([[], [asked], [asked + b"="], odd_words(chance, 3)])
-    variables = asking(chance) | {
+    variables = {
+        **asking(chance),
         "COMPLETE": chance.choice(SHELLS), "COMPLGEN_PATH": folder,
         "_COMPLGEN_VALUES": chance.choice(["ask", "stdin"]),
     }
@@ -273,7 +272,7 @@ def with_lines(chance, path):
 def odd_lines(chance):
     ends = [b"\n", b"\n", b"\n", b"\r\n", b""]
     lines = (chance.choice(LINE_PIECES) + chance.choice(LINE_PIECES) + chance.choice(ends) for _ in range(40))
-    return b"".join(lines) if chance.randrange(8) else chance.randbytes(3000)
+    return b"".join(lines) if chance.randrange(8) else chance.getrandbits(24000).to_bytes(3000, "little")
 
 
 def words_over(chance, path):
@@ -315,7 +314,7 @@ def asking(chance):
         "_COMPLGEN_QUOTE": chance.choice(["", "'", '"', "`", "''", "é"]),
     }
     asked = {name: value for name, value in values.items() if chance.randrange(5)}
-    return asked if chance.randrange(4) else asked | odd_value(chance, [*values, "HOME"])
+    return asked if chance.randrange(4) else {**asked, **odd_value(chance, [*values, "HOME"])}
 
 
 def odd_value(chance, names):
