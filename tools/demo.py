@@ -46,7 +46,7 @@ TREE = {"name": "app", "args": [
 PARTS = re.compile(
     r"\x1b\[(?P<words>[?>]?[\d;]*)(?P<final>[@-~])|\x1b\][^\x07\x1b]*(?:\x07|\x1b\\)|\x1b[=>]|\x1b[()].|"
     r"(?P<control>[\x00-\x1f\x7f])|(?P<text>[^\x00-\x1f\x7f]+)")
-# What is left at the end of a text that ends within an escape.
+# An escape that is cut off at the end of a text.
 UNFINISHED = re.compile(r"\x1b(?:\[[?>]?[\d;]*|\][^\x07\x1b]*\x1b?|[()])?\Z")
 
 
