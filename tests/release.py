@@ -13,7 +13,7 @@ names the root of an older system, as debootstrap makes one; `system` then runs.
 - importer: `complgen-import`, one file, makes a tree file of a program's help text or of a text, and removes it;
 - system: the older system installs, runs and removes the Debian package, in an empty environment;
 - manuals: `man --warnings` and `mandoc -Tlint -Wwarning` find nothing in the man pages;
-- live: live completion in bash, zsh, fish and Elvish, by the lines of docs/LIVE.md and docs/INSTALL.md;
+- live: live completion in bash, zsh, fish and Elvish, by the lines of docs/LIVE.md and docs/TAB.md;
 - own: the completions of complgen itself in the same shells, by the lines of docs/INSTALL.md;
 - library: symbols, pkg-config, the C examples under valgrind, memory of a program's own, the Python example,
   values from a command;
@@ -334,15 +334,14 @@ def manuals(files):
 
 def live_lines():
     """Returns the lines that set up live completion, by shell."""
-    with open(os.path.join(common.TOP, "docs/LIVE.md"), encoding="utf-8") as file:
-        rows = re.findall(r"^\| (\w+) \| `(~/\S+)`[^|]*\| `(.*)` \|$", file.read(), re.MULTILINE)
+    rows = re.findall(r"^\| (\w+) \| `(~/\S+)`[^|]*\| `(.*)` \|$", document("docs/LIVE.md"), re.MULTILINE)
     lines = {shell.lower(): line.replace("\\|", "|") for shell, file, line in rows}
     check(set(SHELLS) <= lines.keys(), f"docs/LIVE.md has lines for: {sorted(lines)}")
     return lines
 
 
-def install_text():
-    with open(os.path.join(common.TOP, "docs/INSTALL.md"), encoding="utf-8") as file:
+def document(name):
+    with open(os.path.join(common.TOP, name), encoding="utf-8") as file:
         return file.read()
 
 
@@ -352,7 +351,7 @@ def live(files):
     write(os.path.join(home, ".local/share/complgen/app.json"), TREE)
     tried = [(shell, line) for shell, line in live_lines().items() if shell in SHELLS]
     without_proc = 'eval "$(COMPLETE=bash complgen)"'
-    check(without_proc in install_text(), "docs/INSTALL.md lacks the line for bash without /proc")
+    check(without_proc in document("docs/TAB.md"), "docs/TAB.md lacks the line for bash without /proc")
     tried.append(("bash", without_proc))
     done = []
     for shell, line in tried:
@@ -368,7 +367,7 @@ def own(files):
     home, other = files.room(), os.path.join(files.room(), "local")
     files.installed(os.path.join(home, ".local"))
     files.installed(other)
-    text = install_text()
+    text = document("docs/INSTALL.md")
     zsh, elvish = "fpath=(~/.local/share/zsh/site-functions $fpath)", "use complgen"
     fish = "set -a fish_complete_path /usr/local/share/fish/vendor_completions.d"
     for line in (zsh, elvish, fish):

@@ -13,8 +13,8 @@ The parts:
 - lines: types --lines command lines of each tree (40), which --seed draws. What the shell offers and what a Tab
   inserts have to be what the model says. The model is in tests/scripts.d: model.py has the tree and the lines,
   in_bash.py .. have the rules of each shell;
-- loading: each shell finds a script at the place that README names: bash-completion at the first Tab, zsh by `fpath`
-  and `compinit`, fish in its directory, Elvish by `use`;
+- loading: each shell finds a script at the place that docs/INSTALL.md names: bash-completion at the first Tab, zsh
+  by `fpath` and `compinit`, fish in its directory, Elvish by `use`;
 - planted: errors are planted in scripts, one after the other. The lines have to show each.
 
 For each shell, a line tells how many lines were typed, how many of them were as expected, how many show a difference

@@ -27,7 +27,7 @@ def tried(name: str, complgen: str, tree: str) -> List[str]:
 
 
 def put(name: str, scratch: shells.Scratch, script: str) -> str:
-    """Writes the script of a shell to its place, and returns the lines of the start file that README names."""
+    """Writes the script of a shell to its place, and returns the lines of the start file that docs/INSTALL.md names."""
     place = {"bash": ".local/share/bash-completion/completions/app", "zsh": ".zfunc/_app",
              "fish": ".config/fish/completions/app.fish", "elvish": ".config/elvish/lib/app.elv"}[name]
     shells.write(os.path.join(scratch.home, place), script)
