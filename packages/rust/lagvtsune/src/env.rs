@@ -6,7 +6,7 @@
 //! | Shell | Line |
 //! |---|---|
 //! | bash | `source <(COMPLETE=bash app)` |
-//! | Elvish | `eval (E:COMPLETE=elvish app \| slurp)` |
+//! | Elvish | `eval (env COMPLETE=elvish app \| slurp)` |
 //! | fish | `COMPLETE=fish app \| source` |
 //! | zsh | `source <(COMPLETE=zsh app)` |
 //!

@@ -8,8 +8,9 @@ use std::path::PathBuf;
 
 /// Generates the scripts of a shell.
 ///
-/// [`generate`], [`try_generate`] and [`generate_to`] set the bin name of the command, and build it
-/// first, so that it has the arguments and subcommands that clap adds.
+/// [`generate`], [`try_generate`] and [`generate_to`] set the bin name of the command. If the
+/// generator is your own, they also build the command, so that it has the arguments and subcommands
+/// that clap adds.
 ///
 /// ```
 /// use clap::Command;
