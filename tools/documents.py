@@ -3,18 +3,22 @@
 
     tools/documents.py [--sentences]
 
-The documents are the pages at the top, those of docs/, and the README.md of bench/, release/, tests/ and tools/.
+The documents are the pages at the top, those of docs/, and each README.md of bench/, examples/, importer/,
+packages/, release/ and tests/.
 
 - Each code block in Rattle or Rust is in a file of crates/ or examples/, line by line, at any indentation.
   What it imports is imported there.
 - Each file, function and definition in the walks of docs/ARCHITECTURE.md exists.
-- Each link leads to a file. Each named source file exists, such as `quote/src/escape.rt` or `escape.rt`,
-  and so does each named script of bench/, release/, tests/ and tools/.
+- Each link leads to a file, and to a heading of that file if it names one.
+- Each named source file exists, such as `quote/src/escape.rt` or `escape.rt`, and so does each named script of
+  bench/, release/, tests/ and tools/. `complgen WORD` calls a command that exists.
+- Numbers of crates, planted faults and commands are those of the repository.
 
 The script prints how many sentences of each page have more than 30 words, and with --sentences these
 sentences. Then it prints what does not hold. The status is 0 if all of it holds, whatever the sentences are.
 """
 
+import functools
 import glob
 import os
 import re
@@ -32,11 +36,15 @@ def main():
     found, long = [], {}
     for page in pages():
         lines = lines_of(page)
-        found += [f"{page}:{at}: no such file: {link}" for at, link in broken_links(page, lines)]
+        found += [f"{page}:{at}: no such file or heading: {link}" for at, link in broken_links(page, lines)]
         found += [f"{page}:{at}: no such file: {name}" for at, name in unknown_files(lines)]
+        found += [f"{page}:{at}: no such command: complgen {word}" for at, word in unknown_commands(lines)]
+        found += [f"{page}:{at}: not {right}: {text}" for at, text, right in wrong_numbers(lines)]
         if page not in WITHOUT_SENTENCES:
             long[page] = [it for it in sentences(lines) if len(it.split()) > LONG_SENTENCE]
-        found += [f"{page}:{at}: this code is in no source: {line}" for at, line in unknown_blocks(lines)]
+        # cargo tests the code of a package's page.
+        blocks = () if page.startswith("packages") else unknown_blocks(lines)
+        found += [f"{page}:{at}: this code is in no source: {line}" for at, line in blocks]
         if page == WALKS:
             found += [f"{page}:{at}: there is no {name}" for at, name in unknown_names(lines)]
     print_long(long)
@@ -55,8 +63,8 @@ def print_long(long):
 
 
 def pages():
-    found = [path for folder in (".", "docs", "bench", "release", "tests", "tools") for path in paths(f"{folder}/*.md")]
-    return [os.path.relpath(path, TOP) for path in found]
+    folders = (".", "docs", "bench", "examples/*", "importer", "packages/*/*", "release", "tests", "tools")
+    return [os.path.relpath(path, TOP) for folder in folders for path in paths(f"{folder}/*.md")]
 
 
 def sentences(lines):
@@ -84,22 +92,61 @@ def parts(text):
 
 
 def broken_links(page, lines):
-    folder = os.path.join(TOP, os.path.dirname(page))
+    folder = os.path.dirname(page)
     for at, line in enumerate(lines, 1):
-        for link in re.findall(r"\]\(([^)#\s]+)(?:#[^)]*)?\)", line):
-            if "://" not in link and not os.path.exists(os.path.join(folder, link)):
+        for link in re.findall(r"\]\(([^)\s]+)\)", line):
+            file, _, anchor = link.partition("#")
+            path = os.path.normpath(os.path.join(folder, file)) if file else page
+            if "://" in link:
+                continue
+            if not os.path.exists(os.path.join(TOP, path)) or anchor and anchor not in anchors(path):
                 yield at, link
+
+
+@functools.lru_cache(maxsize=None)
+def anchors(path):
+    """Returns the anchors of the headings of a page, as GitHub makes them."""
+    found, is_code = [], False
+    for line in lines_of(path):
+        is_code ^= line.lstrip().startswith("```")
+        if line.startswith("#") and not is_code:
+            text = re.sub(r"\]\([^)]*\)", "", line.lstrip("#").strip().lower())
+            found.append(re.sub(r"[^\w -]", "", text).replace(" ", "-"))
+    # A heading that a page has again gets a number.
+    again = [f"{it}-{found[:at].count(it)}" for at, it in enumerate(found) if it in found[:at]]
+    return {*found, *again}
 
 
 def unknown_files(lines):
     """Yields source files and scripts that do not exist. A name in capitals is a placeholder."""
     for at, line in enumerate(lines, 1):
-        for name in re.findall(r"`((?:bench|release(?!/out)|tests|tools)/[\w./-]+)", line):
+        for name in re.findall(r"(?:`|^\s*\$? ?)((?:bench|release(?!/out)|tests|tools)/[\w./-]+)", line):
             if not os.path.exists(os.path.join(TOP, name)) and not re.search("[A-Z]", name):
                 yield at, name
         for name in re.findall(r"`([\w/.-]+\.(?:rt|antt|rs))`", line):
             if not name.split(".")[0].isupper() and not any(path.endswith(f"/{name}") for path in PATHS):
                 yield at, name
+
+
+def unknown_commands(lines):
+    """Yields words that follow `complgen` in code, and are none of its commands."""
+    is_code = False
+    for at, line in enumerate(lines, 1):
+        is_code ^= line.lstrip().startswith("```")
+        codes = re.split(r"[|;&]", line) if is_code else re.findall(r"`([^`]+)`", line)
+        for code in codes:
+            for word in re.findall(r"^\s*(?:\$ )?(?:\./)?complgen ([a-z]+)(?=[ `]|$)", code):
+                if word not in COMMANDS:
+                    yield at, word
+
+
+def wrong_numbers(lines):
+    """Yields numbers of things in the repository that are not as stated, each with the right number."""
+    for at, line in enumerate(lines, 1):
+        for things, right in COUNTS.items():
+            for found in re.finditer(things, line):
+                if int(found[1]) != right:
+                    yield at, found[0], right
 
 
 def unknown_blocks(lines):
@@ -175,6 +222,14 @@ def paths(pattern):
 
 PATHS = [path for end in ("rt", "antt", "rs") for path in paths(f"*/**/*.{end}")]
 SOURCES = files("crates/*/src/**/*.rt") + files("examples/**/*.rs")
+COMMANDS = set(re.findall(r'Some\(\("([a-z]+)"', "\n".join(lines_of("crates/complgen_command_line/src/words.rt"))))
+COUNTS = {
+    r"\b(\d\d+) crates\b": sum(":" in line and line[0] != "#" for line in lines_of("crates.txt")),
+    r"\b(\d\d+) planted faults\b": len(paths("crates/*/must-fail/*.edit")),
+    r"\b(\d+) commands of `complgen`": len(COMMANDS),
+    r"\bclauses have it as (\d+)\b": int(re.findall(r"MOST_KEYS: usize = (\d+)", "\n".join(
+        lines_of("crates/complgen_tree_file/src/values.rt")))[0]),
+}
 DEFINITIONS = "\n".join(line for lines in files("crates/*/specs/**/*.antt") for line in lines)
 
 if __name__ == "__main__":
