@@ -68,7 +68,7 @@ lagvtsune = {{ path = "{}" }}
 """
 
 
-# What the examples print if a shell asks for the users of the system, and lines that a command may have printed.
+# The words that the examples print if a shell asks for the users of the system, and lines of a command.
 USERS = "".join(f"{word}\v" for word in ("cut", "-d:", "-f1", "/etc/passwd"))
 LINES = "one\tthe first\ntwo\n"
 # The number of bytes of a command's output that count.

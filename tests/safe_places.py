@@ -12,7 +12,7 @@ import subprocess
 PROBES = ("x$(hit)", "x`hit`", "x;hit", "x';hit;\"", "x\\$(hit)", "x\\x41y")
 
 # A place has a name, what is typed before and after the word, and the shells in which a value must be
-# inserted there at least once. `app` stands for the name of a program. At a line feed, the script presses
+# inserted there at least once. `app` means the name of a program. At a line feed, the script presses
 # Enter.
 Place = collections.namedtuple("Place", "name before after inserts")
 

@@ -41,7 +41,7 @@ from typing import Any, Dict, List, Optional, Sequence, Tuple, Type
 SHELLS = ("bash", "zsh", "fish", "elvish")
 LONGEST = 60
 READY, MORE = "<ready> ", "<more> "
-# What a shell may ask the terminal, and the answers: the place of the cursor, and the kind of terminal.
+# Questions of a shell to the terminal, and the answers: the place of the cursor, and the kind of terminal.
 ANSWERS = ((b"\x1b[6n", b"\x1b[1;1R"), (b"\x1b[c", b"\x1b[?62c"), (b"\x1b[0c", b"\x1b[?62c"))
 CLEAR_LINE, INTERRUPT = "\x15", "\x03"
 
@@ -387,7 +387,7 @@ class Bash(Shell):
     name = "bash"
     start_file = ".bashrc"
     offering = "\x1b*"
-    # After one of these, readline completes only the rest of a word.
+    # After one of these signs, readline completes only the end of a word.
     breaks = "=:@"
 
     def start_text(self, source: str, setup: str) -> str:

@@ -16,7 +16,7 @@ SEEN = "; and __fish_seen_subcommand_from "
 UNREACHABLE = "entered unreachable code"
 
 Tree = Dict[str, Any]
-# How a request ends, and the text.
+# The end of a request, and the text.
 Answer = Tuple[str, str]
 # Two texts, or what is read from them.
 Both = Tuple[Any, Any]

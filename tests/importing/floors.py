@@ -18,7 +18,7 @@ from importing.room import Node, Room, TEXTS, names_of, number_of_values, write_
 WIDTHS = (80, 200)
 ABOUTS = ("Keep what is there.", "Say more.", "The order of the parts, from the first to the last one that is left over.",
           "Which of them count, and how often each of them does.", "Do not ask.")
-# What a layout adds itself.
+# The options that a layout adds itself.
 OWN = {"-h", "--help"}
 
 

@@ -59,7 +59,7 @@ def stated_names(text: str) -> Set[str]:
 
 # ---- sound: where a name may come from
 
-# What is before a name: the start of a line, a space, a separator, or a bracket.
+# The start of a line, a space, a separator, or a bracket, before a name.
 BEFORE = r"(?:^|(?<=[\s,|/\[({]))"
 # `--[no-]color` is `--color` and `--no-color`. Other beginnings of a name may be in brackets, too.
 OPTIONAL = re.compile(BEFORE + r"--\[([a-z]+-?)\](" + WORD + r")(?![A-Za-z0-9_+-])", re.MULTILINE)

@@ -23,8 +23,8 @@ pub(crate) const REQUEST: &str = "COMPLETE";
 pub(crate) const INDEX: &str = "_CLAP_COMPLETE_INDEX";
 pub(crate) const SEPARATOR: &str = "_CLAP_IFS";
 
-/// Variables that safe registrations set, besides the one below: whether the locale of bash or zsh
-/// is safe for ASCII only, and what bash keeps of the word; `"` in PowerShell, if a `"` reaches
+/// Variables that safe registrations set: whether the locale of bash or zsh is safe for ASCII only;
+/// the part of the word that bash keeps; the open quote, or in PowerShell `"` if a `"` reaches
 /// programs.
 const SET_BY_SHELLS: [&str; 3] = ["_COMPLGEN_ASCII", "_COMPLGEN_KEPT", "_COMPLGEN_QUOTE"];
 
@@ -56,7 +56,7 @@ pub struct Request<'r> {
     pub(crate) may_run: bool,
 }
 
-/// Whether the shell may run the command of an argument.
+/// Tells whether the shell may run the command of an argument.
 #[derive(Clone, Copy, PartialEq)]
 enum Commands {
     /// It cannot, or the user or the program has turned commands off.

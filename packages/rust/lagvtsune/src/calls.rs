@@ -40,7 +40,7 @@ pub(crate) struct LiveRequest {
     pub(crate) words: Vec<Vec<u8>>,
     /// Names and values, alternating.
     pub(crate) variables: Vec<Vec<u8>>,
-    /// What the command of an argument printed.
+    /// The output of the command of an argument.
     pub(crate) output: Vec<u8>,
     /// The directory whose names the library may use.
     pub(crate) listing: Listing,

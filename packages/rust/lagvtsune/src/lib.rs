@@ -4,7 +4,7 @@
 //! package contains. The package passes it a `clap::Command` as a tree file, in JSON, and the library
 //! writes the script or answers the shell. It is proved that the script contains exactly the
 //! commands and options of the tree file if all names are plain: letters and digits, with single
-//! `-` or `_` between them. It is not proved that the tree file says what the command says.
+//! `-` or `_` between them. It is not proved that the tree file matches the command.
 //!
 //! To write a script:
 //!

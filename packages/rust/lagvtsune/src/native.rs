@@ -269,7 +269,7 @@ pub(crate) struct Request<'r> {
     pub(crate) words: Vec<Bytes<'r>>,
     /// Names and values, alternating.
     pub(crate) variables: Vec<Bytes<'r>>,
-    /// What the command of an argument printed.
+    /// The output of the command of an argument.
     pub(crate) output: &'r [u8],
     /// The path of the directory with these names.
     pub(crate) listed: &'r [u8],

@@ -6,8 +6,8 @@ use crate::tree_file::{External, ValuesFrom};
 use clap::{Arg, Command};
 use std::io;
 
-/// The program that the library is told to run for an argument with a completer. It is never run: the
-/// package calls the completer in its place.
+/// The program that the tree file names for an argument with a completer. It is never run: the
+/// package calls the completer instead.
 const COMPLETER: &str = "lagvtsune-completer";
 
 /// The values of arguments, and the external subcommands of commands.

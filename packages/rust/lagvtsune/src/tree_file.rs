@@ -170,7 +170,7 @@ impl Line<'_> {
 
 /// The place of a command in its tree.
 struct Place<'p> {
-    /// How many of the command's first arguments it had before its parent was built.
+    /// The number of arguments that the command had before its parent was built.
     arg_count: usize,
     /// The global arguments of the commands above.
     globals: &'p [Id],

@@ -175,7 +175,7 @@ fn class_of<'c>(command: &'c Command, word: &str) -> Class<'c> {
 }
 
 /// Returns the first of the characters, a short word without its hyphen, whose argument takes
-/// values, and the rest of the word after it.
+/// values, and the word after this character.
 fn value_character<'c, 'w>(command: &'c Command, word: &'w str) -> Option<(&'c Arg, &'w str)> {
     word.char_indices().find_map(|(at, character)| {
         let arg = command.get_arguments().find(|arg| has_short(arg, character))?;

@@ -96,7 +96,7 @@ fn completers() -> CompleteEnv<'static, fn() -> Command> {
         let unfit = CompletionCandidate::new("two\nlines");
         vec![secret, first, again, unfit, low, "high".into()]
     };
-    // What is typed is repeated, so that the test sees it.
+    // The typed text is repeated, so that the test sees it.
     let repeat = |current: &OsStr| {
         let mut twice = current.to_owned();
         twice.push(current);

@@ -1,5 +1,5 @@
 //! Answers with the values of a completer by one call of the library, if the words show which
-//! argument they ask for. Otherwise the library has to tell that first.
+//! argument is completed. Otherwise a first call of the library returns the argument.
 
 use super::asked::{are_all_hidden, Asked, OverCompleter, CURRENT_DIR};
 use super::STDIN;
@@ -82,7 +82,7 @@ impl Asked<'_> {
     }
 }
 
-/// The answer that is made after the library told which completer the words ask for, if any.
+/// The answer by two calls of the library, of which the first one returns the completer, if any.
 #[cfg(test)]
 pub(crate) struct AfterAsking {
     pub(crate) text: Vec<u8>,

@@ -4,7 +4,7 @@ use clap::builder::StyledStr;
 use std::collections::HashSet;
 use std::ffi::{OsStr, OsString};
 
-/// A value that is offered for an argument, with what a shell may show beside it.
+/// A value that is offered for an argument, with the texts that a shell may show next to it.
 #[derive(Default, Debug, Clone, PartialEq, Eq, PartialOrd, Ord)]
 pub struct CompletionCandidate {
     value: OsString,

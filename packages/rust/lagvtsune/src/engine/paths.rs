@@ -9,7 +9,7 @@ type Filter = Box<dyn Fn(&Path) -> bool + Send + Sync>;
 
 /// Completes a value as a path.
 ///
-/// Directories are offered too if they are not wanted, because wanted files may be below them.
+/// Directories that the filter rejects are offered too, because files below them may pass it.
 #[derive(Default)]
 pub struct PathCompleter {
     current_dir: Option<PathBuf>,
@@ -39,7 +39,7 @@ impl PathCompleter {
         self
     }
 
-    /// Sets which paths are wanted.
+    /// Sets the filter: the paths for which it returns true are offered.
     pub fn filter(
         mut self,
         filter: impl Fn(&Path) -> bool + Send + Sync + 'static,
