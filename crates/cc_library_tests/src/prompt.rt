@@ -23,8 +23,10 @@ fn answer(alloc: Global, value: &str, arguments: &[&str]) -> Result<String, Erro
     let arguments = to_strings(alloc, arguments)?;
     let folder = MemoryFolder::new(&[], &[]);
     let completers = Completers::none(alloc);
+    // A field that is `None` itself is not covered by the borrow checker.
+    let current_dir: Option<&str> = None;
     let sources = Sources {
-        current_dir: None,
+        current_dir,
         folder: &folder,
         completers: &completers,
     };

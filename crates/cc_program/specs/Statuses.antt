@@ -55,6 +55,12 @@ pub data EndsTree {E O X : Type 0} (out : Ghosts O) (err : Ghosts X) (tree : Tre
       → Explains out err (kind_of error) (parser.Says error) old new result
       → EndsTree out err tree parser Does old new result
 
+-- a fact of any matches that the parse of the words by the built tree may return
+abbrev pub HoldsOfMatches : (Result Tree Error → Type 0) → ParserFacts → (ArgMatches → Type 0)
+    → Type 0
+HoldsOfMatches Makes parser Holds = (tree : Tree) → Makes (Ok tree) → (found : ArgMatches)
+    → parser.Parses (built_tree tree) (Ok found) → Holds found
+
 -- The ends of a program that parses its words by the tree that it makes. `Makes` is true of what
 -- its factory may return.
 pub data EndsParse {E O X : Type 0} (out : Ghosts O) (err : Ghosts X)

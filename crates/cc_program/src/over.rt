@@ -1,13 +1,14 @@
 //! A program over values: what it does, apart from where its words and its environment come from.
 
-ghost use Rattle.std.specs.Prelude.{map, string_bytes};
-ghost use Rattle.std.specs.Fn.{FnOnceReturnsAt};
+ghost use Rattle.std.specs.Prelude.{◌≡◌, map, string_bytes};
+ghost use Rattle.std.specs.Fn.{FnOnceReturnsAt, FnOnceTakesAt};
 ghost use Rattle.std.specs.Option.{option_copied};
 ghost use Rattle.cc_asking.specs.OwnAnswers.{AnswersBy, own_parts, requested_of};
 ghost use Rattle.cc_asking.specs.OwnEnds.{EndsOwn};
 ghost use Rattle.cc_engine.specs.Sources.{returned_from};
 ghost use Rattle.cc_env.specs.Steps.{names_of};
-ghost use Rattle.cc_program.specs.Statuses.{EndsParse, EndsProgram, parser_facts};
+ghost use Rattle.cc_env.specs.Wanted.{nothing};
+ghost use Rattle.cc_program.specs.Statuses.{EndsParse, EndsProgram, HoldsOfMatches, parser_facts};
 ghost use Rattle.cc_replies.specs.Environment.{value_of};
 
 use crate::failure::Failure;
@@ -43,7 +44,8 @@ pub struct Program<'s, P, F, C> {
 /// `try_complete_asking` does. Otherwise makes the tree, builds it, and parses the same words with
 /// `program.parser`:
 ///
-/// - if they have matches, calls `program.carry_out` with them, and writes nothing;
+/// - if they have matches, calls `program.carry_out` with them, and writes nothing. It never calls
+///   that with other matches, nor if a completion is requested;
 /// - if they ask for a help text or the version, writes it to `streams.out`;
 /// - if they are wrong, writes the parser's message to `streams.err`.
 ///
@@ -74,7 +76,11 @@ where
     O: Sink,
     X: Sink,
     requires factory { F.IsAlwaysCallable program.completion.factory }
-    requires work { C.IsAlwaysCallable program.carry_out }
+    requires work { requested_of program.completion.shells.0.now
+        (value_of program.completion.variable.now called.now.env.now) ≡ nothing
+        → HoldsOfMatches (λ made. F.post program.completion.factory alloc made)
+        (parser_facts P.WordParser program.parser (map string_bytes called.now.args.now))
+        (λ found. FnOnceTakesAt C.FnOnce program.carry_out found) }
     ensures { EndsProgram (requested_of program.entry.completion.shells.0.now
         (value_of program.entry.completion.variable.now called.now.env.now))
         (λ ended. EndsOwn O.taken O.failed (AnswersBy program.entry.completion.shells.0.now
@@ -121,7 +127,9 @@ where
     O: Sink,
     X: Sink,
     requires factory { F.IsAlwaysCallable completion.now.factory }
-    requires work { C.IsAlwaysCallable carry_out }
+    requires work { HoldsOfMatches (λ made. F.post completion.now.factory alloc made)
+        (parser_facts P.WordParser parser.now (map string_bytes words.now))
+        (λ found. FnOnceTakesAt C.FnOnce carry_out found) }
     ensures { EndsParse O.Sink X.Sink (λ made. F.post completion.now.factory alloc made)
         (parser_facts P.WordParser parser.now (map string_bytes words.now))
         (λ found done. FnOnceReturnsAt C.FnOnce carry_out found done)

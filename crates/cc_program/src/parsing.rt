@@ -1,8 +1,9 @@
 //! Parsing the words of a command line, and what follows.
 
-ghost use Rattle.std.specs.Prelude.{◌≡◌, IsTrue, map, string_bytes};
-ghost use Rattle.std.specs.Fn.{FnOnceReturnsAt};
+ghost use Rattle.std.specs.Prelude.{◌≡◌, IsTrue, Ok, map, string_bytes};
+ghost use Rattle.std.specs.Fn.{FnOnceReturnsAt, FnOnceTakesAt};
 ghost use Rattle.clap.specs.Values.{kind_of};
+ghost use Rattle.clap.specs.declared.parser.matches.ArgMatches.{ArgMatches as Matches};
 ghost use Rattle.cc_program.specs.Messages.{Explains, SaysText, is_out_of_memory, status_of};
 ghost use Rattle.cc_program.specs.Statuses.{Carries, EndsTree, parser_facts};
 
@@ -35,7 +36,9 @@ where
     O: Sink,
     X: Sink,
     requires tree { IsTrue tree.now.node.built }
-    requires work { C.IsAlwaysCallable carry_out }
+    requires work { (found : Matches)
+        → P.parses parser.now tree.now (map string_bytes words.now) (Ok found)
+        → FnOnceTakesAt C.FnOnce carry_out found }
     ensures { EndsTree O.Sink X.Sink tree.now
         (parser_facts P.WordParser parser.now (map string_bytes words.now))
         (λ found done. FnOnceReturnsAt C.FnOnce carry_out found done)
@@ -52,7 +55,7 @@ where
 fn carried<C, E>(carry_out: C, found: &ArgMatches<'_>) -> Result<ExitCode, Failure<E>>
 where
     C: FnOnce(&ArgMatches<'_>) -> Result<(), E>,
-    requires { C.IsAlwaysCallable carry_out }
+    requires { FnOnceTakesAt C.FnOnce carry_out found.now }
     ensures { Carries (λ done. FnOnceReturnsAt C.FnOnce carry_out found.now done) result }
 {
     match carry_out(found) {

@@ -1,5 +1,6 @@
-use Rattle.std.proofs.Common.{refl}
+use Rattle.std.proofs.Common.{Ok, map, refl, string_bytes, subst}
 use Rattle.std.proofs.lemmas.Result.{err_from_is_err_and}
+use Rattle.cc_command.specs.Tree.{Tree}
 use Rattle.cc_program.specs.Statuses.{not_made, out_of_memory}
 use Rattle.cc_program.proofs.Ends.{parsed_by}
 use Rattle.cc_program.proofs.over.parse_made.Goals as goal
@@ -17,3 +18,9 @@ returns-in_err-build g c =
 pub returns : goal.returns
 returns g c =
     parsed_by _ _ _ _ _ _ _ c.in_ok-tree.tree _ _ c.in_ok-tree.ensures c.in_ok-build.ensures.ok c.parse_tree.ensures
+
+pub parse_tree-requires-clause-work : goal.parse_tree-requires-clause-work
+parse_tree-requires-clause-work g c found parses =
+    c.requires.work c.in_ok-tree.tree c.in_ok-tree.ensures found
+    (subst (λ (built : Tree). g.P.WordParser.parses c.args.parser.now built (map string_bytes c.args.words.now) (Ok found))
+    c.in_ok-build.ensures.ok parses)

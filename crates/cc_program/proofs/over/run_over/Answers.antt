@@ -19,3 +19,7 @@ pub returns : goal.returns
 returns g c =
     let none = none_of _ _ _ _ _ _ _ _ _ c.in_ok-ended.ended c.in-None.is c.in_ok-ended.ensures in
     parsed _ none.0 (parse_untouched _ _ _ _ _ _ _ none.1 _ _ c.parse_made.ensures)
+
+pub parse_made-requires-clause-work : goal.parse_made-requires-clause-work
+parse_made-requires-clause-work g c =
+    c.requires.work (none_of _ _ _ _ _ _ _ _ _ c.in_ok-ended.ended c.in-None.is c.in_ok-ended.ensures).0
