@@ -4,8 +4,8 @@
     tests/all.py [--at-once N] [NAME..]      without a name: all, as in tests/all.py hostile live
 
 It also runs the tools that compare documents with the code. The programs are the proved ones, or those that the
-variables COMPLGEN and LARDER name. It installs nothing, and takes less than 15 minutes on four processors. As many
-scripts run at once as there are processors, or N.
+variables COMPLGEN, LARDER and LIBRARY_CALLS name. It installs nothing, and takes less than 15 minutes on four
+processors. As many scripts run at once as there are processors, or N.
 
 It prints a line for each script: whether it passed, its seconds, and the last line of its output. If a script fails,
 its output follows. A script that needs more is skipped, with a line that says what it needs. The last line has the
@@ -25,12 +25,11 @@ from typing import List, NamedTuple, Tuple
 
 sys.path.append(os.path.join(os.path.dirname(os.path.realpath(__file__)), "..", "tools"))
 import common
-import refusals
 from shells import SHELLS
 
 MOST_SECONDS = 1800
 MOST_LINES = 40
-PROGRAMS = ("complgen", "larder")
+PROGRAMS = ("complgen", "larder", "library_calls")
 # The parts of these scripts without those that measure times, which need a machine that does nothing else.
 SAFE_PARTS = ("values", "files", "folders", "words", "typed", "random", "places", "settings", "locales")
 VALUE_PARTS = ("branches", "words", "many", "ends", "off", "order", "files", "examples", "hints")
@@ -102,8 +101,8 @@ def tested(programs: List[str], tools: List[str], *words: str) -> Test:
 
 
 def refused() -> Test:
-    """Returns the test of refused allocations: without a new program `bench_calls`, only `complgen` runs."""
-    return tested(["complgen"], ["cc"], "tests/refusals.py", *([] if refusals.kept_program()[1] else ["--whole"]))
+    """Returns the test of refused allocations: without the program `library_calls`, only `complgen` runs."""
+    return tested(["complgen"], ["cc"], "tests/refusals.py", *([] if is_built("library_calls") else ["--whole"]))
 
 
 def needs_of_folders() -> List[str]:

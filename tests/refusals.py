@@ -1,14 +1,13 @@
 #!/usr/bin/env python3
 """Makes each allocation of each call fail in turn, and each sink after each byte.
 
-    tests/refusals.py [--calls FILE] [CALL..]
+    tests/refusals.py [CALL..]
     tests/refusals.py --whole
 
-The program `bench_calls` makes a call of the library over a small command. Without --calls, `rt ci`
-proves and builds it from tests/refusals.d/bench_calls in a copy of the crates, and it is kept until a
-source is newer. `cc` compiles tests/refusals.d/refuse.c, a preloaded library that makes allocations
-fail. Without a CALL, all calls are made, and then `complgen` runs as a whole. With --whole, only
-`complgen` runs.
+The proved program `library_calls` makes a call of the library over a small command. `cc` compiles
+tests/refusals.d/refuse.c, a preloaded library that makes allocations fail. Without a CALL, all calls are
+made, and then `complgen` runs as a whole. With --whole, only `complgen` runs. The variables LIBRARY_CALLS
+and COMPLGEN name other programs.
 
 These rules are checked:
 
@@ -16,7 +15,7 @@ These rules are checked:
   and the kind of the sink. If its sink accepts nothing more, the kind is `WriteZero`;
 - then the command and all below it are as they were before the call, or as the call leaves them. After
   `build` they are as before, and if the sink failed, as the call leaves them. `state.rt` of
-  `bench_calls` reads them by the getters;
+  `library_calls` reads them by the getters;
 - the same call, repeated with enough memory and room, writes the text or the file that it writes if
   nothing fails;
 - a generator whose first allocation fails has written nothing. `write_complete` and `try_complete` have
@@ -35,8 +34,6 @@ import argparse
 import collections
 import concurrent.futures
 import os
-import pathlib
-import shutil
 import subprocess
 import sys
 import tempfile
@@ -68,7 +65,7 @@ def main():
         subprocess.run(["cc", "-O2", "-shared", "-fPIC", "-o", refuse, source], check=True)
         with concurrent.futures.ThreadPoolExecutor(os.cpu_count()) as pool:
             if calls != []:
-                try_calls(options.program or placed_program(), calls, refuse, pool)
+                try_calls(common.program("library_calls"), calls, refuse, pool)
             for words in [] if calls else whole_runs(folder):
                 tried_run(common.program("complgen"), words, folder, refuse, pool)
     print(
@@ -80,7 +77,6 @@ def main():
 
 def arguments():
     parser = argparse.ArgumentParser(usage=common.usage(__doc__))
-    parser.add_argument("--calls", dest="program", type=os.path.realpath)
     parser.add_argument("--whole", action="store_true")
     parser.add_argument("calls", nargs="*", metavar="CALL")
     return parser.parse_args()
@@ -91,55 +87,6 @@ def try_calls(program, names, refuse, pool):
     before = Call(program, "write_registration bash", refuse).run().state
     for name in names or calls_of(program):
         tried_call(Call(program, name, refuse), before, pool)
-
-
-def kept_program():
-    """Returns the path of the program `bench_calls`, and whether it is newer than all sources."""
-    source = pathlib.Path(SOURCES, "bench_calls")
-    path = source / "out" / "bench_calls"
-    files = [*source.iterdir(), *pathlib.Path(common.TOP, "crates").glob("*/s*/**/*.*t*")]
-    newest = max(file.stat().st_mtime for file in files)
-    return path, path.exists() and path.stat().st_mtime > newest
-
-
-def placed_program():
-    """Returns the path of `bench_calls`, which is first proved and built if a source is newer."""
-    source = pathlib.Path(SOURCES, "bench_calls")
-    program, is_new = kept_program()
-    if is_new:
-        return str(program)
-    with tempfile.TemporaryDirectory() as folder:
-        # If root runs the gate, the gate runs programs as nobody.
-        os.chmod(folder, 0o711)
-        copy = pathlib.Path(folder, "copy")
-        (copy / ".git").mkdir(parents=True)
-        shutil.copy(os.path.join(common.TOP, "HANDLES"), copy)
-        lines = needed_lines("bench_calls: clap_complete")
-        (copy / "crates.txt").write_text("".join(f"{line}\n" for line in lines.values()))
-        ignored = shutil.ignore_patterns("out", "must-fail", "more-faults")
-        for name in lines.keys() - {"bench_calls"}:
-            shutil.copytree(os.path.join(common.TOP, "crates", name), copy / "crates" / name, ignore=ignored)
-        crate = copy / "crates" / "bench_calls"
-        (crate / "src").mkdir(parents=True)
-        for file in source.iterdir():
-            name = file.name.removesuffix(".txt")
-            shutil.copy(file, crate / "src" / name if name.endswith(".rt") else crate / name)
-        print("proving and building bench_calls", file=sys.stderr)
-        subprocess.run(["rt", "ci"], cwd=copy, check=True, stdout=sys.stderr)
-        program.parent.mkdir(exist_ok=True)
-        shutil.copy(crate / "out" / "bench_calls", program)
-    return str(program)
-
-
-def needed_lines(line):
-    """Returns this line of crates.txt and those of the crates that it needs, by their names."""
-    known, lines, left = common.crate_lines(), {}, [line]
-    while left:
-        line = left.pop()
-        lines[line.split(":")[0]] = line
-        names = line.split(":")[1].split()
-        left += [known[name] for name in names if name in known and name not in lines]
-    return lines
 
 
 def calls_of(program):

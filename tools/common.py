@@ -1,6 +1,6 @@
 """Helpers for the scripts of bench/, tests/ and tools/: paths, programs, callgrind and cargo.
 
-The scripts run the proved programs. The variables COMPLGEN and LARDER name others:
+The scripts run the proved programs. The variables COMPLGEN, LARDER and LIBRARY_CALLS name others:
 
     COMPLGEN=../other/complgen tests/hostile.py
 """
@@ -20,7 +20,10 @@ EXAMPLES = os.path.join(TOP, "examples")
 SHELLS = ("bash", "elvish", "fish", "nushell", "powershell", "zsh")
 LIVE_SHELLS = ("bash", "elvish", "fish", "powershell", "zsh")
 # Commands that build the programs.
-BUILDERS = {"complgen": "./complgen --prove", "larder": "rt run in crates/larder"}
+BUILDERS = {
+    "complgen": "./complgen --prove", "larder": "rt run in crates/larder",
+    "library_calls": "rt run in crates/library_calls",
+}
 # The directory of Debian's packages of crates, and the one that is used instead.
 DEBIAN = "/usr/share/cargo/registry"
 crates_folder = DEBIAN

@@ -14,6 +14,19 @@ use std::alloc::Global;
 const TREE: &str = r#"{"name": "app", "disable_help_flag": true, "disable_help_subcommand": true,
     "subcommands": [{"name": "build"}, {"name": "test"}]}"#;
 
+// Returns the record of these values, which borrows all of them for the same time.
+fn sources_of<'s>(
+    current_dir: Option<&'s str>,
+    folder: &'s MemoryFolder,
+    completers: &'s Completers,
+) -> Sources<'s, MemoryFolder, Completers> {
+    Sources {
+        current_dir,
+        folder,
+        completers,
+    }
+}
+
 // Returns what the program writes for these arguments if the variable has this value, or its error.
 fn answer(alloc: Global, value: &str, arguments: &[&str]) -> Result<String, Error> {
     let mut variables = Vec::new(alloc);
@@ -23,13 +36,7 @@ fn answer(alloc: Global, value: &str, arguments: &[&str]) -> Result<String, Erro
     let arguments = to_strings(alloc, arguments)?;
     let folder = MemoryFolder::new(&[], &[]);
     let completers = Completers::none(alloc);
-    // A field that is `None` itself is not covered by the borrow checker.
-    let current_dir: Option<&str> = None;
-    let sources = Sources {
-        current_dir,
-        folder: &folder,
-        completers: &completers,
-    };
+    let sources = sources_of(None, &folder, &completers);
     let mut out = Collected::new(alloc);
     let factory = |alloc: Global| read(alloc, TREE);
     match answer_prompt(alloc, factory, arguments, &env, &sources, &mut out) {

@@ -1,28 +1,19 @@
 //! A completer and a list that allocate what they return.
 
+ghost use Rattle.std.specs.Prelude.{⊤};
+
 use clap_complete::engine::{CompletionCandidate, ValueCandidates, ValueCompleter};
 use std::alloc::{AllocError, Global};
 
-/// Completes a text with the number of the value after it.
+/// Completes a text to a name that begins with it.
 #[derive(Drop)]
 pub(crate) struct Keys;
 
 impl ValueCompleter for Keys {
-    ghost use Rattle.std.specs.Prelude.{⊤};
-
     ghost completes = { λ _ _ _ _. ⊤ };
 
     fn complete(&self, alloc: Global, text: &str) -> Result<Vec<CompletionCandidate>, AllocError> {
-        self.complete_at(alloc, 0, text)
-    }
-
-    fn complete_at(
-        &self,
-        alloc: Global,
-        number: usize,
-        text: &str,
-    ) -> Result<Vec<CompletionCandidate>, AllocError> {
-        let value = format!(in alloc; "{text}{number}")?;
+        let value = format!(in alloc; "{text}ey")?;
         let mut found = Vec::new(alloc);
         found.push(CompletionCandidate::new(value))?;
         Ok(found)
@@ -34,8 +25,6 @@ impl ValueCompleter for Keys {
 pub(crate) struct Levels;
 
 impl ValueCandidates for Levels {
-    ghost use Rattle.std.specs.Prelude.{⊤};
-
     ghost lists = { λ _ _. ⊤ };
 
     fn candidates(&self, alloc: Global) -> Result<Vec<CompletionCandidate>, AllocError> {

@@ -1,11 +1,11 @@
-//! `bench_calls`: makes a call of the library over a small command, or over a chain of commands.
+//! `library_calls`: makes a call of the library over a small command, or over a chain of commands.
 //! The script `tests/refusals.py` makes its allocations fail and leaves its sink little room.
 //! Without words it prints the names of the calls.
 //!
 //! ```text
-//! bench_calls CALL ROOM            the sink has room for ROOM bytes, and then fails
-//! bench_calls CALL ROOM nothing    the sink has room for ROOM bytes, and then takes nothing
-//! bench_calls 'chain CALL' DEPTH   the call over a chain of DEPTH commands
+//! library_calls CALL ROOM            the sink has room for ROOM bytes, and then fails
+//! library_calls CALL ROOM nothing    the sink has room for ROOM bytes, and then takes nothing
+//! library_calls 'chain CALL' DEPTH   the call over a chain of DEPTH commands
 //! ```
 #![tactic(auto)]
 
