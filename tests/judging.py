@@ -61,10 +61,15 @@ def left_out_in_zsh(quote: str, value: str, typed: str) -> Optional[str]:
     return None
 
 
+def begins_blank(value: str) -> bool:
+    """Tells whether the value begins with a blank that fish would drop: one that is not ASCII."""
+    return value[:1].isspace() and not value[:1].isascii()
+
+
 def left_out_in_fish(value: str, typed: str) -> Optional[str]:
     if value.startswith("~"):
         return "~ in fish"
-    if value[:1].isspace() and not value[:1].isascii():
+    if begins_blank(value):
         return "a blank of Unicode in fish"
     if value.startswith(".") and not typed and fish_hides_dots():
         return "fish hides a leading dot"

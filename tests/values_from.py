@@ -44,7 +44,7 @@ import time
 
 sys.path.append(os.path.join(os.path.dirname(os.path.realpath(__file__)), "..", "tools"))
 import common
-from judging import Count, forms, left_out
+from judging import Count, begins_blank, forms, left_out
 from shells import LONGEST, SHELLS, TreeScratch, started, unlink, write
 
 PARTS = ("protocol", "random", "branches", "words", "many", "ends", "off", "order", "files", "examples", "hints")
@@ -250,7 +250,7 @@ def fish_reply(given, split):
         if value and not value.startswith("-") and not any(map(is_control, value)):
             found.setdefault(value, "\t" + help_text if help_text else "")
     # fish would read `~name` as a home directory
-    offered = (value for value in found if not re.match("~(?!/)", value))
+    offered = (value for value in found if not re.match("~(?!/)", value) and not begins_blank(value))
     return "".join(f"{value}{found[value]}\n" for value in offered)
 
 
