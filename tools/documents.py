@@ -12,7 +12,7 @@ packages/, release/ and tests/.
 - Each link leads to a file, and to a heading of that file if it names one.
 - Each named source file exists, such as `quote/src/escape.rt` or `escape.rt`, and so does each named script of
   bench/, release/, tests/ and tools/. `complgen WORD` calls a command that exists.
-- Numbers of crates, planted faults and commands are those of the repository.
+- Numbers of crates, planted faults, commands, keys and promises are those of the repository.
 
 The script prints how many sentences of each page have more than 30 words, and with --sentences these
 sentences. Then it prints what does not hold. The status is 0 if all of it holds, whatever the sentences are.
@@ -227,6 +227,7 @@ COUNTS = {
     r"\b(\d\d+) crates\b": sum(":" in line and line[0] != "#" for line in lines_of("crates.txt")),
     r"\b(\d\d+) planted faults\b": len(paths("crates/*/must-fail/*.edit")),
     r"\b(\d+) commands of `complgen`": len(COMMANDS),
+    r"`P1` to `P(\d+)`": sum(bool(re.match(r"\| P\d+ \|", line)) for line in lines_of("docs/PROOFS.md")),
     r"\bclauses have it as (\d+)\b": int(re.findall(r"MOST_KEYS: usize = (\d+)", "\n".join(
         lines_of("crates/complgen_tree_file/src/values.rt")))[0]),
 }
