@@ -12,10 +12,8 @@ from typing import Any, Callable, Counter, Iterator, Optional, Sequence, Tuple
 
 from shells import fish_hides_dots
 
-# The reasons for a value that a shell leaves out at some Tabs only, or in some versions.
+# The reason for a value that a shell leaves out at some Tabs only.
 MAY_LEAVE_OUT = "bash may complete nothing after a `"
-OWN_OPTION = "fish may offer only its own values of an option that it knows"
-ALSO_RECEIVED = (None, MAY_LEAVE_OUT, OWN_OPTION)
 SPECIAL = set("$`\"'\\;&|*?[](){}<>#!~=^% \u00a0\u2003\u3000‘")
 
 
@@ -121,7 +119,7 @@ class Count:
         although nothing ran is made once more, because a busy machine can delay a shell's answer."""
         got, marks = attempt()
         is_left_out = reason is not None and got in prefixes
-        if not marks and not is_left_out and (got != expected or reason not in ALSO_RECEIVED):
+        if not marks and not is_left_out and (got != expected or reason not in (None, MAY_LEAVE_OUT)):
             got, marks = attempt()
         self.judge(what, typed, expected, got, reason, marks, prefixes)
 
@@ -130,7 +128,7 @@ class Count:
         """Counts a try: the expected words, the received words, and what ran."""
         if marks:
             self.say("EVALUATED", what, typed, got, marks)
-        elif got == expected and reason in ALSO_RECEIVED:
+        elif got == expected and reason in (None, MAY_LEAVE_OUT):
             self.found["received"] += 1
         elif got in prefixes:
             self.found["not inserted"] += 1
