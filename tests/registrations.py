@@ -1,12 +1,13 @@
 #!/usr/bin/env python3
-"""Compares the registrations of the archive with docs/TEXTS.md.
+"""Compares the registrations of the archive with docs/TEXTS.md and tests/registrations.d.
 
     tests/registrations.py [--archive FOLDER]
 
 It links the archive as a shared library, and calls that by packages/python/lagvtsune.py. For each shell it
 makes the registrations of the safe set and of the original's, with plain names and with names full of signs.
-It takes the texts from docs/TEXTS.md, and fills in the names as the tables there say. --archive names the
-directory of the archive. Without it, that is crates/complgen_c/out, where `rt lib` leaves it.
+It takes the texts of the original's set from docs/TEXTS.md, and those of the safe set from the files of
+tests/registrations.d. It fills in the names as the tables of docs/TEXTS.md say. --archive names the directory
+of the archive. Without it, that is crates/complgen_c/out, where `rt lib` leaves it.
 
 It prints each text that differs, and a summary. The status is 0 if all are equal. It needs `cc`.
 """
@@ -99,12 +100,12 @@ def main() -> int:
     parser.add_argument("--archive", default=os.path.join(common.TOP, "crates", "complgen_c", "out"))
     with tempfile.TemporaryDirectory() as work:
         library = loaded(parser.parse_args().archive, work)
-        sets = (("Safe registrations", True, filled_safe), ("Registrations", False, filled_original))
+        sets = ((safe_texts(), True, filled_safe), (original_texts(), False, filled_original))
         equal = [
             is_equal(library, shell, safe, names, re.sub(r"«(\w+)»", lambda found: fill(shell, names)[found[1]], text))
-            for section, safe, fill in sets for shell, text in stated(section).items() for names in (PLAIN, SIGNS)
+            for texts, safe, fill in sets for shell, text in texts.items() for names in (PLAIN, SIGNS)
         ]
-    print(f"{len(equal)} registrations, {equal.count(False)} differ from docs/TEXTS.md")
+    print(f"{len(equal)} registrations, {equal.count(False)} differ from the stated texts")
     return 0 if len(equal) == 4 * len(common.LIVE_SHELLS) and all(equal) else 1
 
 
@@ -118,19 +119,28 @@ def loaded(archive: str, work: str) -> ModuleType:
     return importlib.import_module("lagvtsune")
 
 
-def stated(section: str) -> Dict[str, str]:
-    """Returns the texts in a section of the document, by their shells."""
-    with open(os.path.join(common.TOP, "docs", "TEXTS.md"), encoding="utf-8") as file:
-        text = file.read().split(f"\n## {section}\n")[1].split("\n## ")[0]
+def safe_texts() -> Dict[str, str]:
+    """Returns the texts of the safe set, by their shells."""
+    return {shell: contents("tests", "registrations.d", f"{shell}.txt") for shell in SAFE}
+
+
+def original_texts() -> Dict[str, str]:
+    """Returns the texts of the original's set, by their shells."""
+    text = contents("docs", "TEXTS.md").split("\n## Registrations\n")[1].split("\n## ")[0]
     found = re.findall(r"^(\w+)[^\n]*:\n\n```\n(.*?\n)```$", text, re.MULTILINE | re.DOTALL)
     return {shell.lower(): block for shell, block in found}
+
+
+def contents(*path: str) -> str:
+    with open(os.path.join(common.TOP, *path), encoding="utf-8") as file:
+        return file.read()
 
 
 def is_equal(library: ModuleType, shell: str, safe: bool, names: Names, expected: str) -> bool:
     """Tells whether the library makes this text, and prints how its own one differs."""
     variable, name, program, completer = (text.encode() for text in names)
     made = library.registration(shell, program, completer, variable, name, safe)
-    rows = difflib.unified_diff(expected.splitlines(), made.splitlines(), "docs/TEXTS.md", shell, lineterm="", n=0)
+    rows = difflib.unified_diff(expected.splitlines(), made.splitlines(), "stated", shell, lineterm="", n=0)
     print("\n".join(rows), end="" if made == expected else "\n")
     return made == expected
 
