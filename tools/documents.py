@@ -10,13 +10,14 @@ packages/, release/ and tests/.
   What it imports is imported there.
 - Each file, function and definition in the walks of docs/ARCHITECTURE.md exists.
 - Each link leads to a file, and to a heading of that file if it names one.
-- Each named source file exists, such as `quote/src/escape.rt` or `escape.rt`, and so does each named script of
-  bench/, release/, tests/ and tools/. `complgen WORD` calls a command that exists.
+- Each named source file exists, such as `quote/src/escape.rt`, `escape.rt` or `proofs/Lemmas`, and so does each
+  named script of bench/, release/, tests/ and tools/. `complgen WORD` calls a command that exists.
 - Numbers of crates, planted faults, commands, keys and promises are those of the repository.
 - All pages have at most 60,000 words, and README.md at most 1,200. Each text between spaces is a word.
 
 The script prints how many sentences of each page have more than 30 words, and with --sentences these
-sentences. It prints the number of words, and then what does not hold. The status is 0 if all of it holds, whatever the sentences are.
+sentences. It prints the number of words, and then what does not hold. The status is 0 if all of it holds,
+whatever the sentences are.
 """
 
 import functools
@@ -140,6 +141,9 @@ def unknown_files(lines):
         for name in re.findall(r"`([\w/.-]+\.(?:rt|antt|rs))`", line):
             if not name.split(".")[0].isupper() and not any(path.endswith(f"/{name}") for path in PATHS):
                 yield at, name
+        for name in re.findall(r"`(?:crates/)?((?:\w+/)?(?:specs|proofs|must-fail|more-faults)/\w[\w./-]*)`", line):
+            if not any(f"/{name}" in path for path in OF_CRATES):
+                yield at, name
 
 
 def unknown_commands(lines):
@@ -234,6 +238,7 @@ def paths(pattern):
     return sorted(glob.glob(os.path.join(TOP, pattern), recursive=True))
 
 
+OF_CRATES = paths("crates/*/[spm]*/**/*")
 PATHS = [path for end in ("rt", "antt", "rs") for path in paths(f"*/**/*.{end}")]
 SOURCES = files("crates/*/src/**/*.rt") + files("examples/**/*.rs")
 COMMANDS = set(re.findall(r'Some\(\("([a-z]+)"', "\n".join(lines_of("crates/complgen_command_line/src/words.rt"))))
