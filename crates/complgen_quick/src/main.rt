@@ -44,7 +44,7 @@ fn carry_out<R: Env + Files + Print + AllocGlobal>(rt: &R) -> Result<(), Refusal
         return Err(Refusal::from_static(2, NOT_UTF8));
     };
     let words: Vec<String> = words.collect(rt.alloc())?;
-    let Some((folder, wanted)) = read(words.as_slice()) else {
+    let Some((folder, wanted)) = wanted(words.as_slice()) else {
         return Err(Refusal::from_static(1, NEEDS_PROOF));
     };
     let file = contents(rt, folder, wanted.tree)?;
@@ -61,7 +61,7 @@ fn carry_out<R: Env + Files + Print + AllocGlobal>(rt: &R) -> Result<(), Refusal
 }
 
 // Returns the directory of the caller and what the words of `script` name, or `None` for other words.
-fn read(words: &[String]) -> Option<(&str, Wanted<'_>)> {
+fn wanted(words: &[String]) -> Option<(&str, Wanted<'_>)> {
     let [folder, command, words @ ..] = words else {
         return None;
     };
