@@ -22,6 +22,7 @@ const NEEDS_PROOF: &str = concat!(
 );
 
 // What the words of `script` name.
+#[derive(Clone, Copy)]
 struct Wanted<'w> {
     shell: &'w str,
     bin: &'w str,
@@ -44,7 +45,7 @@ fn carry_out<R: Env + Files + Print + AllocGlobal>(rt: &R) -> Result<(), Refusal
         return Err(Refusal::from_static(2, NOT_UTF8));
     };
     let words: Vec<String> = words.collect(rt.alloc())?;
-    let Some((folder, wanted)) = wanted(words.as_slice()) else {
+    let Some((folder, wanted)) = read_words(words.as_slice()) else {
         return Err(Refusal::from_static(1, NEEDS_PROOF));
     };
     let file = contents(rt, folder, wanted.tree)?;
@@ -61,8 +62,8 @@ fn carry_out<R: Env + Files + Print + AllocGlobal>(rt: &R) -> Result<(), Refusal
 }
 
 // Returns the directory of the caller and what the words of `script` name, or `None` for other words.
-fn wanted(words: &[String]) -> Option<(&str, Wanted<'_>)> {
-    let [folder, command, words @ ..] = words else {
+fn read_words(words: &[String]) -> Option<(&str, Wanted<'_>)> {
+    let [_, folder, command, words @ ..] = words else {
         return None;
     };
     let (tree, one, other) = match words {
