@@ -27,7 +27,8 @@ from source import CLAUSE, aliases, exported, find, implementations, items, priv
 LIST = os.path.join(common.TOP, "tools", "calls.txt")
 MODULES = ["", "aot", "aot::utils", "command", "describe", "engine", "env", "parser", "program", "quote"]
 CRATES = [
-    "complgen_tree_file", "complgen_command_line", "complgen_commands", "complgen_check", "complgen_plans", "complgen_c",
+    "complgen_tree_file", "complgen_command_line", "complgen_scripts", "complgen_commands", "complgen_check",
+    "complgen_plans", "complgen_c",
 ]
 LAW = {"Model", "Drop"}
 SHOWN = {"ThisError": "Error"}

@@ -8,11 +8,11 @@ use cc_command::Release;
 use cc_lines::SystemLines;
 use cc_paths::{Folder, RealFolder};
 use cc_replies::{EnvValues, home, variables};
-use complgen_commands::{Refusal, error_refusal};
 use complgen_live::{
     BadTree, OWN_TREE, Origin, ReplyError, Request, command_name, known_names, reply,
     request_words, tree_folders, tree_paths, write_registrations,
 };
+use complgen_scripts::{Refusal, error_refusal};
 use std::alloc::{AllocError, Global};
 use std::borrow::CowStr;
 use std::convert::AsStr;

@@ -9,7 +9,7 @@ mod plans;
 use crate::plans::carry_out_plan;
 use cc_replies::variables;
 use complgen_command_line::{is_shell_request, plan};
-use complgen_commands::{Refusal, WRITE_FAILED};
+use complgen_scripts::{Refusal, WRITE_FAILED};
 use std::alloc::AllocError;
 use std::convert::AsStr;
 use std::env::{self, Env};

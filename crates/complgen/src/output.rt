@@ -1,7 +1,7 @@
 //! Writes to the standard output through a buffer.
 
 use cc_base::Counted;
-use complgen_commands::{Refusal, WRITE_FAILED};
+use complgen_scripts::{Refusal, WRITE_FAILED};
 use std::alloc::AllocError;
 use std::io::{self, BufWriter, Printer, Write};
 

@@ -4,11 +4,11 @@ use Rattle.cc_base.specs.Collected.{collected_bytes, collected_failures}
 use Rattle.cc_base.specs.Sink.{none_failed}
 use Rattle.cc_base.specs.declared.collected.Collected.{Collected}
 use Rattle.cc_shell.specs.declared.shell.Shell.{Shell}
-use Rattle.complgen_commands.specs.declared.refusals.Refusal.{Refusal}
-use Rattle.complgen_commands.specs.ScriptEnds.{EndsScript, NamedScriptReads, known_shell, unknown_shell}
-use Rattle.complgen_commands.specs.Scripts.{IsScript, SharesLabel}
-use Rattle.complgen_commands.specs.Writing.{Finishes, Untouched, no_tree, no_text, out_of_memory}
-use Rattle.complgen_commands.specs.Writing.{out_of_memory_in_text, write_failed, written}
+use Rattle.complgen_scripts.specs.declared.refusals.Refusal.{Refusal}
+use Rattle.complgen_scripts.specs.ScriptEnds.{EndsScript, NamedScriptReads, known_shell, unknown_shell}
+use Rattle.complgen_scripts.specs.Scripts.{IsScript, SharesLabel}
+use Rattle.complgen_scripts.specs.Writing.{Finishes, Untouched, no_tree, no_text, out_of_memory}
+use Rattle.complgen_scripts.specs.Writing.{out_of_memory_in_text, write_failed, written}
 use Rattle.complgen_c.specs.Outcomes.{FailsInMemory}
 use Rattle.complgen_c.specs.Scripts.{EndsWithText, MakesScript}
 use Rattle.complgen_c.specs.Scripts as ends

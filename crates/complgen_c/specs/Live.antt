@@ -9,8 +9,8 @@ use Rattle.cc_engine.specs.Paths.{PathsOf}
 use Rattle.cc_paths.specs.Folders.{FolderFacts}
 use Rattle.cc_replies.specs.Environment.{value_of}
 use Rattle.cc_replies.specs.declared.environment.EnvValues.{EnvValues}
-use Rattle.complgen_commands.specs.Refusals.{IsOutOfMemory, IsRefusal, Reports}
-use Rattle.complgen_commands.specs.declared.refusals.Refusal.{Refusal}
+use Rattle.complgen_scripts.specs.Refusals.{IsOutOfMemory, IsRefusal, Reports}
+use Rattle.complgen_scripts.specs.declared.refusals.Refusal.{Refusal}
 use Rattle.complgen_live.specs.Answers.{AnswersRequest, Parts}
 use Rattle.complgen_live.specs.declared.reply_errors.ReplyError.{ReplyError}
 use Rattle.complgen_live.specs.declared.reply_errors.ReplyError.TheVariants.{Library, Tree}

@@ -1,8 +1,8 @@
 -- The outcome of a call, and how an exported function returns it.
 use Rattle.std.specs.Prelude.{◌≡◌, ◌≤◌, ◌<◌, ◌++◌, ℕ, List, [], length, drop}
 use Rattle.cc_base.specs.declared.failures.Failures.{Failures}
-use Rattle.complgen_commands.specs.Refusals as refusals
-use Rattle.complgen_commands.specs.declared.refusals.Refusal.{Refusal}
+use Rattle.complgen_scripts.specs.Refusals as refusals
+use Rattle.complgen_scripts.specs.declared.refusals.Refusal.{Refusal}
 use Rattle.complgen_c.specs.declared.outcome.Outcome.{Outcome}
 use Rattle.complgen_c.specs.declared.outcome.Outcome.TheVariants.{Failed, Made, NotRequested, NotUtf8, Run, WantsFolder}
 

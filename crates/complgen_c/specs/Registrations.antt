@@ -6,8 +6,8 @@ use Rattle.cc_env.specs.Builtins.{CompleterSpec, all_builtins, builtin_spec}
 use Rattle.cc_env.specs.SafeShells.{all_safe, safe_spec}
 use Rattle.cc_env.specs.Steps.{IsRegistration, Names}
 use Rattle.cc_env.specs.Wanted.{IsUnknownShell}
-use Rattle.complgen_commands.specs.Refusals.{IsOutOfMemory, Reports}
-use Rattle.complgen_commands.specs.declared.refusals.Refusal.{Refusal}
+use Rattle.complgen_scripts.specs.Refusals.{IsOutOfMemory, Reports}
+use Rattle.complgen_scripts.specs.declared.refusals.Refusal.{Refusal}
 use Rattle.complgen_c.specs.declared.outcome.Outcome.{Outcome}
 use Rattle.complgen_c.specs.declared.outcome.Outcome.TheVariants.{Failed, Made, NotUtf8}
 use Rattle.complgen_c.specs.declared.registrations.PassedNames.{PassedNames}

@@ -2,8 +2,8 @@
 use Rattle.std.specs.Prelude.{ℕ, List, [], Some, Result, Ok, Err}
 use Rattle.std.specs.Str.{IsUtf8}
 use Rattle.cc_base.specs.Sink.{none_failed}
-use Rattle.complgen_commands.specs.declared.refusals.Refusal.{Refusal}
-use Rattle.complgen_commands.specs.ScriptEnds.{EndsScript, NamedScriptReads}
+use Rattle.complgen_scripts.specs.declared.refusals.Refusal.{Refusal}
+use Rattle.complgen_scripts.specs.ScriptEnds.{EndsScript, NamedScriptReads}
 use Rattle.complgen_c.specs.declared.outcome.Outcome.{Outcome}
 use Rattle.complgen_c.specs.declared.outcome.Outcome.TheVariants.{Failed, Made, NotUtf8}
 

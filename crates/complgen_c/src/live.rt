@@ -19,8 +19,8 @@ use cc_asking::{Answer, PassedLines, write_run_words};
 use cc_base::{Collected, Error, Items, Text};
 use cc_command::Release;
 use cc_replies::EnvValues;
-use complgen_commands::{Refusal, error_refusal};
 use complgen_live::{Origin, ReplyError, Request, answer_request};
+use complgen_scripts::{Refusal, error_refusal};
 use std::alloc::{AllocError, Global};
 
 // The variable with the path of the user's home directory.

@@ -4,7 +4,7 @@ ghost use Rattle.std.specs.Prelude.{◌≡◌};
 ghost use Rattle.complgen_c.specs.Outcomes.{Copies, Returns, status_of, text_of};
 
 use cc_base::{Items, Text};
-use complgen_commands::Refusal;
+use complgen_scripts::Refusal;
 
 /// The outcome of a call. Each has a status and a text, which an exported function returns.
 #[derive(Drop)]

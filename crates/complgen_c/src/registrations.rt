@@ -10,7 +10,7 @@ ghost use Rattle.complgen_c.specs.Registrations.{text_names};
 use crate::outcome::Outcome;
 use cc_base::{Collected, Items};
 use cc_env::{EnvCompleter, Shells, known_shell};
-use complgen_commands::{Refusal, error_refusal};
+use complgen_scripts::{Refusal, error_refusal};
 use std::alloc::{AllocError, Global};
 
 /// The names in a registration, as the caller passes them.

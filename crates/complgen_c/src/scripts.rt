@@ -8,7 +8,7 @@ ghost use Rattle.complgen_c.specs.Scripts.{MakesScript};
 use crate::outcome::Outcome;
 use cc_base::{Collected, Items, Sink};
 use cc_command::Release;
-use complgen_commands::{Refusal, script};
+use complgen_scripts::{Refusal, script};
 use std::alloc::{AllocError, Global};
 
 /// Makes the script for the shell with the name `shell`, of the command in the tree file `tree`,

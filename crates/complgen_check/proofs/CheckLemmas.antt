@@ -4,9 +4,9 @@ use Rattle.cc_base.specs.Writes.{CountsWrite, IsMemoryOrWrite}
 use Rattle.cc_base.specs.declared.error.Error.{Error}
 use Rattle.cc_base.specs.declared.error.Error.TheVariants.{Memory, Write}
 use Rattle.cc_base.specs.declared.failures.Failures.{Failures}
-use Rattle.complgen_commands.specs.declared.refusals.Refusal.{Refusal}
-use Rattle.complgen_commands.specs.Refusals.{IsRefusal}
-use Rattle.complgen_commands.specs.Refusals.{Reports, unreadable_line}
+use Rattle.complgen_scripts.specs.declared.refusals.Refusal.{Refusal}
+use Rattle.complgen_scripts.specs.Refusals.{IsRefusal}
+use Rattle.complgen_scripts.specs.Refusals.{Reports, unreadable_line}
 use Rattle.complgen_tree_errors.specs.declared.finding.Finding.{Finding}
 use Rattle.complgen_check.specs.Checking.{EndsCheck, Finds, only_notes, out_of_memory, printed}
 use Rattle.complgen_check.specs.Checking.{unreadable, write_failed}

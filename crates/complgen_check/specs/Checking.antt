@@ -27,10 +27,10 @@ use Rattle.complgen_tree_errors.specs.declared.finding.Finding.{Finding}
 use Rattle.complgen_tree_file.specs.TreeFile.{Describes}
 use Rattle.complgen_check.specs.Promises.{HoldPremises}
 use Rattle.complgen_check.specs.TreeWarnings.{built_as, warnings_of}
-use Rattle.complgen_commands.specs.Refusals.{IsOutOfMemory, IsRefusal}
-use Rattle.complgen_commands.specs.declared.refusals.Refusal.{Refusal}
-use Rattle.complgen_commands.specs.Refusals.{error_line, unreadable_line}
-use Rattle.complgen_commands.specs.Writing.{Untouched}
+use Rattle.complgen_scripts.specs.Refusals.{IsOutOfMemory, IsRefusal}
+use Rattle.complgen_scripts.specs.declared.refusals.Refusal.{Refusal}
+use Rattle.complgen_scripts.specs.Refusals.{error_line, unreadable_line}
+use Rattle.complgen_scripts.specs.Writing.{Untouched}
 use Rattle.complgen_check.specs.Report.{report_text}
 use Rattle.complgen_check.specs.declared.report.Report.{Report}
 

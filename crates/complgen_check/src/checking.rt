@@ -14,8 +14,8 @@ use crate::all_warnings::tree_warnings;
 use crate::report::{Report, put_findings};
 use cc_base::{Sink, on_one_line};
 use cc_command::Command;
-use complgen_commands::{Refusal, UNREADABLE, error_refusal};
 use complgen_lints::{Key, Place, Warning};
+use complgen_scripts::{Refusal, UNREADABLE, error_refusal};
 use complgen_tree_errors::{Checked, Finding, Level, Scratch, Source, Step, check_file};
 use std::alloc::{AllocError, Global};
 

@@ -24,8 +24,8 @@ use Rattle.complgen_command_line.specs.CommandLine.{program_line}
 use Rattle.complgen_command_line.specs.Plans.{Enters, EntersOne, GivesDirectory, GivesNames}
 use Rattle.complgen_command_line.specs.Plans.{GivesPage, GivesTree, GivesWords}
 use Rattle.complgen_command_line.specs.Refusals.{Reports, ReportsKind}
-use Rattle.complgen_commands.specs.Refusals.{IsOutOfMemory}
-use Rattle.complgen_commands.specs.declared.refusals.Refusal.{Refusal}
+use Rattle.complgen_scripts.specs.Refusals.{IsOutOfMemory}
+use Rattle.complgen_scripts.specs.declared.refusals.Refusal.{Refusal}
 use Rattle.complgen_command_line.proofs.GivenValues.{first_none, given_value, leaves_value, rows_kept}
 use Rattle.complgen_command_line.proofs.GivenValues.{second_none}
 

@@ -6,8 +6,8 @@ use Rattle.clap.specs.declared.error.kind.ErrorKind.{ErrorKind}
 use Rattle.clap.specs.declared.error.kind.ErrorKind.TheVariants.{DisplayHelp, DisplayVersion}
 use Rattle.clap.specs.declared.error.kind.ErrorKind.TheVariants.{OutOfMemory}
 use Rattle.complgen_command_line.specs.Plans.{Enters, HasBadIndex}
-use Rattle.complgen_commands.specs.Refusals.{IsOutOfMemory, text_of}
-use Rattle.complgen_commands.specs.declared.refusals.Refusal.{Refusal}
+use Rattle.complgen_scripts.specs.Refusals.{IsOutOfMemory, text_of}
+use Rattle.complgen_scripts.specs.declared.refusals.Refusal.{Refusal}
 
 -- the exit status for an error of a parse
 abbrev pub status_of : ErrorKind → ℕ

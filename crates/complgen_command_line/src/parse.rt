@@ -8,7 +8,7 @@ ghost use Rattle.complgen_command_line.specs.Refusals.{ReportsKind};
 
 use clap::ArgMatches;
 use clap::error::{Error, ErrorKind};
-use complgen_commands::Refusal;
+use complgen_scripts::Refusal;
 use std::alloc::{AllocError, Global};
 use std::borrow::CowStr;
 

@@ -9,12 +9,13 @@ ghost use Rattle.complgen_command_line.specs.Plans.{AsksFor, EntersOne, EntersTr
 ghost use Rattle.complgen_command_line.specs.Plans.{GivesPage, GivesTree, GivesWords, HasBadIndex, HasDirectory};
 ghost use Rattle.complgen_command_line.specs.Plans.{HasIndex, HasNames, HasReport, HasWords, words_of};
 ghost use Rattle.complgen_command_line.specs.Refusals.{IsBadIndex, Reports};
-ghost use Rattle.complgen_commands.specs.Refusals.{IsOutOfMemory};
+ghost use Rattle.complgen_scripts.specs.Refusals.{IsOutOfMemory};
 
 use crate::command_line::command_line;
 use crate::parse::{flag, optional, refusal_of, text, value};
 use clap::ArgMatches;
-use complgen_commands::{Plan, Refusal};
+use complgen_commands::Plan;
+use complgen_scripts::Refusal;
 use std::alloc::{AllocError, Global};
 
 const BAD_INDEX: &str = "index: bad number\n";

@@ -2,19 +2,19 @@
 use Rattle.std.proofs.Common.{◌≡◌, ap, refl, subst, sym, ℕ, List, Option, None, Some}
 use Rattle.std.proofs.Common.{true, Result, Ok, Err}
 use Rattle.std.specs.Prelude.{option_map}
-use Rattle.complgen_commands.specs.Refusals.{IsRefusal}
-use Rattle.complgen_commands.specs.declared.refusals.Refusal.{Refusal}
+use Rattle.complgen_scripts.specs.Refusals.{IsRefusal}
+use Rattle.complgen_scripts.specs.declared.refusals.Refusal.{Refusal}
 use Rattle.cc_env.specs.declared.builtin.Builtin.{Builtin}
 use Rattle.cc_base.specs.declared.error.Error.{Error}
 use Rattle.cc_base.specs.declared.error.Error.TheVariants as error
 use Rattle.cc_base.specs.declared.failures.Failures.{Failures}
 use Rattle.cc_command.specs.Tree.{Tree}
 use Rattle.cc_base.specs.Writes.{Writes}
-use Rattle.complgen_commands.specs.Refusals.{Reports, error_line}
+use Rattle.complgen_scripts.specs.Refusals.{Reports, error_line}
 use Rattle.complgen_commands.specs.Registrations.{IsRegistration, Registers, AdapterReads, RegistrationReadsBy}
 use Rattle.complgen_commands.specs.Registrations.{no_registration, registration_by, some_registration}
-use Rattle.complgen_commands.specs.Writing.{Finishes}
-use Rattle.complgen_commands.proofs.WritingLemmas.{ends_failed, ends_written, same}
+use Rattle.complgen_scripts.specs.Writing.{Finishes}
+use Rattle.complgen_scripts.proofs.WritingLemmas.{ends_failed, ends_written, same}
 use Rattle.complgen_tree_file.specs.TreeFile.{HoldsTree}
 
 module _ {S : Type 0} (taken : S → List ℕ) (failed : S → Failures) (message bin : List ℕ)

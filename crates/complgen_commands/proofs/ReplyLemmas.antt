@@ -3,7 +3,7 @@ use Rattle.std.proofs.Common.{◌≡◌, ◌∙◌, ap, refl, subst, sym, ℕ, L
 use Rattle.std.proofs.Common.{Global, String, [], false, true, length, map, IfErr, IfOk, OnOk, inl, inr}
 use Rattle.std.proofs.lemmas.List.{length-map}
 use Rattle.std.specs.String.{string_bytes}
-use Rattle.complgen_commands.specs.declared.refusals.Refusal.{Refusal}
+use Rattle.complgen_scripts.specs.declared.refusals.Refusal.{Refusal}
 use Rattle.cc_asking.specs.Completion.{CompletesWith, RefusesWith}
 use Rattle.cc_gather.specs.Values.{MayReturn}
 use Rattle.cc_command.specs.Built.{built_tree}
@@ -17,12 +17,12 @@ use Rattle.cc_base.specs.declared.failures.Failures.{Failures}
 use Rattle.cc_command.specs.Tree.{Tree}
 use Rattle.cc_base.specs.Writes.{IsWrite, Writes}
 use Rattle.cc_replies.specs.Reply.{LinesRead, lines_reply}
-use Rattle.complgen_commands.specs.Refusals.{Reports}
+use Rattle.complgen_scripts.specs.Refusals.{Reports}
 use Rattle.complgen_commands.specs.GivenReplies.{AreFoundWith}
 use Rattle.complgen_commands.specs.Replies.{AreFound, EndsReply, FindsNone, IsOutOfRange, IsReply, IsReplyOf, Paths, only_paths}
-use Rattle.complgen_commands.specs.Writing.{Finishes}
-use Rattle.complgen_commands.proofs.WritingLemmas.{ends_cut_off, ends_rejected, ends_unwritten}
-use Rattle.complgen_commands.proofs.WritingLemmas.{ends_written, same}
+use Rattle.complgen_scripts.specs.Writing.{Finishes}
+use Rattle.complgen_scripts.proofs.WritingLemmas.{ends_cut_off, ends_rejected, ends_unwritten}
+use Rattle.complgen_scripts.proofs.WritingLemmas.{ends_written, same}
 use Rattle.complgen_tree_file.specs.TreeFile.{HoldsTree}
 
 -- why a call that builds the command finds no candidates

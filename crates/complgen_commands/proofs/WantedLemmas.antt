@@ -4,10 +4,10 @@ use Rattle.cc_base.specs.Writes.{IsWrite, Writes}
 use Rattle.cc_base.specs.declared.error.Error.{Error}
 use Rattle.cc_base.specs.declared.failures.Failures.{Failures}
 use Rattle.cc_command.specs.Tree.{Tree}
-use Rattle.complgen_commands.specs.Refusals.{Reports}
-use Rattle.complgen_commands.specs.Writing.{Finishes}
-use Rattle.complgen_commands.specs.declared.refusals.Refusal.{Refusal}
-use Rattle.complgen_commands.proofs.WritingLemmas.{ends_cut_off, ends_written}
+use Rattle.complgen_scripts.specs.Refusals.{Reports}
+use Rattle.complgen_scripts.specs.Writing.{Finishes}
+use Rattle.complgen_scripts.specs.declared.refusals.Refusal.{Refusal}
+use Rattle.complgen_scripts.proofs.WritingLemmas.{ends_cut_off, ends_written}
 use Rattle.complgen_tree_file.specs.TreeFile.{HoldsTree}
 
 module _ {S : Type 0} (taken : S → List ℕ) (failed : S → Failures)

@@ -8,8 +8,8 @@ use Rattle.cc_command.specs.Built.{built_tree}
 use Rattle.cc_command.specs.Tree.{Tree}
 use Rattle.cc_engine.specs.Completion.{is_in_range}
 use Rattle.complgen_commands.specs.Replies.{IsOutOfRange, IsReplyOf, Paths, only_paths}
-use Rattle.complgen_commands.specs.Writing.{Finishes}
-use Rattle.complgen_commands.specs.declared.refusals.Refusal.{Refusal}
+use Rattle.complgen_scripts.specs.Writing.{Finishes}
+use Rattle.complgen_scripts.specs.declared.refusals.Refusal.{Refusal}
 
 -- the candidates are possible ones for the word at the index, with these lines as its values
 pub record AreFoundWith (Finds : Paths) (lines : List ℕ) (words : List (List ℕ)) (index : ℕ)

@@ -1,11 +1,5 @@
-pub mod AllScripts
 pub mod GivenReplies
 pub mod Plans
-pub mod Refusals
 pub mod Registrations
 pub mod Replies
-pub mod ScriptEnds
-pub mod Scripts
-pub mod TreeFiles
 pub mod Wanted
-pub mod Writing

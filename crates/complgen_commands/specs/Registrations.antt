@@ -9,11 +9,11 @@ use Rattle.cc_env.specs.Wanted.{unknown_shell}
 use Rattle.cc_shell.specs.declared.shell.Shell.{Shell}
 use Rattle.cc_shell.specs.Shells.{shell_text}
 use Rattle.cc_command.specs.Tree.{Tree}
-use Rattle.complgen_commands.specs.Refusals.{IsRefusal}
-use Rattle.complgen_commands.specs.declared.refusals.Refusal.{Refusal}
-use Rattle.complgen_commands.specs.Refusals.{error_line}
-use Rattle.complgen_commands.specs.ScriptEnds.{EndsFor}
-use Rattle.complgen_commands.specs.Writing.{Finishes, Untouched}
+use Rattle.complgen_scripts.specs.Refusals.{IsRefusal}
+use Rattle.complgen_scripts.specs.declared.refusals.Refusal.{Refusal}
+use Rattle.complgen_scripts.specs.Refusals.{error_line}
+use Rattle.complgen_scripts.specs.ScriptEnds.{EndsFor}
+use Rattle.complgen_scripts.specs.Writing.{Finishes, Untouched}
 
 -- the environment variable that makes a program reply to a shell
 abbrev pub variable : List ℕ

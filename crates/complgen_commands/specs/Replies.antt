@@ -9,11 +9,11 @@ use Rattle.cc_base.specs.declared.error.Error.TheVariants.{Memory, NoCompletion}
 use Rattle.cc_base.specs.declared.failures.Failures.{Failures}
 use Rattle.cc_command.specs.Tree.{Tree}
 use Rattle.cc_arg.specs.declared.value_hint.ValueHint.{ValueHint}
-use Rattle.complgen_commands.specs.Refusals.{IsRefusal}
-use Rattle.complgen_commands.specs.declared.refusals.Refusal.{Refusal}
+use Rattle.complgen_scripts.specs.Refusals.{IsRefusal}
+use Rattle.complgen_scripts.specs.declared.refusals.Refusal.{Refusal}
 use Rattle.cc_replies.specs.Reply.{LinesRead, lines_reply}
-use Rattle.complgen_commands.specs.Refusals.{error_line}
-use Rattle.complgen_commands.specs.Writing.{Finishes}
+use Rattle.complgen_scripts.specs.Refusals.{error_line}
+use Rattle.complgen_scripts.specs.Writing.{Finishes}
 
 -- the paths that may be found for a value hint and a text
 abbrev pub Paths : Type 1

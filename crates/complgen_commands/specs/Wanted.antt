@@ -10,8 +10,8 @@ use Rattle.cc_command.specs.Built.{built_tree}
 use Rattle.cc_command.specs.Tree.{Tree}
 use Rattle.cc_engine.specs.Completion.{is_in_range}
 use Rattle.complgen_commands.specs.Replies.{IsOutOfRange}
-use Rattle.complgen_commands.specs.Writing.{Finishes}
-use Rattle.complgen_commands.specs.declared.refusals.Refusal.{Refusal}
+use Rattle.complgen_scripts.specs.Writing.{Finishes}
+use Rattle.complgen_scripts.specs.declared.refusals.Refusal.{Refusal}
 
 -- the tokens of texts, and of an array of them
 abbrev pub text_tokens : List (List ℕ) → List Token

@@ -6,9 +6,7 @@ ghost use Rattle.cc_engine.specs.Paths.{PathsOf};
 ghost use Rattle.complgen_commands.specs.GivenReplies.{AreFoundWith, EndsReplyWith};
 ghost use Rattle.complgen_commands.specs.Replies.{FindsNone};
 
-use crate::refusals::{Refusal, error_refusal};
 use crate::replies::{CURRENT_DIR, copies};
-use crate::tree_files::tree;
 use crate::word_at::WordAt;
 use cc_asking::complete_with_lines;
 use cc_base::{Error, Sink};
@@ -17,6 +15,7 @@ use cc_command::Command;
 use cc_engine::Sources;
 use cc_paths::Folder;
 use cc_replies::write_lines;
+use complgen_scripts::{Refusal, error_refusal, tree};
 use std::alloc::Global;
 
 /// Writes the candidates for `word` to `out`, in the form of a reply to fish. If the word asks for

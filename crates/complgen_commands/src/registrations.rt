@@ -9,15 +9,13 @@ ghost use Rattle.complgen_commands.specs.Registrations.{EndsRegistration, IsRegi
 ghost use Rattle.complgen_commands.specs.Registrations.{RegistrationReads};
 ghost use Rattle.complgen_commands.specs.Registrations.{RegistrationReadsBy, no_registration_text, registration_by};
 ghost use Rattle.complgen_commands.specs.Registrations.{registration_for};
-ghost use Rattle.complgen_commands.specs.Refusals.{error_line};
-ghost use Rattle.complgen_commands.specs.Writing.{Finishes};
+ghost use Rattle.complgen_scripts.specs.Refusals.{error_line};
+ghost use Rattle.complgen_scripts.specs.Writing.{Finishes};
 
-use crate::refusals::{Refusal, error_refusal};
-use crate::shells::shell_of;
-use crate::tree_files::tree;
 use cc_base::Sink;
 use cc_env::{Builtin, EnvCompleter, Shells};
 use cc_shell::{Shell, each_shell};
+use complgen_scripts::{Refusal, error_refusal, shell_of, tree};
 use std::alloc::Global;
 
 // The environment variable that makes a program reply to a shell.

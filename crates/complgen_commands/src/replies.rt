@@ -5,8 +5,6 @@ ghost use Rattle.std.specs.Option.{option_copied};
 ghost use Rattle.cc_engine.specs.Paths.{PathsOf};
 ghost use Rattle.complgen_commands.specs.Replies.{AreFound, EndsReply, FindsNone};
 
-use crate::refusals::{Refusal, error_refusal};
-use crate::tree_files::tree;
 use crate::word_at::WordAt;
 use cc_base::{Error, Sink};
 use cc_candidates::{Completers, CompletionCandidate};
@@ -14,6 +12,7 @@ use cc_command::{Command, Release, discard};
 use cc_engine::complete;
 use cc_paths::Folder;
 use cc_replies::write_lines;
+use complgen_scripts::{Refusal, error_refusal, tree};
 use std::alloc::{AllocError, Global};
 
 /// The directory in which relative paths begin.

@@ -7,12 +7,11 @@ ghost use Rattle.complgen_commands.specs.Replies.{FindsNone};
 ghost use Rattle.complgen_commands.specs.Wanted.{EndsWanted, IsWanted, array_line, array_text};
 ghost use Rattle.complgen_commands.specs.Wanted.{array_tokens, text_tokens};
 
-use crate::refusals::{Refusal, error_refusal};
-use crate::tree_files::tree;
 use crate::word_at::WordAt;
 use cc_asking::wanted_command;
 use cc_base::{Error, Sink, Text, put_all};
 use cc_command::Command;
+use complgen_scripts::{Refusal, error_refusal, tree};
 use json::{Token, Writer};
 use std::alloc::{AllocError, Global};
 

@@ -3,9 +3,9 @@ use Rattle.std.proofs.Common.{◌≡◌, ℕ, Bool, true, false, IsTrue, List, O
 use Rattle.cc_base.specs.declared.failures.Failures.{Failures}
 use Rattle.complgen_check.specs.Checking.{AreSound, EndsCheck}
 use Rattle.complgen_check.specs.declared.report.Report.{Report}
-use Rattle.complgen_commands.proofs.WritingLemmas.{same}
-use Rattle.complgen_commands.specs.Refusals.{IsMade, unreadable_at}
-use Rattle.complgen_commands.specs.declared.refusals.Refusal.{Refusal}
+use Rattle.complgen_scripts.proofs.WritingLemmas.{same}
+use Rattle.complgen_scripts.specs.Refusals.{IsMade, unreadable_at}
+use Rattle.complgen_scripts.specs.declared.refusals.Refusal.{Refusal}
 use Rattle.complgen_plans.specs.Checks.{EndsFindings, report_of, status_of}
 
 module _ {S : Type 0} (taken : S → List ℕ) (failed : S → Failures) (bin : Option (List ℕ))

@@ -6,10 +6,10 @@ use Rattle.cc_base.specs.declared.error.Error.TheVariants as error
 use Rattle.cc_base.specs.declared.failures.Failures.{Failures}
 use Rattle.cc_command.specs.Built.{built_under}
 use Rattle.cc_command.specs.Tree.{Tree}
-use Rattle.complgen_commands.proofs.WritingLemmas.{same}
-use Rattle.complgen_commands.specs.Refusals.{Reports}
-use Rattle.complgen_commands.specs.TreeFiles.{ReportsFileAt}
-use Rattle.complgen_commands.specs.declared.refusals.Refusal.{Refusal}
+use Rattle.complgen_scripts.proofs.WritingLemmas.{same}
+use Rattle.complgen_scripts.specs.Refusals.{Reports}
+use Rattle.complgen_scripts.specs.TreeFiles.{ReportsFileAt}
+use Rattle.complgen_scripts.specs.declared.refusals.Refusal.{Refusal}
 use Rattle.complgen_man.specs.Outcome.{LeavesBuilt}
 use Rattle.complgen_man.specs.Page.{man_page}
 use Rattle.complgen_man.specs.Shown.{ReadsBack}

@@ -3,13 +3,13 @@ use Rattle.std.proofs.Common.{◌≡◌, ℕ, List, Option, None, Some, Result, 
 use Rattle.std.proofs.Common.{Global, String, Vec, map, string_bytes}
 use Rattle.std.specs.Result.{result_and}
 use Rattle.cc_base.specs.declared.failures.Failures.{Failures}
-use Rattle.complgen_commands.proofs.WritingLemmas.{same}
+use Rattle.complgen_scripts.proofs.WritingLemmas.{same}
 use Rattle.complgen_commands.specs.GivenReplies.{EndsReplyWith}
-use Rattle.complgen_commands.specs.Refusals.{IsMade, values_unreadable_at}
+use Rattle.complgen_scripts.specs.Refusals.{IsMade, values_unreadable_at}
 use Rattle.complgen_commands.specs.Replies.{EndsReply, Paths}
 use Rattle.complgen_commands.specs.declared.plans.Plan.{Plan}
 use Rattle.complgen_commands.specs.declared.plans.Plan.TheVariants.{Candidates, CandidatesWith}
-use Rattle.complgen_commands.specs.declared.refusals.Refusal.{Refusal}
+use Rattle.complgen_scripts.specs.declared.refusals.Refusal.{Refusal}
 use Rattle.complgen_plans.specs.Ends.{Ends, EndsValues, Succeeds}
 
 -- a call that ends with 0 on success

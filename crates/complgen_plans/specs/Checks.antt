@@ -4,9 +4,9 @@ use Rattle.cc_base.specs.declared.failures.Failures.{Failures}
 use Rattle.complgen_check.specs.Checking.{EndsCheck}
 use Rattle.complgen_check.specs.declared.report.Report.{Report}
 use Rattle.complgen_check.specs.declared.report.Report.TheVariants.{Json, Lines}
-use Rattle.complgen_commands.specs.Refusals.{IsMade, unreadable_at}
-use Rattle.complgen_commands.specs.Writing.{Untouched}
-use Rattle.complgen_commands.specs.declared.refusals.Refusal.{Refusal}
+use Rattle.complgen_scripts.specs.Refusals.{IsMade, unreadable_at}
+use Rattle.complgen_scripts.specs.Writing.{Untouched}
+use Rattle.complgen_scripts.specs.declared.refusals.Refusal.{Refusal}
 
 -- the form of the findings
 abbrev pub report_of : Bool → Report

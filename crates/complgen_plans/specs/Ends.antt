@@ -3,20 +3,20 @@ use Rattle.std.specs.Prelude.{⊤, ◌≡◌, ℕ, List, Option, None, Some, Res
 use Rattle.cc_base.specs.declared.failures.Failures.{Failures}
 use Rattle.cc_shell.specs.declared.shell.Shell.{Shell}
 use Rattle.complgen_check.specs.Checking.{AreSound}
-use Rattle.complgen_commands.specs.AllScripts.{EndsScripts}
+use Rattle.complgen_scripts.specs.AllScripts.{EndsScripts}
 use Rattle.complgen_commands.specs.GivenReplies.{EndsReplyWith}
-use Rattle.complgen_commands.specs.Refusals.{IsMade, values_unreadable_at}
+use Rattle.complgen_scripts.specs.Refusals.{IsMade, values_unreadable_at}
 use Rattle.complgen_commands.specs.Registrations.{EndsRegistration}
 use Rattle.complgen_commands.specs.Replies.{EndsReply, Paths}
-use Rattle.complgen_commands.specs.ScriptEnds.{EndsScript, NamedScriptReads}
-use Rattle.complgen_commands.specs.Scripts.{ScriptReads}
+use Rattle.complgen_scripts.specs.ScriptEnds.{EndsScript, NamedScriptReads}
+use Rattle.complgen_scripts.specs.Scripts.{ScriptReads}
 use Rattle.complgen_commands.specs.Wanted.{EndsWanted}
-use Rattle.complgen_commands.specs.Writing.{Untouched}
+use Rattle.complgen_scripts.specs.Writing.{Untouched}
 use Rattle.complgen_commands.specs.declared.plans.Plan.{Plan}
 use Rattle.complgen_commands.specs.declared.plans.Plan.TheVariants.{Candidates, CandidatesWith}
 use Rattle.complgen_commands.specs.declared.plans.Plan.TheVariants.{Check, Man, Register, Script}
 use Rattle.complgen_commands.specs.declared.plans.Plan.TheVariants.{Scripts, Wanted}
-use Rattle.complgen_commands.specs.declared.refusals.Refusal.{Refusal}
+use Rattle.complgen_scripts.specs.declared.refusals.Refusal.{Refusal}
 use Rattle.complgen_plans.specs.Checks.{EndsFindings}
 use Rattle.complgen_plans.specs.Pages.{EndsPage}
 

@@ -6,10 +6,10 @@ use Rattle.cc_base.specs.declared.error.Error.TheVariants.{Write}
 use Rattle.cc_base.specs.declared.failures.Failures.{Failures}
 use Rattle.cc_command.specs.Built.{built_under}
 use Rattle.cc_command.specs.Tree.{Tree}
-use Rattle.complgen_commands.specs.Refusals.{IsOutOfMemory, IsRefusal, error_line}
-use Rattle.complgen_commands.specs.TreeFiles.{HoldsNoTreeAt}
-use Rattle.complgen_commands.specs.Writing.{Untouched}
-use Rattle.complgen_commands.specs.declared.refusals.Refusal.{Refusal}
+use Rattle.complgen_scripts.specs.Refusals.{IsOutOfMemory, IsRefusal, error_line}
+use Rattle.complgen_scripts.specs.TreeFiles.{HoldsNoTreeAt}
+use Rattle.complgen_scripts.specs.Writing.{Untouched}
+use Rattle.complgen_scripts.specs.declared.refusals.Refusal.{Refusal}
 use Rattle.complgen_man.specs.Page.{man_page}
 use Rattle.complgen_man.specs.Shown.{ReadsBack}
 use Rattle.complgen_tree_file.specs.TreeFile.{HoldsTree}

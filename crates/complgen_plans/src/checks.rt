@@ -7,7 +7,7 @@ ghost use Rattle.complgen_plans.specs.Checks.{EndsFindings, report_of, status_of
 
 use cc_base::Sink;
 use complgen_check::{Report, check};
-use complgen_commands::{Refusal, TreeFile, unreadable};
+use complgen_scripts::{Refusal, TreeFile, unreadable};
 use std::alloc::Global;
 
 /// Writes what is wrong with the tree file `file` to `out`, as JSON if `json` is true. The command

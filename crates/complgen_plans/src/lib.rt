@@ -3,7 +3,8 @@
 //! ```rattle
 //! use cc_base::Collected;
 //! use cc_paths::MemoryFolder;
-//! use complgen_commands::{Plan, Refusal};
+//! use complgen_commands::Plan;
+//! use complgen_scripts::Refusal;
 //! use complgen_plans::{Given, carry_out};
 //! use std::alloc::Global;
 //! use std::rt::Files;

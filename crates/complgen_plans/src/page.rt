@@ -4,8 +4,8 @@ ghost use Rattle.std.specs.Option.{option_copied};
 ghost use Rattle.complgen_plans.specs.Pages.{EndsPage};
 
 use cc_base::Sink;
-use complgen_commands::{Refusal, TreeFile, error_refusal, named_tree};
 use complgen_man::generate_page;
+use complgen_scripts::{Refusal, TreeFile, error_refusal, named_tree};
 use std::alloc::Global;
 
 /// Writes the man page of the command in `file`, built under the name `bin`, to `out`.

@@ -12,9 +12,8 @@ use crate::values::write_candidates;
 use cc_base::Sink;
 use cc_command::Release;
 use cc_paths::Folder;
-use complgen_commands::{
-    Plan, Refusal, TreeFile, WordAt, register, reply, script, scripts, write_wanted,
-};
+use complgen_commands::{Plan, WordAt, register, reply, write_wanted};
+use complgen_scripts::{Refusal, TreeFile, script, scripts};
 use std::alloc::Global;
 use std::rt::Files;
 

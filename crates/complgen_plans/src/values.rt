@@ -8,7 +8,8 @@ ghost use Rattle.complgen_plans.specs.Ends.{EndsValues};
 use crate::given::Given;
 use cc_base::Sink;
 use cc_paths::Folder;
-use complgen_commands::{Refusal, WordAt, reply_with, unreadable_values};
+use complgen_commands::{WordAt, reply_with};
+use complgen_scripts::{Refusal, unreadable_values};
 use std::alloc::Global;
 
 /// Writes the candidates for `word` to `out`, with the lines of the given file as the values that

@@ -1,15 +1,12 @@
-//! Runs the subcommands `script` and `check` of `complgen` for `./complgen`, which compiles this
-//! program without a proof.
+//! Writes a script for `./complgen`, which compiles this program without a proof.
 //!
 //! The first word is the directory of the caller, where a relative path of a tree file begins. The
-//! other words are those of `complgen`.
+//! others are `script`, `--shell SHELL`, `--bin NAME` and the tree file, in any order after `script`.
 #![tactic(auto)]
 
 use cc_base::Counted;
 use cc_command::Release;
-use complgen_check::{Report, check};
-use complgen_command_line::plan;
-use complgen_commands::{Plan, Refusal, script, unreadable};
+use complgen_scripts::{Refusal, script};
 use std::alloc::AllocError;
 use std::convert::AsStr;
 use std::env::{self, Env};
@@ -19,85 +16,94 @@ use std::{fs, io};
 
 const NOT_UTF8: &str = "words: not UTF-8\n";
 
-const NEEDS_PROOF: &str =
-    "complgen: without a proof only `script` and `check` run: call `./complgen --prove` first\n";
+const NEEDS_PROOF: &str = concat!(
+    "complgen: without a proof only `script --shell SHELL --bin NAME TREE` runs: ",
+    "call `./complgen --prove` first\n"
+);
+
+// What the words of `script` name.
+#[derive(Clone, Copy)]
+struct Wanted<'w> {
+    shell: &'w str,
+    bin: &'w str,
+    tree: &'w str,
+}
 
 fn main(rt: HostRuntime) -> ExitCode {
     match carry_out(&rt) {
-        Ok(status) => ExitCode::from(status),
-        Err(refusal) => ExitCode::from(report(&rt, &refusal)),
+        Ok(()) => ExitCode::SUCCESS,
+        Err(refusal) => {
+            let _ = rt.eprint(refusal.text.as_str());
+            ExitCode::from(refusal.status)
+        }
     }
 }
 
-// Carries out the words, and returns the exit status.
-fn carry_out<R: Env + Files + Print + AllocGlobal>(rt: &R) -> Result<u8, Refusal> {
+// Prints the script that the words ask for.
+fn carry_out<R: Env + Files + Print + AllocGlobal>(rt: &R) -> Result<(), Refusal> {
     let Ok(words) = env::args(rt) else {
         return Err(Refusal::from_static(2, NOT_UTF8));
     };
     let words: Vec<String> = words.collect(rt.alloc())?;
-    // The first word, the directory, is where `plan` expects the name of the program.
-    let [_, words @ ..] = words.as_slice() else {
-        return Err(Refusal::from_static(2, NEEDS_PROOF));
+    let Some((folder, wanted)) = read_words(words.as_slice()) else {
+        return Err(Refusal::from_static(1, NEEDS_PROOF));
     };
-    let plan = plan(rt.alloc(), words)?;
-    carry_out_plan(rt, words, &plan)
-}
-
-// Prints the script or the findings that the plan asks for. Returns the exit status, which is 1 if
-// one of the findings is an error or a warning.
-fn carry_out_plan<R: Files + Print + AllocGlobal>(
-    rt: &R,
-    words: &[String],
-    plan: &Plan,
-) -> Result<u8, Refusal> {
-    let alloc = rt.alloc();
-    let file = contents(rt, words, plan.tree())?;
+    let file = contents(rt, folder, wanted.tree)?;
     let file = file.as_ref().map(Vec::as_slice);
     let mut out = Counted::new(io::writer(rt));
-    match plan {
-        Plan::Script(shell, bin, _) => {
-            let (shell, bin) = (shell.as_str(), bin.as_str());
-            script(alloc, shell, bin, file, Release::AtExit, &mut out)?;
-            Ok(0)
-        }
-        Plan::Check { bin, json, tree } => {
-            if file.is_none() {
-                return Err(unreadable(alloc, tree.as_str()));
-            }
-            let report = if *json { Report::Json } else { Report::Lines };
-            let bin = bin.as_ref().map(|bin| bin.as_str());
-            let is_clean = check(alloc, bin, report, file, &mut out)?;
-            Ok(u8::from(!is_clean))
-        }
-        _ => Err(Refusal::from_static(1, NEEDS_PROOF)),
+    script(
+        rt.alloc(),
+        wanted.shell,
+        wanted.bin,
+        file,
+        Release::AtExit,
+        &mut out,
+    )
+}
+
+// Returns the directory of the caller and what the words of `script` name, or `None` for other words.
+fn read_words(words: &[String]) -> Option<(&str, Wanted<'_>)> {
+    let [_, folder, command, words @ ..] = words else {
+        return None;
+    };
+    let (tree, one, other) = match words {
+        [tree, a, b, c, d] if !is_option(tree) => (tree, (a, b), (c, d)),
+        [a, b, tree, c, d] if !is_option(tree) => (tree, (a, b), (c, d)),
+        [a, b, c, d, tree] if !is_option(tree) => (tree, (a, b), (c, d)),
+        _ => return None,
+    };
+    let (shell, bin) = match (command.as_str(), one.0.as_str(), other.0.as_str()) {
+        ("script", "--shell", "--bin") => (one.1, other.1),
+        ("script", "--bin", "--shell") => (other.1, one.1),
+        _ => return None,
+    };
+    if is_option(shell) || is_option(bin) {
+        return None;
     }
+    let wanted = Wanted {
+        shell: shell.as_str(),
+        bin: bin.as_str(),
+        tree: tree.as_str(),
+    };
+    Some((folder.as_str(), wanted))
+}
+
+fn is_option(word: &String) -> bool {
+    word.as_str().starts_with('-')
 }
 
 // Returns the bytes of the file at `path`, or `None` if it cannot be read. A relative path begins
-// in the directory that the first of `words` names.
+// in `folder`.
 fn contents<R: Files + AllocGlobal>(
     rt: &R,
-    words: &[String],
+    folder: &str,
     path: &str,
 ) -> Result<Option<Vec<u8>>, AllocError> {
     let mut whole = String::new(rt.alloc());
-    match words {
-        [folder, ..] if !path.starts_with('/') => {
-            whole.push_str(folder.as_str())?;
-            whole.push_str("/")?;
-        }
-        _ => {}
+    if !path.starts_with('/') {
+        whole.push_str(folder)?;
+        whole.push_str("/")?;
     }
     whole.push_str(path)?;
     Ok(fs::read(rt, whole.as_str()).ok())
-}
-
-// Prints the text of a refusal, and returns the exit status.
-fn report<R: Print + Eprint>(rt: &R, refusal: &Refusal) -> u8 {
-    let text = refusal.text.as_str();
-    let _ = match refusal.status {
-        0 => rt.print(text),
-        _ => rt.eprint(text),
-    };
-    refusal.status
 }

@@ -2,7 +2,7 @@
 
 use crate::checks::is;
 use crate::runs::plan_of;
-use complgen_commands::Refusal;
+use complgen_scripts::Refusal;
 use std::alloc::AllocError;
 use std::process::Abort;
 

@@ -3,8 +3,9 @@
 use cc_base::Sink;
 use cc_paths::MemoryFolder;
 use complgen_command_line::plan;
-use complgen_commands::{Plan, Refusal};
+use complgen_commands::Plan;
 use complgen_plans::{Given, carry_out};
+use complgen_scripts::Refusal;
 use std::alloc::{AllocError, Global};
 use std::rt::Files;
 

@@ -1,7 +1,7 @@
 use Rattle.std.proofs.Common.{refl}
 use Rattle.std.proofs.lemmas.Result.{err_from_is_err_and}
 use Rattle.complgen_commands.proofs.ReplyLemmas.{found_failed, found_written, nothing_found}
-use Rattle.complgen_commands.proofs.WritingLemmas.{ends_unread}
+use Rattle.complgen_scripts.proofs.WritingLemmas.{ends_unread}
 use Rattle.complgen_commands.proofs.given_replies.reply_with.Goals as goal
 
 pub returns-in_err-command : goal.returns-in_err-command

@@ -1,6 +1,6 @@
 use Rattle.std.proofs.lemmas.Result.{err_from_is_err_and}
-use Rattle.complgen_commands.specs.ScriptEnds.{known_shell, unknown_shell}
-use Rattle.complgen_commands.proofs.WritingLemmas.{same}
+use Rattle.complgen_scripts.specs.ScriptEnds.{known_shell, unknown_shell}
+use Rattle.complgen_scripts.proofs.WritingLemmas.{same}
 use Rattle.complgen_commands.proofs.registrations.register.Goals as goal
 
 pub returns-in_err-shell : goal.returns-in_err-shell

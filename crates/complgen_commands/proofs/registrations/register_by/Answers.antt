@@ -1,6 +1,6 @@
 use Rattle.std.proofs.lemmas.Result.{err_from_is_err_and}
 use Rattle.complgen_commands.proofs.RegisterLemmas.{register_failed, registered}
-use Rattle.complgen_commands.proofs.WritingLemmas.{ends_unread}
+use Rattle.complgen_scripts.proofs.WritingLemmas.{ends_unread}
 use Rattle.complgen_commands.proofs.registrations.register_by.Goals as goal
 
 pub returns-in_err-command : goal.returns-in_err-command

@@ -1,6 +1,6 @@
 use Rattle.std.proofs.lemmas.Result.{err_from_is_err_and}
 use Rattle.complgen_commands.proofs.ReplyLemmas.{none_found, reply_failed, reply_written}
-use Rattle.complgen_commands.proofs.WritingLemmas.{ends_unread, ends_unwritten}
+use Rattle.complgen_scripts.proofs.WritingLemmas.{ends_unread, ends_unwritten}
 use Rattle.complgen_commands.proofs.replies.reply.Goals as goal
 
 pub returns-in_err-command : goal.returns-in_err-command

@@ -2,7 +2,7 @@ use Rattle.std.proofs.Common.{refl}
 use Rattle.std.proofs.lemmas.Result.{err_from_is_err_and}
 use Rattle.complgen_commands.proofs.ReplyLemmas.{nothing_found}
 use Rattle.complgen_commands.proofs.WantedLemmas.{text_cut_off, text_written}
-use Rattle.complgen_commands.proofs.WritingLemmas.{ends_unread}
+use Rattle.complgen_scripts.proofs.WritingLemmas.{ends_unread}
 use Rattle.complgen_commands.proofs.wanted.write_wanted.Goals as goal
 
 pub returns-in_err-command : goal.returns-in_err-command

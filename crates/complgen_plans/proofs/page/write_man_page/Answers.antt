@@ -1,6 +1,6 @@
 use Rattle.std.proofs.Common.{sym}
 use Rattle.std.proofs.lemmas.Result.{err_from_is_err_and}
-use Rattle.complgen_commands.proofs.WritingLemmas.{same}
+use Rattle.complgen_scripts.proofs.WritingLemmas.{same}
 use Rattle.complgen_plans.specs.Pages.{out_of_memory}
 use Rattle.complgen_plans.proofs.PageLemmas.{page_failed, page_unread, page_written}
 use Rattle.complgen_plans.proofs.page.write_man_page.Goals as goal

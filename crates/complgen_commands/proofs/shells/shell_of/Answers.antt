@@ -1,9 +1,0 @@
-use Rattle.complgen_commands.proofs.ScriptLemmas.{none_found, unknown_reported}
-use Rattle.complgen_commands.proofs.shells.shell_of.Goals as goal
-
-pub returns-in-Err : goal.returns-in-Err
-returns-in-Err c = (
-  λ shell is. none_found shell c.in-Err.unknown (c.in-Err.ensures.ok shell is),
-  unknown_reported c.args.name.now c.in-Err.unknown c.error_refusal.result c.in-Err.ensures.err
-      c.error_refusal.ensures,
-)

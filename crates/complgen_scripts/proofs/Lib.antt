@@ -1,0 +1,3 @@
+mod FileLemmas
+pub mod ScriptLemmas
+pub mod WritingLemmas

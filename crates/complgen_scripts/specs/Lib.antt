@@ -1,0 +1,6 @@
+pub mod AllScripts
+pub mod Refusals
+pub mod ScriptEnds
+pub mod Scripts
+pub mod TreeFiles
+pub mod Writing
