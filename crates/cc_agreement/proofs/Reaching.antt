@@ -1,12 +1,13 @@
 -- The node that is reached: it is the one to which the words lead, and it is built if the tree is.
-use Rattle.std.proofs.Common.{◌≡◌, ◌∙◌, ap, sym, subst, refl, ℕ, suc, List, [], ◌∷◌, ◌++◌, Bool, true, false, cond, Option, Some, None, IsTrue}
+use Rattle.std.proofs.Common.{◌≡◌, ◌∙◌, ap, sym, subst, refl, ℕ, suc, List, ◌∷◌, ◌++◌, Bool, true, false, cond, Some, IsTrue}
 use Rattle.std.specs.List.{All, AllByRecursion, list_all}
 use Rattle.std.specs.Prelude.{⊤, get_or, unwrap_or}
 use Rattle.std.proofs.lemmas.List.{append-nil}
 use Rattle.std.proofs.lemmas.List.Elements.{All-head, All-tail}
+use Rattle.std.proofs.lemmas.Bool.{and_parts}
 use Rattle.cc_arg.specs.declared.parts.ArgParts.{ArgParts as Arg}
 use Rattle.cc_candidates.specs.declared.candidate.CompletionCandidate.{CompletionCandidate}
-use Rattle.cc_command.specs.Built.{built_forest, built_node, built_tree, propagated}
+use Rattle.cc_command.specs.Built.{built_forest, built_tree, propagated}
 use Rattle.cc_command.specs.Generated.{copies, help_child, help_command, needs_help_child}
 use Rattle.cc_command.specs.Names.{find_child, full_name, has_name, joined_name}
 use Rattle.cc_command.specs.Texts.{help_name}
@@ -14,7 +15,6 @@ use Rattle.cc_command.specs.Tree.{Forest, none, more, join, Tree}
 use Rattle.cc_command.specs.declared.node.Node.{Node}
 use Rattle.cc_engine.specs.Completion.{Completes, words_before}
 use Rattle.cc_gather.specs.Values.{MayReturn}
-use Rattle.cc_parser.proofs.OneApp.{both_true}
 use Rattle.cc_parser.specs.Taken.{TakesOffered, fits_parser, has_index_or_name}
 use Rattle.cc_walk.specs.Reach.{Descend, NamesNoChild, Reach, Stay}
 use Rattle.clap.specs.Simple.{App}
@@ -122,6 +122,6 @@ agrees sources root tree app words index found is takes completes =
       taken = λ fits.
           subst (AllByRecursion (IsTaken completes.tree app (get_or words index []) (values_among completes.tree completes.state (get_or words index []) completes.offers.0)))
           (sym completes.offers.2)
-          (all_taken completes.tree app (takes fits) (both_true (list_all has_index_or_name completes.tree.node.arguments) _ fits).0 completes.state
+          (all_taken completes.tree app (takes fits) (and_parts (list_all has_index_or_name completes.tree.node.arguments) _ fits).0 completes.state
           (get_or words index []) completes.offers.0);
     }) takes

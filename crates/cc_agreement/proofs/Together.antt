@@ -1,6 +1,5 @@
 -- The effects of a call that writes the bash script and then completes a word.
-use Rattle.std.proofs.Common.{◌≡◌, ◌∙◌, ap, sym, subst, inl, inr, ℕ, List, ◌++◌, Some}
-use Rattle.std.proofs.Common.{Result, Ok, Err, IfErr, IfOk, IsTrue, OnOk}
+use Rattle.std.proofs.Common.{◌≡◌, ◌∙◌, ap, sym, subst, inl, inr, ℕ, List, ◌++◌, Some, Result, Ok, Err, IfErr, IfOk, IsTrue, OnOk}
 use Rattle.cc_base.specs.declared.error.Error.{Error}
 use Rattle.cc_base.specs.declared.error.Error.TheVariants as error
 use Rattle.cc_base.specs.declared.failures.Failures.{Failures}

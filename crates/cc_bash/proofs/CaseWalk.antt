@@ -1,5 +1,5 @@
 -- For any words, the case table of a tree leads along the labels of the walk by visible names.
-use Rattle.std.proofs.Common.{◌≡◌, ℕ, suc, IsTrue, List, [], ◌∷◌, ◌++◌, length, map, flat_map, Some, None, inl, inr, refl, sym, ap, ◌∙◌, subst}
+use Rattle.std.proofs.Common.{◌≡◌, ℕ, suc, IsTrue, List, ◌∷◌, ◌++◌, length, map, flat_map, Some, None, inl, inr, refl, sym, ap, ◌∙◌, subst}
 use Rattle.cc_base.specs.Sorting.{in_order}
 use Rattle.cc_base.proofs.Cases.{option_cases}
 use Rattle.cc_base.proofs.Members.{IsIn, IsIn-map, map-IsIn, IsIn-flat_map, flat_map-IsIn}
@@ -12,8 +12,7 @@ use Rattle.cc_bash.specs.Arms.{arm_of, arm_below, node_arm, tree_arms}
 use Rattle.cc_bash.specs.CaseTable.{Case, node_cases, case_below, tree_cases, next_label, run, last_or, run_end}
 use Rattle.cc_bash.specs.Labels.{Labelled, root_label, child_label, labelled_node, labelled_commands, labels, shared_label}
 use Rattle.cc_bash.specs.Reads.{arm_at, path_node_arm, path_node_label}
-use Rattle.cc_bash.specs.Walk.{PathNode, next_path_node, path_nodes, walk, root_path_node}
-use Rattle.cc_bash.specs.Walk.{label_at, level_of}
+use Rattle.cc_bash.specs.Walk.{PathNode, next_path_node, path_nodes, walk, root_path_node, label_at, level_of}
 use Rattle.cc_bash.proofs.Clashes.{AllDifferBy-map, same_element, texts_differ}
 use Rattle.cc_bash.proofs.ListedNodes.{parents, siblings_listed, children_listed, children_differ}
 use Rattle.cc_bash.proofs.NextSteps.{bytes_tells, next_cases, visible_child-is, visible_child-of}

@@ -1,6 +1,5 @@
 -- Keys below a child of the root.
-use Rattle.std.proofs.Common.{◌≡◌, ℕ, List, [], ◌∷◌, Bool, false, length, codes, ◌∙◌}
-use Rattle.std.proofs.Common.{Result, Ok, Err, IfOk, append_assoc, nat_eq}
+use Rattle.std.proofs.Common.{◌≡◌, ℕ, List, ◌∷◌, Bool, false, length, codes, ◌∙◌, Result, Ok, Err, IfOk, append_assoc, nat_eq}
 use Rattle.cc_generator.specs.Visits.{joined}
 use Rattle.cc_fish.specs.Script.{fish_key}
 

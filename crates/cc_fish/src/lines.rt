@@ -8,18 +8,9 @@ ghost use Rattle.cc_command.specs.Iterators.{arguments_left};
 ghost use Rattle.cc_command.specs.Names.{visible_names};
 ghost use Rattle.cc_command.specs.Tree.{forest_of};
 ghost use Rattle.cc_generator.specs.Meaning.{visit_of};
-ghost use Rattle.cc_fish.specs.Script.{
-  argument_text,
-  below_text,
-  child_text,
-  children_text,
-  help_text,
-  long_text,
-  names_text,
-  node_text,
-  short_text,
-  visit_text,
-};
+ghost use Rattle.cc_fish.specs.Script.{argument_text, below_text, child_text, children_text};
+ghost use Rattle.cc_fish.specs.Script.{help_text, long_text, names_text, node_text, short_text};
+ghost use Rattle.cc_fish.specs.Script.{visit_text};
 ghost use Rattle.cc_fish.specs.Table.{has_positionals};
 
 use crate::front::set_front;

@@ -2,7 +2,6 @@ pub mod DifferentKeys
 pub mod Entered
 pub mod FromStack
 pub mod InOrder
-pub mod Parents
 pub mod PlainVisits
 pub mod ReadInTurn
 pub mod SameVisits

@@ -1,5 +1,5 @@
 -- Words of POSIX shells, Elvish, PowerShell and fish before a space, whatever follows it.
-use Rattle.std.proofs.Common.{◌≡◌, ◌≢◌, ℕ, Bool, true, false, cond, List, [], ◌∷◌, ◌++◌, map, Some, None, codes, inl, inr, refl, sym, ◌∙◌, ap, arith, append_assoc}
+use Rattle.std.proofs.Common.{◌≡◌, ◌≢◌, ℕ, Bool, true, false, cond, List, ◌∷◌, ◌++◌, map, Some, None, codes, inl, inr, refl, sym, ◌∙◌, ap, arith, append_assoc}
 use Rattle.std.specs.List.{list_all}
 use Rattle.std.proofs.lemmas.Bool.{and_parts, cases_Bool}
 use Rattle.std.proofs.lemmas.Bool.Decides.{nat_tests}
@@ -11,8 +11,7 @@ use Rattle.cc_quote.specs.PosixSigns.{sign, byte_of}
 use Rattle.cc_quote.specs.PosixSigns.Sign.{other}
 use Rattle.cc_quote.specs.PosixQuote.{next_state, word_after, posix_word_from, posix_word_of, is_posix_safe, is_posix_safe_word, posix_escaped, posix_quoted}
 use Rattle.cc_quote.specs.declared.posix.QuoteState.TheVariants.{Before, Bare}
-use Rattle.cc_quote.specs.FishQuote.{fish_sign, begins_with_word, fish_word_from, fish_word_of, is_fish_safe, fish_quoted}
-use Rattle.cc_quote.specs.FishQuote.{bare}
+use Rattle.cc_quote.specs.FishQuote.{fish_sign, begins_with_word, fish_word_from, fish_word_of, is_fish_safe, fish_quoted, bare}
 use Rattle.std.specs.Str.{NonePass}
 use Rattle.cc_quote.specs.ElvishQuote.{elvish_word_of}
 use Rattle.cc_quote.specs.PowershellQuote.{powershell_signs, powershell_word_of}

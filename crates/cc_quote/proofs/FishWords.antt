@@ -1,13 +1,12 @@
 -- The reader of a word reads a quoted text of fish as the text.
-use Rattle.std.proofs.Common.{◌≡◌, ℕ, true, false, List, [], ◌∷◌, ◌++◌, refl, ap, ◌∙◌, sym, append_assoc, append-nil, inl, inr, Option, Some, None, ◌==◌, arith, codes}
+use Rattle.std.proofs.Common.{◌≡◌, ℕ, true, false, List, ◌∷◌, ◌++◌, refl, ap, ◌∙◌, sym, append_assoc, append-nil, inl, inr, Option, Some, None, ◌==◌, arith, codes}
 use Rattle.std.proofs.lemmas.Bool.{cases_Bool, ne_eqb, and_parts}
 use Rattle.std.proofs.lemmas.Bool.Decides.{nat_tests}
 use Rattle.std.specs.List.{list_all, AllByRecursion}
 use Rattle.cc_base.specs.Bytes.{backslash, dollar, double_quote, hash, single_quote, space}
 use Rattle.cc_quote.specs.Escapes.{marked_byte}
-use Rattle.cc_quote.specs.FishQuote.{FishState, fish_sign, next_state, advance, is_fish_safe, is_single_marked, single_escaped, is_double_marked, double_escaped, single_quoted, fish_quoted}
+use Rattle.cc_quote.specs.FishQuote.{FishState, fish_sign, next_state, advance, is_fish_safe, is_single_marked, single_escaped, is_double_marked, double_escaped, single_quoted, fish_quoted, bare, in_single, in_double}
 use Rattle.cc_quote.specs.FishQuote.FishSign.{other}
-use Rattle.cc_quote.specs.FishQuote.{bare, in_single, in_double}
 
 -- every byte of the text needs no quotes
 abbrev pub IsSafe : List ℕ → Type 0

@@ -2,15 +2,8 @@
 
 ghost use Rattle.std.specs.Prelude.{◌≡◌, encode_utf8, false, true, IfOk, IfErr, OnOk};
 ghost use Rattle.std.specs.String.{string_bytes};
-ghost use Rattle.cc_quote.specs.FishQuote.{
-  begins_with_word,
-  double_next,
-  fish_added,
-  fish_double_of,
-  fish_next,
-  fish_word_of,
-  is_bare,
-};
+ghost use Rattle.cc_quote.specs.FishQuote.{begins_with_word, double_next, fish_added};
+ghost use Rattle.cc_quote.specs.FishQuote.{fish_double_of, fish_next, fish_word_of, is_bare};
 ghost use Rattle.cc_quote.specs.QuotedWord.{contents};
 
 use crate::word_state::{WordState, read_word};

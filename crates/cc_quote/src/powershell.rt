@@ -1,45 +1,15 @@
 //! Words as PowerShell quotes them: between two quotes, each `'` or `’` (U+2019). Two quotes in a
 //! row inside stand for the second.
 
-ghost use Rattle.std.specs.Prelude.{
-  ◌≡◌,
-  ◌<◌,
-  ◌+◌,
-  ◌++◌,
-  [],
-  List,
-  ℕ,
-  codes,
-  true,
-  IfOk,
-  IfErr,
-  MatchOption,
-  Some,
-  drop,
-  length,
-  slice_index,
-};
+ghost use Rattle.std.specs.Prelude.{◌≡◌, ◌<◌, ◌+◌, ◌++◌, [], List, ℕ, codes, true, IfOk, IfErr};
+ghost use Rattle.std.specs.Prelude.{MatchOption, Some, drop, length, slice_index};
 ghost use Rattle.std.specs.String.{string_bytes};
-ghost use Rattle.cc_quote.specs.PowershellQuote.{
-  begins_quote,
-  begins_second,
-  is_escaped,
-  powershell_escaped,
-  powershell_signs,
-  powershell_word_of,
-  IsFirstEscaped,
-  IsFirstQuote,
-};
-ghost use Rattle.cc_quote.specs.QuotedWord.{
-  contents,
-  line_feeds_as_spaces,
-  quoted,
-  word_from,
-  BeginsWithNoQuote,
-  BeginsWithQuote,
-  IsCutAtQuote,
-  IsWithoutQuotes,
-};
+ghost use Rattle.cc_quote.specs.PowershellQuote.{begins_quote, begins_second, is_escaped};
+ghost use Rattle.cc_quote.specs.PowershellQuote.{powershell_escaped, powershell_signs};
+ghost use Rattle.cc_quote.specs.PowershellQuote.{powershell_word_of, IsFirstEscaped, IsFirstQuote};
+ghost use Rattle.cc_quote.specs.QuotedWord.{contents, line_feeds_as_spaces, quoted, word_from};
+ghost use Rattle.cc_quote.specs.QuotedWord.{BeginsWithNoQuote, BeginsWithQuote, IsCutAtQuote};
+ghost use Rattle.cc_quote.specs.QuotedWord.{IsWithoutQuotes};
 
 use crate::escape::{Escape, escape_text};
 use crate::word::bare_word;

@@ -1,6 +1,5 @@
 -- A text is the name of at most one shell, and no other text is read.
-use Rattle.std.proofs.Common.{◌≡◌, ◌∙◌, ap, cond, false, refl, sym, true, ℕ, Bool, List, None}
-use Rattle.std.proofs.Common.{Option, Some, [], ◌∷◌, IfOk}
+use Rattle.std.proofs.Common.{◌≡◌, ◌∙◌, ap, cond, false, refl, sym, true, ℕ, Bool, List, None, Option, Some, ◌∷◌, IfOk}
 use Rattle.std.proofs.lemmas.Slice.Eq.{bytes_eq-Decides}
 use Rattle.std.specs.Prelude.{IfSome, find, ok_or}
 use Rattle.std.specs.Str.{bytes_eq}

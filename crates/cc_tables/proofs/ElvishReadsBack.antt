@@ -1,6 +1,5 @@
 -- An Elvish script reads back to the tables from which it was written.
-use Rattle.std.proofs.Common.{◌≡◌, ◌==◌, not, IsTrue, ℕ, List, [], ◌∷◌, ◌++◌, map, Option, Some}
-use Rattle.std.proofs.Common.{codes, refl, ap, ◌∙◌}
+use Rattle.std.proofs.Common.{◌≡◌, ◌==◌, not, IsTrue, ℕ, List, ◌∷◌, ◌++◌, map, Option, Some, codes, refl, ap, ◌∙◌}
 use Rattle.std.specs.List.{AllByRecursion}
 use Rattle.cc_base.proofs.Lines.{IsLine, regroup_six}
 use Rattle.cc_base.proofs.Lines.IsLine.{line}
@@ -12,17 +11,12 @@ use Rattle.cc_quote.specs.Signs.{sign, HasNoQuote}
 use Rattle.cc_quote.specs.ElvishQuote.{elvish_escaped}
 use Rattle.cc_quote.specs.ElvishTokens.{elvish_tokens, IsBare, IsBareWord}
 use Rattle.cc_quote.specs.QuotedWord.{line_feeds_as_spaces}
-use Rattle.cc_quote.proofs.ElvishCutting.{bare_run, bare_word, quoted_text, escaped_text}
-use Rattle.cc_quote.proofs.ElvishCutting.{HasNoQuote-IsBare}
-use Rattle.cc_tables.specs.ElvishReader.{part, between_rows, after_cand, after_word, step, spelling}
-use Rattle.cc_tables.specs.ElvishReader.{tables_begin, elvish_tables, offer_read}
-use Rattle.cc_tables.specs.ElvishReader.{RowState}
-use Rattle.cc_tables.specs.ElvishScript.{Row, elvish_frame, elvish_named, offer_row, offer_text}
-use Rattle.cc_tables.specs.ElvishScript.{row_begin, row_end, row_text, text_begin}
+use Rattle.cc_quote.proofs.ElvishCutting.{bare_run, bare_word, quoted_text, escaped_text, HasNoQuote-IsBare}
+use Rattle.cc_tables.specs.ElvishReader.{part, between_rows, after_cand, after_word, step, spelling, tables_begin, elvish_tables, offer_read, RowState}
+use Rattle.cc_tables.specs.ElvishScript.{Row, elvish_frame, elvish_named, offer_row, offer_text, row_begin, row_end, row_text, text_begin}
 use Rattle.cc_tables.specs.Offers.{word}
 use Rattle.cc_tables.specs.Script.{head_text, script_text}
-use Rattle.cc_tables.specs.TableReader.{State, between_tables, in_table, after_step}
-use Rattle.cc_tables.specs.TableReader.{next, tables_of, read}
+use Rattle.cc_tables.specs.TableReader.{State, between_tables, in_table, after_step, next, tables_of, read}
 use Rattle.cc_tables.specs.Tables.{Table}
 use Rattle.cc_tables.specs.declared.offers.Offer.{Offer}
 use Rattle.cc_tables.proofs.PlainTables.{IsReadable, table_read}

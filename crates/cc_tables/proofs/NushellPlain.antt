@@ -12,8 +12,7 @@ use Rattle.cc_command.specs.Tree.{Tree}
 use Rattle.cc_command.proofs.PlainParts.{IsPlainArgument, IsPlainBelow, plain_node}
 use Rattle.cc_base.specs.Bytes.{colon, line_feed, space}
 use Rattle.cc_tables.specs.NushellReader.{NushellReads, ends_name, line_read, nushell_blocks}
-use Rattle.cc_tables.specs.NushellScript.{argument_lines, line_text, node_lines, nushell_frame}
-use Rattle.cc_tables.specs.NushellScript.{offer_line}
+use Rattle.cc_tables.specs.NushellScript.{argument_lines, line_text, node_lines, nushell_frame, offer_line}
 use Rattle.cc_tables.specs.Offers.{argument_offers, word}
 use Rattle.cc_tables.specs.Script.{script_text}
 use Rattle.cc_tables.specs.Tables.{path_tables}

@@ -1,7 +1,5 @@
 -- A Nushell script reads back to the blocks from which it was written.
-use Rattle.std.proofs.Common.{◌≡◌, ◌==◌, ℕ, Bool, true, false, cond, List, [], ◌∷◌, ◌++◌, map}
-use Rattle.std.proofs.Common.{Option, Some, None, codes, option_map, is_some, reverse}
-use Rattle.std.proofs.Common.{refl, sym, ap, ◌∙◌, append_assoc, append-nil, arith}
+use Rattle.std.proofs.Common.{◌≡◌, ◌==◌, ℕ, Bool, true, false, cond, List, ◌∷◌, ◌++◌, map, Option, Some, None, codes, option_map, is_some, reverse, refl, sym, ap, ◌∙◌, append_assoc, append-nil, arith}
 use Rattle.std.proofs.lemmas.Bool.Decides.{nat_tests}
 use Rattle.std.specs.Bool.{⊤}
 use Rattle.std.specs.List.{AllByRecursion}
@@ -12,12 +10,8 @@ use Rattle.cc_base.specs.Found.{after, after_mark, before_ending, cut_at, pieces
 use Rattle.cc_base.proofs.Cases.{choose}
 use Rattle.cc_base.proofs.Finding.{Cut, past_lacking}
 use Rattle.cc_quote.specs.QuotedWord.{line_feeds_as_spaces, space_for_line_feed}
-use Rattle.cc_tables.specs.NushellReader.{State, Sign, after_name}
-use Rattle.cc_tables.specs.NushellReader.{between, closed, ends_name, holds, in_block}
-use Rattle.cc_tables.specs.NushellReader.{in_block_sign, key_sign, line_read, name_of}
-use Rattle.cc_tables.specs.NushellReader.{next, nushell_blocks, opens, other, read, record_of, sign}
-use Rattle.cc_tables.specs.NushellScript.{Line, content, help_begin, help_text, line_begin}
-use Rattle.cc_tables.specs.NushellScript.{line_text, nushell_frame, type_text, value_text}
+use Rattle.cc_tables.specs.NushellReader.{State, Sign, after_name, between, closed, ends_name, holds, in_block, in_block_sign, key_sign, line_read, name_of, next, nushell_blocks, opens, other, read, record_of, sign}
+use Rattle.cc_tables.specs.NushellScript.{Line, content, help_begin, help_text, line_begin, line_text, nushell_frame, type_text, value_text}
 use Rattle.cc_tables.specs.Script.{head_text, named_text, script_text}
 use Rattle.cc_tables.specs.Tables.{Table}
 use Rattle.cc_tables.proofs.PlainTables.{IsReadable, table_read}

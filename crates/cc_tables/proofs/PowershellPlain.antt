@@ -1,5 +1,5 @@
 -- The PowerShell script of a plain tree reads back to the tree's tables.
-use Rattle.std.proofs.Common.{◌≢◌, not, ℕ, Bool, true, false, cond, IsTrue, List, [], ◌∷◌, codes, refl, arith}
+use Rattle.std.proofs.Common.{◌≢◌, not, ℕ, Bool, true, false, cond, IsTrue, List, ◌∷◌, codes, refl, arith}
 use Rattle.std.specs.Char.{is_ascii_uppercase}
 use Rattle.std.proofs.lemmas.Bool.Decides.{nat_tests}
 use Rattle.cc_base.proofs.Members.{AllByRecursion-weaker, AllByRecursion-append}
@@ -12,8 +12,7 @@ use Rattle.cc_command.proofs.PlainParts.{plain_full_name}
 use Rattle.cc_quote.specs.PowershellTokens.{is_quote_first, IsUnquoted}
 use Rattle.cc_tables.specs.Offers.{node_offers, word}
 use Rattle.cc_tables.specs.PowershellReader.{offer_read, powershell_tables}
-use Rattle.cc_tables.specs.PowershellScript.{capital_space, offer_row, powershell_frame, powershell_script}
-use Rattle.cc_tables.specs.PowershellScript.{offer_text}
+use Rattle.cc_tables.specs.PowershellScript.{capital_space, offer_row, powershell_frame, powershell_script, offer_text}
 use Rattle.cc_tables.specs.Script.{script_text}
 use Rattle.cc_tables.specs.TableReader.{ReadsTables}
 use Rattle.cc_tables.specs.Tables.{path_tables, tree_tables}

@@ -1,11 +1,10 @@
 -- An opened option takes values.
-use Rattle.std.proofs.Common.{◌≡◌, ◌<◌, ℕ, List, [], ◌∷◌, Bool, not, ◌&&◌, Option, Some, None, refl, inl, inr, ◌∙◌, sym, subst, ap}
-use Rattle.std.specs.Prelude.{find}
+use Rattle.std.proofs.Common.{◌≡◌, ◌<◌, ℕ, List, ◌∷◌, Bool, not, ◌&&◌, Option, Some, None, refl, inl, inr, ◌∙◌, sym, subst, ap}
+use Rattle.std.specs.Prelude.{find, encode_utf8_all}
 use Rattle.std.proofs.lemmas.Bool.{cases_Bool, ltb-true, and_parts}
 use Rattle.cc_arg.specs.Arguments.{takes_values}
 use Rattle.cc_arg.specs.declared.parts.ArgParts.{ArgParts as Arg}
 use Rattle.cc_walk.specs.declared.word_class.ValueCharacter.{ValueCharacter}
-use Rattle.std.specs.Prelude.{encode_utf8_all}
 use Rattle.cc_walk.specs.Lookup.{max_values, has_long, has_short}
 use Rattle.cc_walk.specs.WordClasses.{character_value, cluster_class, last_class, value_character, flag_class, if_taking, class_of, class_of_form, value_argument}
 use Rattle.cc_walk.specs.Words.{Form, Long, Other, Short, TwoHyphens, form_of}

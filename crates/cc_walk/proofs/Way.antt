@@ -1,19 +1,18 @@
 -- The path down the tree and the machine agree.
-use Rattle.std.proofs.Common.{◌≡◌, ℕ, suc, List, [], ◌∷◌, ◌++◌, Bool, true, false, ltb, ◌||◌, Some, None, refl, inl, inr, ap, ◌∙◌, sym}
+use Rattle.std.proofs.Common.{◌≡◌, ℕ, suc, List, ◌∷◌, ◌++◌, Bool, true, false, ltb, ◌||◌, Some, None, refl, inl, inr, ap, ◌∙◌, sym}
 use Rattle.std.specs.List.{All}
 use Rattle.std.proofs.lemmas.Bool.{cases_Bool}
 use Rattle.std.proofs.Math.Bool.{or-false, or_assoc}
 use Rattle.std.proofs.lemmas.List.{append-nil}
 use Rattle.std.proofs.lemmas.List.Elements.{All-head, All-tail}
 use Rattle.cc_arg.specs.declared.parts.ArgParts.{ArgParts as Arg}
-use Rattle.cc_command.specs.Names.{find_child}
+use Rattle.cc_command.specs.Names.{find_child, contains_name}
 use Rattle.cc_command.specs.Tree.{Tree}
 use Rattle.cc_walk.specs.Blocks.{follows, AreBlocks, Block, state_after, join, start}
 use Rattle.cc_walk.specs.Lookup.{allows_hyphens_at, capacity_at}
 use Rattle.cc_walk.specs.Machine.{closed_step, entered, open_step, run, run_length, node_state_step, step, value_state, walk}
 use Rattle.cc_walk.specs.Reach.{Descend, NamesNoChild, Reach, Stay}
 use Rattle.cc_walk.proofs.Dashes.{is_escape_class, class_escapes}
-use Rattle.cc_command.specs.Names.{contains_name}
 use Rattle.std.specs.Prelude.{bytes_eq, codes}
 use Rattle.cc_walk.specs.WordClasses.{class_of}
 use Rattle.cc_walk.specs.declared.word_class.WordClass.{WordClass}

@@ -1,6 +1,5 @@
 -- A short text of digits is a whole number.
-use Rattle.std.proofs.Common.{◌≡◌, ◌∙◌, ◌^◌, ◌<◌, ◌≤◌, ◌==◌, ℕ, true, false, List, [], ◌++◌}
-use Rattle.std.proofs.Common.{Some, ap, arith, length, refl, sym}
+use Rattle.std.proofs.Common.{◌≡◌, ◌∙◌, ◌^◌, ◌<◌, ◌≤◌, ◌==◌, ℕ, true, false, List, ◌++◌, Some, ap, arith, length, refl, sym}
 use Rattle.std.specs.Prelude.{nat_lt, slice_index}
 use Rattle.std.specs.Float.Numeral.{Parts, IsWellFormed, scan_numeral, text_of}
 use Rattle.std.specs.Str.Parse.{AllDigits, digits_value}

@@ -1,41 +1,14 @@
 -- A value put at a key is in the key's slot, and in no other.
-use Rattle.std.proofs.Common.{◌≡◌, ◌∙◌, ◌+◌, ◌<◌, drop, ◌&&◌, ◌||◌, ℕ, zero, suc, Bool, true, false, List, [], ◌∷◌, Some}
-use Rattle.std.proofs.Common.{ap, ap₂, arith, bytes_eq, get_or, length, refl, subst, sym, true≢false}
-use Rattle.std.specs.Prelude.{not, slice_set}
+use Rattle.std.proofs.Common.{◌≡◌, ◌∙◌, ◌<◌, ℕ, zero, suc, Bool, true, false, List, ◌∷◌, Some, ap₂, arith, bytes_eq, get_or, length, refl, subst, sym, true≢false}
+use Rattle.std.specs.Prelude.{slice_set}
 use Rattle.std.specs.List.{list_any}
-use Rattle.std.proofs.lemmas.List.{drop_more}
 use Rattle.std.proofs.lemmas.Slice.Eq.{bytes_eq-Decides}
+use Rattle.std.proofs.lemmas.Bool.{or_parts, and_parts, not-true}
+use Rattle.std.proofs.lemmas.List.Folds.{list_any_at}
 use Rattle.serde_json.specs.Data.{Data, Members, put}
 use Rattle.serde_json.specs.Find.{get_member}
 use Rattle.serde_json.proofs.Views.{get_member-put, get_member-put_other}
 use Rattle.complgen_json.specs.Slots.{are_distinct, members_at}
-
-or_false : (a b : Bool) → (a || b) ≡ false → (a ≡ false) × (b ≡ false)
-or_false true b e = absurd (true≢false e)
-or_false false b e = (refl, e)
-
-or_true : (a b : Bool) → b ≡ true → (a || b) ≡ true
-or_true true b e = refl
-or_true false b e = e
-
-first_true : (a b : Bool) → a ≡ true → (a || b) ≡ true
-first_true true b e = refl
-first_true false b e = absurd (true≢false (sym e))
-
-and_true : (a b : Bool) → (a && b) ≡ true → (a ≡ true) × (b ≡ true)
-and_true true b e = (refl, e)
-and_true false b e = absurd (true≢false (sym e))
-
-not_true : (a : Bool) → not a ≡ true → a ≡ false
-not_true true e = sym e
-not_true false e = refl
-
--- a list whose test fails at no place
-pub any_at : {X : Type 0} (p : X → Bool) (xs : List X) (k : ℕ) (d : X) → k < length xs
-    → p (get_or xs k d) ≡ true → list_any p xs ≡ true
-any_at p [] k d h e = absurd (omega arith)
-any_at p (x ∷ xs) zero d h e = first_true (p x) (list_any p xs) e
-any_at p (x ∷ xs) (suc k) d h e = or_true (p x) (list_any p xs) (any_at p xs k d (omega arith) e)
 
 other_kept : (l key : List ℕ) (d : Data) (ms : Members) → bytes_eq l key ≡ false
     → get_member l ms ≡ get_member l (put key d ms)
@@ -46,7 +19,7 @@ pub all_kept : (ks : List (List ℕ)) (key : List ℕ) (d : Data) (ms : Members)
     → list_any (λ l. bytes_eq l key) ks ≡ false → members_at ks ms ≡ members_at ks (put key d ms)
 all_kept [] key d ms e = refl
 all_kept (l ∷ ks) key d ms e =
-    let both = or_false (bytes_eq l key) (list_any (λ l. bytes_eq l key) ks) e in
+    let both = or_parts (bytes_eq l key) (list_any (λ l. bytes_eq l key) ks) e in
     ap₂ (λ o os. o ∷ os) (other_kept l key d ms both.0) (all_kept ks key d ms both.1)
 
 pub placed : (ks : List (List ℕ)) (k : ℕ) (key : List ℕ) (d : Data) (ms : Members)
@@ -57,17 +30,17 @@ placed (l ∷ ks) zero key d ms distinct h e =
     let same : l ≡ key = (bytes_eq-Decides l key).0 e in
     let here : get_member l (put key d ms) ≡ Some d =
     subst (λ name. get_member name (put key d ms) ≡ Some d) (sym same) (get_member-put key d ms) in
-    let alone = not_true _ (and_true _ _ distinct).0 in
+    let alone = not-true _ (and_parts _ _ distinct).0 in
     let rest : list_any (λ other. bytes_eq other key) ks ≡ false =
     subst (λ name. list_any (λ other. bytes_eq other name) ks ≡ false) same alone in
     ap₂ (λ o os. o ∷ os) (sym here) (all_kept ks key d ms rest)
 placed (l ∷ ks) (suc k) key d ms distinct h e =
-    let both = and_true _ _ distinct in
+    let both = and_parts _ _ distinct in
     let at_key : get_or ks k [] ≡ key = (bytes_eq-Decides (get_or ks k []) key).0 e in
-    let there = λ (same : l ≡ key). any_at (λ other. bytes_eq other l) ks k [] (omega (arith, h))
+    let there = λ (same : l ≡ key). list_any_at (λ other. bytes_eq other l) ks k [] (omega (arith, h))
     ((bytes_eq-Decides (get_or ks k []) l).1 (at_key ∙ sym same)) in
     let other : bytes_eq l key ≡ false = unequal l key (λ same.
-    true≢false (sym (there same) ∙ not_true _ both.0)) in
+    true≢false (sym (there same) ∙ not-true _ both.0)) in
     ap₂ (λ o os. o ∷ os) (other_kept l key d ms other)
     (placed ks k key d ms both.1 (omega (arith, h)) e)
   where
@@ -77,11 +50,3 @@ placed (l ∷ ks) (suc k) key d ms distinct h e =
 
     unequal : (l key : List ℕ) → (l ≡ key → ⊥) → bytes_eq l key ≡ false
     unequal l key apart = by (bytes_eq l key) l key refl apart
-
--- one more fails the test
-pub drop_step : {X : Type 0} (p : X → Bool) (xs : List X) (k : ℕ) (d : X) → k < length xs
-    → p (get_or xs k d) ≡ false → list_any p (drop k xs) ≡ list_any p xs
-    → list_any p (drop (k + 1) xs) ≡ list_any p xs
-drop_step p xs k d h e left =
-    sym (ap (λ b. b || list_any p (drop (k + 1) xs)) e)
-    ∙ sym (ap (list_any p) (drop_more xs k d h)) ∙ left

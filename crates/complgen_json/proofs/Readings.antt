@@ -1,16 +1,13 @@
 -- If the numbers are in range, `serde_json` reads the view of a value.
-use Rattle.std.proofs.Common.{◌≡◌, ◌∙◌, ◌&&◌, Bool, true, false, List, [], Option, Some, None}
-use Rattle.std.proofs.Common.{ap, if◌then◌else◌, is_some, refl, sym, true≢false}
+use Rattle.std.proofs.Common.{◌≡◌, ◌∙◌, ◌&&◌, Bool, true, false, List, Option, Some, None, ap, if◌then◌else◌, is_some, refl, sym, true≢false}
 use Rattle.std.specs.Prelude.{option_and_then, option_map}
 use Rattle.json.specs.Json as borrowed
 use Rattle.json.specs.Reads.{Yields}
 use Rattle.json.specs.Token.{Token}
 use Rattle.json.specs.declared.token.Token as token
-use Rattle.serde_json.specs.Data.{Data, Num, array, number, object}
-use Rattle.serde_json.specs.Data.{Items, item, Members, no_members, put}
+use Rattle.serde_json.specs.Data.{Data, Num, array, number, object, Items, item, Members, no_members, put}
 use Rattle.serde_json.specs.Read.{number_of, of_items, of_json, of_members}
-use Rattle.complgen_json.specs.Seen.{are_in_range, data_of, each_data_of, number_seen, is_in_range}
-use Rattle.complgen_json.specs.Seen.{members_are_in_range, members_put}
+use Rattle.complgen_json.specs.Seen.{are_in_range, data_of, each_data_of, number_seen, is_in_range, members_are_in_range, members_put}
 
 number_read : (o : Option Num)
     → option_map number o ≡ (if is_some o then Some (number_seen o) else None)

@@ -1,13 +1,10 @@
 -- The text of a warning.
-use Rattle.std.specs.Prelude.{ℕ, List, [], ◌++◌, Option, Some, codes, encode_utf8, if◌then◌else◌}
+use Rattle.std.specs.Prelude.{ℕ, List, ◌++◌, Option, Some, codes, encode_utf8, if◌then◌else◌}
 use Rattle.complgen_lints.specs.Running.{may_run_name, may_run_value}
 use Rattle.complgen_lints.specs.declared.place.Key.{Key}
 use Rattle.complgen_lints.specs.declared.place.Key.TheVariants.{BinName, Aliases, Help, VisibleAliases, Id, PossibleValues, Short, Long, ValueNames}
 use Rattle.complgen_lints.specs.declared.warning.Kind.{Kind}
-use Rattle.complgen_lints.specs.declared.warning.Kind.TheVariants.{BinNotPlain, NotPlain, LongWithHyphen, ShortNotPlain, Quote, ZshSign, TakenName, LoudValue, SharedLabel, UnescapedQuote}
-use Rattle.complgen_lints.specs.declared.warning.Kind.TheVariants.{TakenId, TakenLong, TakenShort, TakenByHelp, TakenByVersion, UnknownConflict}
-use Rattle.complgen_lints.specs.declared.warning.Kind.TheVariants.{IndexOutOfRange, TakenIndex, PositionalWithoutValue, ValuesOfFlag, NoValues, HiddenCommand, HiddenArgument}
-use Rattle.complgen_lints.specs.declared.warning.Kind.TheVariants.{RunsCommand, RunsCode, SourceOfFlag, HintBesideSource}
+use Rattle.complgen_lints.specs.declared.warning.Kind.TheVariants.{BinNotPlain, NotPlain, LongWithHyphen, ShortNotPlain, Quote, ZshSign, TakenName, LoudValue, SharedLabel, UnescapedQuote, TakenId, TakenLong, TakenShort, TakenByHelp, TakenByVersion, UnknownConflict, IndexOutOfRange, TakenIndex, PositionalWithoutValue, ValuesOfFlag, NoValues, HiddenCommand, HiddenArgument, RunsCommand, RunsCode, SourceOfFlag, HintBesideSource}
 use Rattle.complgen_lints.specs.declared.warning.Warning.{Warning}
 
 -- what messages call a text at a key

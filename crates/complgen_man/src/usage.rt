@@ -5,21 +5,10 @@ ghost use Rattle.std.specs.List.{list_any};
 ghost use Rattle.std.specs.Option.{option_copied};
 ghost use Rattle.cc_base.specs.Writes.{Writes, as_write};
 ghost use Rattle.cc_command.specs.Tree.{forest_of};
-ghost use Rattle.complgen_man.specs.Page.{
-  aliases_text,
-  command_mark,
-  command_words,
-  description,
-  further_bold,
-  has_shown,
-  is_shown_option,
-  is_shown_positional,
-  notes_text,
-  options_mark,
-  spaced_values,
-  synopsis_text,
-  usage_text,
-};
+ghost use Rattle.complgen_man.specs.Page.{aliases_text, command_mark, command_words, description};
+ghost use Rattle.complgen_man.specs.Page.{further_bold, has_shown, is_shown_option};
+ghost use Rattle.complgen_man.specs.Page.{is_shown_positional, notes_text, options_mark};
+ghost use Rattle.complgen_man.specs.Page.{spaced_values, synopsis_text, usage_text};
 
 use crate::arguments::{is_shown_option, is_shown_positional};
 use crate::escapes::{write_bold, write_further_bold, write_paragraph};

@@ -1,5 +1,4 @@
-use Rattle.std.proofs.Common.{◌≡◌, ◌++◌, flat_map}
-use Rattle.std.proofs.Common.{map}
+use Rattle.std.proofs.Common.{◌≡◌, ◌++◌, flat_map, map}
 use Rattle.cc_arg.specs.ShownNames.{names_left}
 use Rattle.cc_tables.specs.Offers.{argument_offer, argument_offers}
 use Rattle.cc_tables.proofs.offers.write_argument.Given as goal

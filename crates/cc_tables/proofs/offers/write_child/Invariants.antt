@@ -1,5 +1,4 @@
-use Rattle.std.proofs.Common.{◌≡◌, ◌++◌, flat_map}
-use Rattle.std.proofs.Common.{map}
+use Rattle.std.proofs.Common.{◌≡◌, ◌++◌, flat_map, map}
 use Rattle.cc_command.specs.Iterators.{names_left}
 use Rattle.cc_tables.specs.Offers.{child_offer, child_offers}
 use Rattle.cc_tables.proofs.offers.write_child.Given as goal
