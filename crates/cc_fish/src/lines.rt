@@ -39,7 +39,7 @@ pub(crate) fn write_visit<W: Sink>(
     Ok(write_node(sink, front.as_str(), visit.command)?)
 }
 
-// Writes the records of a node, each after the front.
+// Writes the records of a node. Each begins with `front`.
 #[tactic(auto, unfolding(crate::specs::Script::node_text, crate::specs::Script::options_text, crate::specs::Script::flags_text))]
 fn write_node<W: Sink>(sink: &mut W, front: &str, command: &Command) -> Result<(), ErrorKind>
     ensures { Writes W.taken W.failed (as_write result) sink.old sink.new

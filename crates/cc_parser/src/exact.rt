@@ -17,7 +17,7 @@ use cc_arg::{Arg, ArgAction, ValueRange};
 use cc_command::Command;
 
 /// Returns whether the parser of the built `tree` is a simple command, as `clap` calls it. If so,
-/// the clauses of `clap` say which words the parser takes, and which matches they have.
+/// the clauses of `clap` determine the words that the parser accepts, and their matches.
 ///
 /// It is if all of this is true of the root and its children:
 ///

@@ -66,7 +66,7 @@ posix_next state character = next_state state (sign character)
 abbrev pub posix_added : QuoteState → ℕ → List ℕ → List ℕ → List ℕ
 posix_added state character word bytes = word_after state (sign character) word bytes
 
--- whether a word may end at a state: it must have begun, and no quote and no escape may be open
+-- whether a word may end at a state: within a word, with no open quote and no open escape
 abbrev pub is_bare : QuoteState → Bool
 is_bare Bare = true
 is_bare _ = false

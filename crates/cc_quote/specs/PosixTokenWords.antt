@@ -44,7 +44,7 @@ abbrev pub IsTokenRead : List Token → Option (List ℕ × List ℕ) → Type 0
 IsTokenRead tokens (Some (word, rest)) = IsFirstToken tokens word rest
 IsTokenRead tokens None = IsOpenToken tokens
 
--- What is read of a text agrees with its tokens. If no token begins the text, no word is read.
+-- The word that is read agrees with the tokens of the text. If no token begins it, no word is read.
 -- Otherwise the word of the first token and the text after it are read, or nothing if that token is
 -- open.
 pub record ReadsFirstToken (text : List ℕ) (read : Option (List ℕ × List ℕ)) : Type 0 where

@@ -78,7 +78,7 @@ token_after state s (after_piece pieces) = begun pieces (word_after state s [] (
 token_after state s (in_piece pieces text) =
     in_piece pieces (word_after state s text (byte_of s ∷ []))
 
--- the token that ends at a state, if one has begun
+-- the token that ends at a state, if the state is within one
 abbrev pub ended_token : QuoteState → PartialToken → List Token
 ended_token Before token = []
 ended_token Bare token = pieces_of Bare token ∷ []

@@ -9,7 +9,7 @@ use Rattle.cc_quote.specs.declared.zsh.EscapeState.TheVariants.{Plain, Escaping}
 
 -- ---- how backslashes are read
 
--- a byte that stands for itself, one that a backslash escapes, or a backslash at the end
+-- a byte that means itself, one that a backslash escapes, or a backslash at the end
 pub data Mark : Type 0 where
   kept : ℕ → Mark
   escaped : ℕ → Mark

@@ -22,7 +22,7 @@ pub(crate) enum QuoteState {
     InDoubleEscaped,
 }
 
-/// Reads the word with which `text` begins. Returns the word and the rest of the text. The word
+/// Reads the word with which `text` begins. Returns the word and the remaining text. The word
 /// consists of pieces, up to a space, tab or line feed outside quotes. Nothing is expanded.
 ///
 /// - Between two `'` a backslash is special before `'` and `\`.
@@ -48,7 +48,7 @@ pub fn fish_word(alloc: Global, text: &str) -> Result<Option<(String, &str)>, Er
 }
 
 /// Reads a `text` that begins with `"` up to the `"` that closes it, as [`fish_word`] reads that
-/// part. Returns what it spells, and the rest of the text. Returns `None` if the text does not
+/// part. Returns what it spells, and the remaining text. Returns `None` if the text does not
 /// begin with `"`, or does not close it.
 ///
 /// # Errors

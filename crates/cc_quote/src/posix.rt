@@ -91,7 +91,7 @@ pub(crate) enum QuoteState {
     InDoubleEscaped,
 }
 
-/// Reads the word with which `text` begins. Returns the word and the rest of the text. The word
+/// Reads the word with which `text` begins. Returns the word and the remaining text. The word
 /// consists of pieces, up to a space, tab or line feed outside quotes. Nothing is expanded.
 ///
 /// - Between two `'` every character is kept.

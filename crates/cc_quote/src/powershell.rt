@@ -1,5 +1,5 @@
 //! Words as PowerShell quotes them: between two quotes, each `'` or `’` (U+2019). Two quotes in a
-//! row inside stand for the second.
+//! row inside mean the second.
 
 ghost use Rattle.std.specs.Prelude.{◌≡◌, ◌<◌, ◌+◌, ◌++◌, [], List, ℕ, codes, true, IfOk, IfErr};
 ghost use Rattle.std.specs.Prelude.{MatchOption, Some, drop, length, slice_index};
@@ -107,10 +107,10 @@ pub fn powershell_escape(alloc: Global, text: &str) -> Result<String, Error>
     Ok(escape_text(alloc, &PowershellEscape, text)?)
 }
 
-/// Reads the word with which `text` begins. Returns the word and the rest of the text.
+/// Reads the word with which `text` begins. Returns the word and the remaining text.
 ///
 /// - A word that begins with a quote, `'` or `’` (U+2019), ends at the quote that closes it. In it,
-///   two quotes in a row stand for the second.
+///   two quotes in a row mean the second.
 /// - Any other word ends before the first space, tab or line feed. In it, a quote is an ordinary
 ///   character.
 ///

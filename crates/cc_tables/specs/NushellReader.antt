@@ -35,8 +35,8 @@ record_of text = record {
   help = after_mark (codes " # ") text;
 }
 
--- the meaning of a line: it opens the block of a key, closes a block, is a record, or is none of
--- these
+-- the meaning of a line: it opens the block of a key, closes a block, is a record, or has no
+-- meaning
 pub data Sign : Type 0 where
   opens : List ℕ → Sign
   closes : Sign

@@ -1,4 +1,4 @@
-//! How a command is called, its aliases, and what it does.
+//! The synopsis of a command, its aliases, and its description.
 
 ghost use Rattle.std.specs.Prelude.{◌≡◌, ◌++◌, codes, filter, flat_map};
 ghost use Rattle.std.specs.List.{list_any};
@@ -57,7 +57,7 @@ fn has_shown_option(arguments: &[Arg]) -> bool
     arguments.iter().any(|argument| is_shown_option(argument))
 }
 
-// Returns what represents a subcommand, if one of them is not hidden.
+// Returns the placeholder for subcommands, or an empty text if all of them are hidden.
 #[tactic(auto, unfolding(crate::specs::Page::command_mark))]
 fn command_mark(command: &Command) -> &'static str
     ensures { result.now ≡ command_mark command.now }
