@@ -1,4 +1,3 @@
-pub mod ArmOrder
 pub mod ArmTexts
 pub mod CaseOrder
 pub mod CaseWalk
@@ -15,7 +14,5 @@ pub mod ReadsArms
 pub mod ReadsBack
 pub mod ReadsCases
 pub mod ReadsDetails
-pub mod Seen
 pub mod WholeScript
-pub mod WordTexts
 pub mod WordsRead

@@ -14,4 +14,3 @@ pub mod PowershellFreeTexts
 pub mod PowershellPlain
 pub mod PowershellReadsBack
 pub mod ScriptReadsBack
-pub mod VisitedTables

@@ -1,4 +1,3 @@
 mod CommandLineLemmas
 mod Examples
 mod GivenValues
-mod Untaken
