@@ -1,3 +1,4 @@
 mod CommandLineLemmas
 mod Examples
 mod GivenValues
+mod LineParts
