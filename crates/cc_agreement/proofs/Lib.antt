@@ -1,4 +1,3 @@
-mod BashEnd
 mod Examples
 mod HiddenBuilt
 mod Offers

@@ -2,7 +2,6 @@ pub mod ArmTexts
 pub mod CaseOrder
 pub mod CaseWalk
 pub mod Clashes
-pub mod EachArm
 mod Examples
 pub mod LabelledPath
 pub mod ListedNodes

@@ -6,7 +6,6 @@ pub mod PlainVisits
 pub mod ReadInTurn
 pub mod SameVisits
 pub mod StepStack
-pub mod TableOrder
 pub mod TableStack
 pub mod VisitExamples
 pub mod VisitedPaths

@@ -11,6 +11,5 @@ pub mod PowershellExamples
 pub mod PowershellFreeOffers
 pub mod PowershellFreeScripts
 pub mod PowershellFreeTexts
-pub mod PowershellPlain
 pub mod PowershellReadsBack
 pub mod ScriptReadsBack
