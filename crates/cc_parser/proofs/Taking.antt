@@ -73,48 +73,32 @@ index_there true (Some i) n h = refl
 index_there true None n h = absurd (true≢false (sym (h refl)))
 index_there false index n h = refl
 
-module _ (name : List ℕ) where
-  abbrev knows : Rule → Bool
-  knows r = not (is_some r.index) && has_long r name
-
-  same_answer : (n : ℕ) (p : Option ValueParser) (a : Arg) → IsTidy a
-      → knows (with_index n (filled (rule_of_argument p a))) ≡ answers_long name a
-  same_answer n p a tidy =
-      ap (λ b. not b && has_long (rule_of_argument p a) name)
-      (index_there (not (is_some a.long) && not (is_some a.short)) a.index n tidy.0)
-
-  -- a long names the same argument in the tree and in its parser: the first that has it
-  pub same_by_long : (n : ℕ) (args : List Arg) (rules : List Rule) → AreRulesOf args rules → AllByRecursion IsTidy args
-      → option_map (λ r. r.id) (arg_by_long (filled_from n rules) name) ≡ id_of_long name args
-  same_by_long n [] [] h tidy = refl
-  same_by_long n (a ∷ args) (r ∷ rules) h tidy =
-      find_both knows (answers_long name) (λ r. r.id) (λ a. a.id) (with_index n (filled r)) a (filled_from (index_after n r) rules) args
-      (subst (λ (r : Rule). knows (with_index n (filled r)) ≡ answers_long name a) (sym h.0.0) (same_answer n r.parser a tidy.0))
+-- a test that a rule passes if its argument passes another: the first that passes is the same one
+module _ (knows : Rule → Bool) (answers : Arg → Bool)
+    (agree : (n : ℕ) (p : Option ValueParser) (a : Arg) → IsTidy a → knows (with_index n (filled (rule_of_argument p a))) ≡ answers a) where
+  same_first : (n : ℕ) (args : List Arg) (rules : List Rule) → AreRulesOf args rules → AllByRecursion IsTidy args
+      → option_map (λ (r : Rule). r.id) (find knows (filled_from n rules)) ≡ option_map (λ (a : Arg). a.id) (find answers args)
+  same_first n [] [] h tidy = refl
+  same_first n (a ∷ args) (r ∷ rules) h tidy =
+      find_both knows answers (λ r. r.id) (λ a. a.id) (with_index n (filled r)) a (filled_from (index_after n r) rules) args
+      (subst (λ (r : Rule). knows (with_index n (filled r)) ≡ answers a) (sym h.0.0) (agree n r.parser a tidy.0))
       (ap (λ (r : Rule). r.id) h.0.0)
-      (same_by_long (index_after n r) args rules h.1 tidy.1)
-  same_by_long n [] (r ∷ rules) h tidy = absurd h
-  same_by_long n (a ∷ args) [] h tidy = absurd h
+      (same_first (index_after n r) args rules h.1 tidy.1)
+  same_first n [] (r ∷ rules) h tidy = absurd h
+  same_first n (a ∷ args) [] h tidy = absurd h
 
-module _ (c : ℕ) where
-  abbrev knows_short : Rule → Bool
-  knows_short r = not (is_some r.index) && has_short r c
+-- a long or a short names the same argument in the tree and in its parser: the first that has it
+pub same_by_long : (name : List ℕ) (n : ℕ) (args : List Arg) (rules : List Rule) → AreRulesOf args rules → AllByRecursion IsTidy args
+    → option_map (λ r. r.id) (arg_by_long (filled_from n rules) name) ≡ id_of_long name args
+same_by_long name = same_first (λ r. not (is_some r.index) && has_long r name) (answers_long name)
+    (λ n p a tidy. ap (λ b. not b && has_long (rule_of_argument p a) name)
+    (index_there (not (is_some a.long) && not (is_some a.short)) a.index n tidy.0))
 
-  same_answer_short : (n : ℕ) (p : Option ValueParser) (a : Arg) → IsTidy a
-      → knows_short (with_index n (filled (rule_of_argument p a))) ≡ answers_short c a
-  same_answer_short n p a tidy =
-      ap (λ b. not b && has_short (rule_of_argument p a) c)
-      (index_there (not (is_some a.long) && not (is_some a.short)) a.index n tidy.0)
-
-  pub same_by_short : (n : ℕ) (args : List Arg) (rules : List Rule) → AreRulesOf args rules → AllByRecursion IsTidy args
-      → option_map (λ r. r.id) (arg_by_short (filled_from n rules) c) ≡ id_of_short c args
-  same_by_short n [] [] h tidy = refl
-  same_by_short n (a ∷ args) (r ∷ rules) h tidy =
-      find_both knows_short (answers_short c) (λ r. r.id) (λ a. a.id) (with_index n (filled r)) a (filled_from (index_after n r) rules) args
-      (subst (λ (r : Rule). knows_short (with_index n (filled r)) ≡ answers_short c a) (sym h.0.0) (same_answer_short n r.parser a tidy.0))
-      (ap (λ (r : Rule). r.id) h.0.0)
-      (same_by_short (index_after n r) args rules h.1 tidy.1)
-  same_by_short n [] (r ∷ rules) h tidy = absurd h
-  same_by_short n (a ∷ args) [] h tidy = absurd h
+pub same_by_short : (c : ℕ) (n : ℕ) (args : List Arg) (rules : List Rule) → AreRulesOf args rules → AllByRecursion IsTidy args
+    → option_map (λ r. r.id) (arg_by_short (filled_from n rules) c) ≡ id_of_short c args
+same_by_short c = same_first (λ r. not (is_some r.index) && has_short r c) (answers_short c)
+    (λ n p a tidy. ap (λ b. not b && has_short (rule_of_argument p a) c)
+    (index_there (not (is_some a.long) && not (is_some a.short)) a.index n tidy.0))
 
 -- ---- the rules as the parser builds them
 
