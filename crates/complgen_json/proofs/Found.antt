@@ -15,7 +15,7 @@ use Rattle.json.specs.Json as borrowed_json
 use Rattle.json.specs.Value as views
 use Rattle.json.specs.declared.value.Value.{Value}
 use Rattle.serde_json.specs.Data.{Data, Num, float, negative, Members, member, no_members, put}
-use Rattle.serde_json.specs.Find.{as_bool, as_null, as_number, as_object, as_str, as_u64, get, get_member}
+use Rattle.serde_json.specs.Find.{as_bool, as_null, as_number, as_str, as_u64, get, get_member}
 use Rattle.serde_json.specs.Read.{is_integer, number_from, number_of}
 use Rattle.serde_json.proofs.Views.{get_member-put, get_member-put_other}
 use Rattle.complgen_json.specs.Keys.{is_one_of, keys_in}
@@ -58,10 +58,6 @@ no_null (Some n) = refl
 pub null_seen : (j : borrowed_json.Json) → borrowed.is_null j ≡ is_some (as_null (data_of j))
 null_seen (borrowed_json.number text) = no_null (number_of text)
 null_seen j = refl
-
-no_object : (o : Option Num) → as_object (number_seen o) ≡ None
-no_object None = refl
-no_object (Some n) = refl
 
 -- ---- the value at a key
 
