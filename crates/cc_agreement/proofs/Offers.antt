@@ -1,5 +1,5 @@
 -- The parser accepts each candidate at the root.
-use Rattle.std.proofs.Common.{◌≡◌, ◌∙◌, ◌⊎◌, ◌==◌, ◌||◌, ◌&&◌, ℕ, Bool, true, false, not, cond, eq-eqb, eqb-true, true≢false, arith, length, is_some, List, ◌∷◌, ◌++◌, map, Option, Some, None, refl, sym, ap, subst, inl, inr, flat_map}
+use Rattle.std.proofs.Common.{◌≡◌, ◌∙◌, ◌⊎◌, ◌==◌, ◌||◌, ◌&&◌, ℕ, Bool, true, false, not, cond, eq-eqb, eqb-true, true≢false, arith, length, is_some, List, [], ◌∷◌, ◌++◌, map, Option, Some, None, refl, sym, ap, subst, inl, inr, flat_map}
 use Rattle.std.specs.Prelude.{chars, codes, filter, find, get_or, nat_le}
 use Rattle.std.specs.List.{AllByRecursion, dedup, dedup_from, list_all, list_any}
 use Rattle.std.specs.Option.{option_map_or}

@@ -1,5 +1,5 @@
 -- The node that is reached: it is the one to which the words lead, and it is built if the tree is.
-use Rattle.std.proofs.Common.{◌≡◌, ◌∙◌, ap, sym, subst, refl, ℕ, suc, List, ◌∷◌, ◌++◌, Bool, true, false, cond, Some, IsTrue}
+use Rattle.std.proofs.Common.{◌≡◌, ◌∙◌, ap, sym, subst, refl, ℕ, suc, List, [], ◌∷◌, ◌++◌, Bool, true, false, cond, Some, IsTrue}
 use Rattle.std.specs.List.{All, AllByRecursion, list_all}
 use Rattle.std.specs.Prelude.{⊤, get_or, unwrap_or}
 use Rattle.std.proofs.lemmas.List.{append-nil}

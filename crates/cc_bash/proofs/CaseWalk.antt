@@ -1,5 +1,5 @@
 -- For any words, the case table of a tree leads along the labels of the walk by visible names.
-use Rattle.std.proofs.Common.{◌≡◌, ℕ, suc, IsTrue, List, ◌∷◌, ◌++◌, length, map, flat_map, Some, None, inl, inr, refl, sym, ap, ◌∙◌, subst}
+use Rattle.std.proofs.Common.{◌≡◌, ℕ, suc, IsTrue, List, [], ◌∷◌, ◌++◌, length, map, flat_map, Some, None, inl, inr, refl, sym, ap, ◌∙◌, subst}
 use Rattle.cc_base.specs.Sorting.{in_order}
 use Rattle.cc_base.proofs.Cases.{option_cases}
 use Rattle.cc_base.proofs.Members.{IsIn, IsIn-map, map-IsIn, IsIn-flat_map, flat_map-IsIn}

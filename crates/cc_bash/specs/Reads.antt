@@ -1,5 +1,5 @@
 -- The cases and the arms that the bash script of a tree reads back to.
-use Rattle.std.specs.Prelude.{◌≡◌, ℕ, List, ◌∷◌, ◌++◌, map, IsTrue, Option, Some, None, bytes_eq, codes, if◌then◌else◌}
+use Rattle.std.specs.Prelude.{◌≡◌, ℕ, List, [], ◌∷◌, ◌++◌, map, IsTrue, Option, Some, None, bytes_eq, codes, if◌then◌else◌}
 use Rattle.std.specs.List.Sorted.{IsPermutation}
 use Rattle.cc_base.specs.Differ.{AllDifferBy}
 use Rattle.cc_command.specs.Tree.{Tree}

@@ -1,5 +1,5 @@
 -- The candidates for the name of a tool, in a program that knows the names.
-use Rattle.std.specs.Prelude.{◌≡◌, ℕ, ◌==◌, List, ◌∷◌, Bool, true, false, not, Some, codes, filter, map, nat_eq}
+use Rattle.std.specs.Prelude.{◌≡◌, ℕ, ◌==◌, List, [], ◌∷◌, Bool, true, false, not, Some, codes, filter, map, nat_eq}
 use Rattle.std.specs.List.{starts_with}
 use Rattle.clap_complete.specs.arg.Arguments.{new_arg}
 use Rattle.clap_complete.specs.base.declared.numbers.ArgValueCompleter.{ArgValueCompleter}

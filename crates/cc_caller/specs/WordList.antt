@@ -1,6 +1,6 @@
 -- The script of a generator outside the library, and what it reads back to: a line for each long of
 -- a command.
-use Rattle.std.specs.Prelude.{◌≡◌, ℕ, ◌==◌, if◌then◌else◌, List, ◌∷◌, ◌++◌, None, codes, false, flat_map, map}
+use Rattle.std.specs.Prelude.{◌≡◌, ℕ, ◌==◌, if◌then◌else◌, List, [], ◌∷◌, ◌++◌, None, codes, false, flat_map, map}
 use Rattle.std.specs.List.{AllByRecursion}
 use Rattle.clap_complete.specs.generator.ArgumentNames.{all_longs, long_word}
 use Rattle.clap_complete.specs.generator.Generators.{ShellSpec}

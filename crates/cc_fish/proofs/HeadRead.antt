@@ -1,5 +1,5 @@
 -- The head has no record.
-use Rattle.std.proofs.Common.{◌≡◌, ℕ, Bool, true, false, List, ◌∷◌, ◌++◌, refl, ap, ◌∙◌, append_assoc, inr, Option, Some, None, cond, codes, not, ◌&&◌, ◌||◌, filter, is_some, encode_utf8}
+use Rattle.std.proofs.Common.{◌≡◌, ℕ, Bool, true, false, List, [], ◌∷◌, ◌++◌, refl, ap, ◌∙◌, append_assoc, inr, Option, Some, None, cond, codes, not, ◌&&◌, ◌||◌, filter, is_some, encode_utf8}
 use Rattle.std.specs.List.{AllByRecursion}
 use Rattle.cc_arg.specs.declared.parts.ArgParts.{ArgParts as Arg}
 use Rattle.cc_arg.specs.Arguments.{is_positional, takes_values}

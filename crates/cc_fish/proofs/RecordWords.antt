@@ -1,5 +1,5 @@
 -- The words that the text of a record spells.
-use Rattle.std.proofs.Common.{◌≡◌, ℕ, Bool, true, false, List, ◌∷◌, ◌++◌, eqb, refl, ap, ◌∙◌, subst, sym, append_assoc, append-nil, inl, inr, Option, Some, None, map, cond, codes, encode_utf8, not, ◌&&◌, unwrap_or, flat_map, filter, option_map, IsTrue, arith}
+use Rattle.std.proofs.Common.{◌≡◌, ℕ, Bool, true, false, List, [], ◌∷◌, ◌++◌, eqb, refl, ap, ◌∙◌, subst, sym, append_assoc, append-nil, inl, inr, Option, Some, None, map, cond, codes, encode_utf8, not, ◌&&◌, unwrap_or, flat_map, filter, option_map, IsTrue, arith}
 use Rattle.std.proofs.lemmas.Bool.{cases_Bool, and_parts}
 use Rattle.std.proofs.lemmas.Bool.Decides.{nat_tests}
 use Rattle.std.specs.Char.{is_ascii_alphanumeric}

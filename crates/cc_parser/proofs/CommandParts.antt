@@ -1,5 +1,5 @@
 -- The parser while arguments and children are added to it.
-use Rattle.std.proofs.Common.{◌≡◌, ◌∙◌, ℕ, Bool, true, false, not, cond, ◌||◌, ◌&&◌, Option, is_some, List, ◌∷◌, ◌++◌, map, refl, sym, ap, ap₂, subst}
+use Rattle.std.proofs.Common.{◌≡◌, ◌∙◌, ℕ, Bool, true, false, not, cond, ◌||◌, ◌&&◌, Option, is_some, List, [], ◌∷◌, ◌++◌, map, refl, sym, ap, ap₂, subst}
 use Rattle.std.proofs.Math.Bool.{and-true, or_assoc, or-false}
 use Rattle.std.proofs.lemmas.List.{map-append}
 use Rattle.std.specs.Borrow.{Bor}

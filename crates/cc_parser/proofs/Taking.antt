@@ -1,5 +1,5 @@
 -- The parser of a built tree accepts what completion offers.
-use Rattle.std.proofs.Common.{◌≡◌, ◌∙◌, ℕ, Bool, true, false, not, cond, ◌&&◌, ◌||◌, ◌==◌, List, ◌∷◌, ◌++◌, map, Option, Some, None, is_some, option_map, unwrap_or, codes, refl, sym, ap, ap₂, subst, inl, inr, true≢false, eq-eqb, arith, length}
+use Rattle.std.proofs.Common.{◌≡◌, ◌∙◌, ℕ, Bool, true, false, not, cond, ◌&&◌, ◌||◌, ◌==◌, List, [], ◌∷◌, ◌++◌, map, Option, Some, None, is_some, option_map, unwrap_or, codes, refl, sym, ap, ap₂, subst, inl, inr, true≢false, eq-eqb, arith, length}
 use Rattle.std.specs.Prelude.{find, IfSome}
 use Rattle.std.specs.List.{list_all, list_any, AllByRecursion}
 use Rattle.std.specs.Option.{option_map_or}

@@ -1,6 +1,6 @@
 -- The cutting of a fish script into the words of its commands, whatever follows the part that a
 -- lemma describes.
-use Rattle.std.proofs.Common.{◌≡◌, ℕ, List, ◌∷◌, ◌++◌, refl, ap, ◌∙◌, sym, append_assoc, append-nil, inl, inr, ◌⊎◌, Some, None, IsTrue, flat_map}
+use Rattle.std.proofs.Common.{◌≡◌, ℕ, List, [], ◌∷◌, ◌++◌, refl, ap, ◌∙◌, sym, append_assoc, append-nil, inl, inr, ◌⊎◌, Some, None, IsTrue, flat_map}
 use Rattle.std.specs.List.{AllByRecursion}
 use Rattle.cc_base.specs.Bytes as ascii
 use Rattle.cc_quote.specs.FishQuote.{FishSign, FishState, fish_sign, next_state, advance, begins_word, begins_with_word, bare}

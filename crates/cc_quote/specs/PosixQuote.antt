@@ -1,5 +1,5 @@
 -- Words as a POSIX shell reads them, and the quoting of a text for a POSIX shell.
-use Rattle.std.specs.Prelude.{ℕ, Bool, true, false, List, ◌∷◌, ◌++◌, Option, Some, None, codes, ◌==◌, ◌||◌, if◌then◌else◌}
+use Rattle.std.specs.Prelude.{ℕ, Bool, true, false, List, [], ◌∷◌, ◌++◌, Option, Some, None, codes, ◌==◌, ◌||◌, if◌then◌else◌}
 use Rattle.std.specs.Char.{is_ascii_alphanumeric}
 use Rattle.std.specs.List.{list_all, list_any}
 use Rattle.cc_base.specs.Bytes.{single_quote as single_quote_byte}

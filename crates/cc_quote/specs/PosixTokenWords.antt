@@ -1,5 +1,5 @@
 -- The words that a POSIX shell reads, as tokens of a script spell them.
-use Rattle.std.specs.Prelude.{◌≡◌, ℕ, Bool, true, false, List, ◌∷◌, ◌++◌, Option, Some, None, map, option_map}
+use Rattle.std.specs.Prelude.{◌≡◌, ℕ, Bool, true, false, List, [], ◌∷◌, ◌++◌, Option, Some, None, map, option_map}
 use Rattle.cc_quote.specs.PosixSigns.{Sign, sign}
 use Rattle.cc_quote.specs.PosixTokens.{posix_tokens}
 use Rattle.cc_quote.specs.PosixSigns.Sign.{blank, line_feed, backslash}

@@ -1,7 +1,7 @@
 -- The tokens of a script for a POSIX shell, such as bash or zsh. The script is cut at whitespace
 -- outside quotes, as words are read. A token keeps its pieces, each with its kind of quote. Nothing
 -- is a comment.
-use Rattle.std.specs.Prelude.{ℕ, Bool, List, ◌∷◌, ◌++◌, map, Some, None, bytes_eq}
+use Rattle.std.specs.Prelude.{ℕ, Bool, List, [], ◌∷◌, ◌++◌, map, Some, None, bytes_eq}
 use Rattle.cc_base.specs.Bytes.{double_quote as double_quote_byte, single_quote as single_quote_byte, backslash as backslash_byte}
 use Rattle.cc_quote.specs.PosixQuote.{next_state, word_after}
 use Rattle.cc_quote.specs.PosixSigns.{Sign, sign, byte_of}

@@ -1,6 +1,6 @@
 -- The escapes of a text between two `'` for the lists of zsh's completion, and how the backslashes
 -- are removed again.
-use Rattle.std.specs.Prelude.{◌≡◌, ℕ, Bool, true, false, List, ◌∷◌, ◌++◌, Option, Some, None, option_map, codes, ◌==◌, ◌||◌, if◌then◌else◌}
+use Rattle.std.specs.Prelude.{◌≡◌, ℕ, Bool, true, false, List, [], ◌∷◌, ◌++◌, Option, Some, None, option_map, codes, ◌==◌, ◌||◌, if◌then◌else◌}
 use Rattle.cc_base.specs.Bytes.{backslash, backtick, close_bracket, close_parenthesis, colon, dollar, line_feed, open_bracket, open_parenthesis, single_quote, space}
 use Rattle.cc_quote.specs.Escapes.{backslashed, escaped_by}
 use Rattle.cc_quote.specs.PosixQuote.{posix_word_of}

@@ -1,5 +1,5 @@
 -- An Elvish script reads back to the tables from which it was written.
-use Rattle.std.proofs.Common.{◌≡◌, ◌==◌, not, IsTrue, ℕ, List, ◌∷◌, ◌++◌, map, Option, Some, codes, refl, ap, ◌∙◌}
+use Rattle.std.proofs.Common.{◌≡◌, ◌==◌, not, IsTrue, ℕ, List, [], ◌∷◌, ◌++◌, map, Option, Some, codes, refl, ap, ◌∙◌}
 use Rattle.std.specs.List.{AllByRecursion}
 use Rattle.cc_base.proofs.Lines.{IsLine, regroup_six}
 use Rattle.cc_base.proofs.Lines.IsLine.{line}

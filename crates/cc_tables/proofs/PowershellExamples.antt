@@ -1,5 +1,5 @@
 -- Examples of rows, tables and scripts, byte by byte.
-use Rattle.std.proofs.Common.{◌≡◌, List, ◌∷◌, Some, None, codes, map, flat_map, refl, encode_utf8_all}
+use Rattle.std.proofs.Common.{◌≡◌, List, [], ◌∷◌, Some, None, codes, map, flat_map, refl, encode_utf8_all}
 use Rattle.std.specs.Char.{encode_utf8}
 use Rattle.cc_arg.specs.declared.parts.ArgParts.{ArgParts as Arg}
 use Rattle.cc_arg.specs.Arguments.{new_arg}

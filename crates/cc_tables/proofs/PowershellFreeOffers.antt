@@ -1,6 +1,6 @@
 -- The offers at a plain node hold none of PowerShell's further quotes, if the quotes of the tree
 -- are escaped.
-use Rattle.std.proofs.Common.{◌≡◌, ◌≢◌, refl, sym, subst, ℕ, ◌++◌, Bool, IsTrue, List, ◌∷◌, map, flat_map, encode_utf8, Option, Some, None, is_none, unwrap_or, arith}
+use Rattle.std.proofs.Common.{◌≡◌, ◌≢◌, refl, sym, subst, ℕ, ◌++◌, Bool, IsTrue, List, [], ◌∷◌, map, flat_map, encode_utf8, Option, Some, None, is_none, unwrap_or, arith}
 use Rattle.std.specs.Char.{is_ascii_alphanumeric}
 use Rattle.std.specs.List.{AllByRecursion}
 use Rattle.std.proofs.lemmas.Bool.{and_parts}

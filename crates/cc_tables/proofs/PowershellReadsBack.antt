@@ -1,5 +1,5 @@
 -- A PowerShell script reads back to the tables from which it was written.
-use Rattle.std.proofs.Common.{◌≡◌, not, IsTrue, ℕ, List, ◌∷◌, ◌++◌, map, Option, Some, codes, refl, ap, ◌∙◌, append_assoc}
+use Rattle.std.proofs.Common.{◌≡◌, not, IsTrue, ℕ, List, [], ◌∷◌, ◌++◌, map, Option, Some, codes, refl, ap, ◌∙◌, append_assoc}
 use Rattle.std.specs.List.{AllByRecursion}
 use Rattle.cc_base.specs.Bytes.{single_quote, line_feed}
 use Rattle.cc_base.proofs.Lines.{IsLine, regroup_five, regroup_six}

@@ -1,7 +1,7 @@
 -- The blocks in a Nushell script, which is read line by line. A line `  export extern "key" [`
 -- opens a block. The lines after it, up to a line `  ]`, are the records of the block. Other lines
 -- between blocks are not read.
-use Rattle.std.specs.Prelude.{ℕ, List, ◌∷◌, ◌++◌, ◌==◌, ◌||◌, Bool, Option, Some, None, if◌then◌else◌, bytes_eq, codes, is_some, map, option_map}
+use Rattle.std.specs.Prelude.{ℕ, List, [], ◌∷◌, ◌++◌, ◌==◌, ◌||◌, Bool, Option, Some, None, if◌then◌else◌, bytes_eq, codes, is_some, map, option_map}
 use Rattle.cc_command.specs.Tree.{Tree}
 use Rattle.cc_base.specs.Bytes.{line_feed, space, colon}
 use Rattle.cc_base.specs.Found.{after, after_mark, before_ending, pieces_from}

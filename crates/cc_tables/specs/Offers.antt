@@ -1,5 +1,5 @@
 -- The names that a table offers at a node.
-use Rattle.std.specs.Prelude.{ℕ, List, ◌++◌, map, codes, encode_utf8, unwrap_or}
+use Rattle.std.specs.Prelude.{ℕ, List, ◌++◌, map, codes, encode_utf8, unwrap_or, []}
 use Rattle.std.specs.List.{flat_map}
 use Rattle.cc_arg.specs.declared.parts.ArgParts.{ArgParts as Arg}
 use Rattle.cc_arg.specs.declared.names.ShownName.{ShownName}

@@ -2,7 +2,7 @@
 -- `{`, and end before `})`. A table is a quoted key, `{`, rows, `break` and `}`. A row is a call
 -- `[CompletionResult]::new(` with four arguments and `)`. Every quote is a `'`. The rest of the
 -- script is not read.
-use Rattle.std.specs.Prelude.{ℕ, Bool, IsTrue, List, ◌∷◌, ◌++◌, ◌&&◌, if◌then◌else◌, drop, encode_utf8, Option, Some, None, option_map, unwrap_or, bytes_eq, codes}
+use Rattle.std.specs.Prelude.{ℕ, Bool, IsTrue, List, [], ◌∷◌, ◌++◌, ◌&&◌, if◌then◌else◌, drop, encode_utf8, Option, Some, None, option_map, unwrap_or, bytes_eq, codes}
 use Rattle.cc_command.specs.Escaped.{is_escaped_tree, quote_at}
 use Rattle.cc_command.specs.Tree.{Tree}
 use Rattle.cc_generator.specs.Generators.{ShellSpec}

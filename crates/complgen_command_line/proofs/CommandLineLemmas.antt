@@ -1,5 +1,5 @@
 -- The results of parsing the command line, and how parsing fails.
-use Rattle.std.proofs.Common.{◌≡◌, ◌⊎◌, ◌||◌, inl, inr, refl, subst, sym, true, false, not, Bool, List, drop, ℕ, ◌∷◌, Option, Some, None, is_some, option_map}
+use Rattle.std.proofs.Common.{◌≡◌, ◌⊎◌, ◌||◌, inl, inr, refl, subst, sym, true, false, not, Bool, List, drop, ℕ, [], ◌∷◌, Option, Some, None, is_some, option_map}
 use Rattle.std.specs.Borrow.{Bor}
 use Rattle.std.specs.Prelude.{IsSome, codes, find, if◌then◌else◌}
 use Rattle.std.specs.List.{list_all}

@@ -1,6 +1,6 @@
 -- An argument that takes at least one value in each use has a value if the words give it: each use
 -- that clap accepts leaves a value in its row.
-use Rattle.std.proofs.Common.{◌≡◌, ◌∙◌, ◌&&◌, ◌||◌, ◌+◌, ◌++◌, ℕ, zero, suc, Bool, true, false, not, List, ◌∷◌, Option, Some, None, ◌⊎◌, inl, inr, ap, sym, refl, length, drop, is_some, min}
+use Rattle.std.proofs.Common.{◌≡◌, ◌∙◌, ◌&&◌, ◌||◌, ◌+◌, ◌++◌, ℕ, zero, suc, Bool, true, false, not, List, [], ◌∷◌, Option, Some, None, ◌⊎◌, inl, inr, ap, sym, refl, length, drop, is_some, min}
 use Rattle.std.specs.Prelude.{if◌then◌else◌, encode_utf8, find, fold, nat_lt, option_and_then, slice_get}
 use Rattle.std.specs.List.{list_all}
 use Rattle.std.specs.Option.{option_map_or}

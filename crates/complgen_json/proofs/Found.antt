@@ -1,5 +1,5 @@
 -- The same is found in a value and in its view.
-use Rattle.std.proofs.Common.{◌≡◌, ◌∙◌, ◌&&◌, ◌||◌, ◌^◌, ◌+◌, ◌<◌, drop, get_or, length, ℕ, Bool, true, false, List, ◌∷◌, Option, Some, None, Bor, Global, Ordering, Less, Equal, Greater, ap, ap₂, bytes_eq, cond, if◌then◌else◌, is_eq, is_some, map, nat_cmp, refl, subst, sym, true≢false}
+use Rattle.std.proofs.Common.{◌≡◌, ◌∙◌, ◌&&◌, ◌||◌, ◌^◌, ◌+◌, ◌<◌, drop, get_or, length, ℕ, Bool, true, false, List, [], ◌∷◌, Option, Some, None, Bor, Global, Ordering, Less, Equal, Greater, ap, ap₂, bytes_eq, cond, if◌then◌else◌, is_eq, is_some, map, nat_cmp, refl, subst, sym, true≢false}
 use Rattle.std.specs.Prelude.{option_and_then, option_map, nat_le, nat_lt}
 use Rattle.std.specs.Float.{binary64, float_is_finite}
 use Rattle.std.specs.List.{list_all, list_any}

@@ -1,5 +1,5 @@
 -- If the numbers are in range, `serde_json` reads the view of a value.
-use Rattle.std.proofs.Common.{◌≡◌, ◌∙◌, ◌&&◌, Bool, true, false, List, Option, Some, None, ap, if◌then◌else◌, is_some, refl, sym, true≢false}
+use Rattle.std.proofs.Common.{◌≡◌, ◌∙◌, ◌&&◌, Bool, true, false, List, Option, Some, None, ap, if◌then◌else◌, is_some, refl, sym, true≢false, []}
 use Rattle.std.specs.Prelude.{option_and_then, option_map}
 use Rattle.json.specs.Json as borrowed
 use Rattle.json.specs.Reads.{Yields}

@@ -1,5 +1,5 @@
 -- The warnings about conflicts are the same if the same ids are known.
-use Rattle.std.proofs.Common.{◌≡◌, ap, ap₂, refl, ℕ, suc, Bool, false, ◌||◌, List, ◌∷◌, ◌++◌, is_some, codes}
+use Rattle.std.proofs.Common.{◌≡◌, ap, ap₂, refl, ℕ, suc, Bool, false, ◌||◌, List, [], ◌∷◌, ◌++◌, is_some, codes}
 use Rattle.std.specs.Borrow.{Bor}
 use Rattle.std.specs.BTreeMap.{BTreeMap}
 use Rattle.std.specs.Str.{bytes_eq}

@@ -1,5 +1,5 @@
 -- The text of a warning.
-use Rattle.std.specs.Prelude.{ℕ, List, ◌++◌, Option, Some, codes, encode_utf8, if◌then◌else◌}
+use Rattle.std.specs.Prelude.{ℕ, List, ◌++◌, Option, Some, codes, encode_utf8, if◌then◌else◌, []}
 use Rattle.complgen_lints.specs.Running.{may_run_name, may_run_value}
 use Rattle.complgen_lints.specs.declared.place.Key.{Key}
 use Rattle.complgen_lints.specs.declared.place.Key.TheVariants.{BinName, Aliases, Help, VisibleAliases, Id, PossibleValues, Short, Long, ValueNames}

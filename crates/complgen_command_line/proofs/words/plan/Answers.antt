@@ -1,4 +1,4 @@
-use Rattle.std.proofs.Common.{◌∙◌, ◌≡◌, List, Option, ap, inl, map, string_bytes, subst, sym}
+use Rattle.std.proofs.Common.{◌∙◌, ◌≡◌, List, Option, ap, inl, map, string_bytes, subst, sym, []}
 use Rattle.std.proofs.lemmas.Result.{IfErr-weaker, IfOk-weaker}
 use Rattle.clap.specs.Kinds.{HasKind, Kinds}
 use Rattle.clap.specs.Words.{App, Row, Text, fault_of, is_simple, is_simple_and_free, subcommand_of, takes}

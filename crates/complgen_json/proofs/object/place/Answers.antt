@@ -1,4 +1,4 @@
-use Rattle.std.proofs.Common.{◌∙◌, ◌<◌, ◌++◌, Some, ap, arith, bytes_eq, length, map, sym, ◌≡◌, ℕ, zero, suc, Bool, true, false, List, ◌∷◌, ap₂, get_or, refl, subst, true≢false}
+use Rattle.std.proofs.Common.{◌∙◌, ◌<◌, ◌++◌, Some, ap, arith, bytes_eq, length, map, sym, ◌≡◌, ℕ, zero, suc, Bool, true, false, List, [], ◌∷◌, ap₂, get_or, refl, subst, true≢false}
 use Rattle.std.specs.Prelude.{slice_set}
 use Rattle.std.proofs.lemmas.List.{length-map, map-set, set-append_left}
 use Rattle.std.specs.List.{list_any}

@@ -1,4 +1,4 @@
-use Rattle.std.proofs.Common.{◌≡◌, ◌∷◌, map, Some, None, sym, ◌∙◌, ap, rules}
+use Rattle.std.proofs.Common.{◌≡◌, [], ◌∷◌, map, Some, None, sym, ◌∙◌, ap, rules}
 use Rattle.std.specs.Prelude.{codes, string_bytes}
 use Rattle.cc_flat.specs.Flat.{tree_at}
 use Rattle.cc_command.specs.Tree.{Tree}

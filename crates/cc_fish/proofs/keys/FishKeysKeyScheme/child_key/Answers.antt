@@ -1,4 +1,4 @@
-use Rattle.std.proofs.Common.{◌≡◌, ℕ, List, ◌∷◌, Bool, false, length, codes, ◌∙◌, Result, Ok, Err, IfOk, append_assoc, nat_eq}
+use Rattle.std.proofs.Common.{◌≡◌, ℕ, List, [], ◌∷◌, Bool, false, length, codes, ◌∙◌, Result, Ok, Err, IfOk, append_assoc, nat_eq}
 use Rattle.cc_generator.specs.Visits.{joined}
 use Rattle.cc_fish.specs.Script.{fish_key}
 use Rattle.cc_fish.proofs.keys.FishKeysKeyScheme.child_key.Goals as goal

@@ -1,4 +1,4 @@
-use Rattle.std.proofs.Common.{◌∙◌, ap, subst, sym, ◌≡◌, cond, false, refl, true, ℕ, Bool, List, None, Option, Some, ◌∷◌, IfOk}
+use Rattle.std.proofs.Common.{◌∙◌, ap, subst, sym, ◌≡◌, cond, false, refl, true, ℕ, Bool, List, None, Option, Some, [], ◌∷◌, IfOk}
 use Rattle.std.specs.Prelude.{ok_or, IfSome, find}
 use Rattle.std.proofs.lemmas.Slice.Eq.{bytes_eq-Decides}
 use Rattle.std.specs.Str.{bytes_eq}
