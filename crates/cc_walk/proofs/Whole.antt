@@ -107,7 +107,7 @@ walked_only root words other elsewhere leads =
 pub there : (node_state : NodeState) (root : Tree) (words rest : List (List ℕ)) → rest ≡ [] → walk node_state rest ≡ walked root words →
     WordsLeadTo root words node_state.tree node_state.state × WordsLeadOnlyTo root words node_state.tree node_state.state
     × (HasNoHiddenAlias root words → node_state.tree ≡ visible_end root words)
-there node_state root words rest none is =
+there node_state root words rest empty is =
     subst (λ (s : NodeState). WordsLeadTo root words s.tree s.state × WordsLeadOnlyTo root words s.tree s.state × (HasNoHiddenAlias root words → s.tree ≡ visible_end root words))
-    (sym is ∙ ap (walk node_state) none)
+    (sym is ∙ ap (walk node_state) empty)
     (walked_is root words, walked_only root words, walk_visible words (record { tree = root; state = start false }))
