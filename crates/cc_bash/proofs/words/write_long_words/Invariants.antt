@@ -1,4 +1,4 @@
-use Rattle.std.proofs.Common.{◌++◌, ◌∷◌, drop, map}
+use Rattle.std.proofs.Common.{◌++◌, [], ◌∷◌, drop, map}
 use Rattle.cc_generator.specs.ArgumentNames.{long_word}
 use Rattle.cc_bash.proofs.WordLoops.{WordsGoOn}
 use Rattle.cc_bash.proofs.words.write_long_words.Given as goal

@@ -1,4 +1,4 @@
-use Rattle.std.proofs.Common.{◌∷◌, drop, map, filter, not}
+use Rattle.std.proofs.Common.{[], ◌∷◌, drop, map, filter, not}
 use Rattle.cc_base.proofs.WrittenTexts.{GoesOn}
 use Rattle.cc_base.specs.Joined.{joined, joined_after}
 use Rattle.cc_base.specs.Bytes.{line_feed}
