@@ -1,5 +1,3 @@
 mod Examples
-mod HiddenBuilt
 mod Offers
-mod Reaching
 mod Together

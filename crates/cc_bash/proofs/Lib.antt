@@ -5,12 +5,10 @@ pub mod Clashes
 mod Examples
 pub mod LabelledPath
 pub mod ListedNodes
-pub mod NextSteps
 pub mod PlainArms
 pub mod PlainBytes
 pub mod PlainTable
 pub mod ReadsArms
-pub mod ReadsBack
 pub mod ReadsCases
 pub mod ReadsDetails
 pub mod WholeScript

@@ -1,9 +1,7 @@
 pub mod ElvishExamples
 pub mod ElvishPlain
-pub mod ElvishReadsBack
 pub mod NushellExamples
 pub mod NushellPlain
-pub mod NushellReadsBack
 pub mod NushellTexts
 pub mod PlainOffers
 pub mod PlainTables

@@ -1,4 +1,3 @@
 pub mod Found
 pub mod RangeSteps
-pub mod Readings
 pub mod SlotExamples
