@@ -1,6 +1,3 @@
-mod BashEnd
 mod Examples
-mod HiddenBuilt
 mod Offers
-mod Reaching
 mod Together

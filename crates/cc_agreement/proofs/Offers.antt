@@ -1,30 +1,26 @@
 -- The parser accepts each candidate at the root.
-use Rattle.std.proofs.Common.{◌≡◌, ◌∙◌, ◌⊎◌, ◌==◌, ◌||◌, ◌&&◌, ℕ, Bool, true, false, not, cond, eq-eqb, eqb-true, true≢false, arith, length, is_some, List, [], ◌∷◌, ◌++◌, map, Option, Some, None, refl, sym, ap, subst, inl, inr, flat_map, Result, Ok, Err, IfOk}
+use Rattle.std.proofs.Common.{◌≡◌, ◌∙◌, ◌⊎◌, ◌==◌, ◌||◌, ◌&&◌, ℕ, Bool, true, false, not, cond, eq-eqb, eqb-true, true≢false, arith, length, is_some, List, [], ◌∷◌, ◌++◌, map, Option, Some, None, refl, sym, ap, subst, inl, inr, flat_map}
 use Rattle.std.specs.Prelude.{chars, codes, filter, find, get_or, nat_le}
 use Rattle.std.specs.List.{AllByRecursion, dedup, dedup_from, list_all, list_any}
 use Rattle.std.specs.Option.{option_map_or}
 use Rattle.std.specs.Ordering.{eq_by_cmp}
 use Rattle.std.specs.Str.{bytes_eq}
 use Rattle.std.proofs.Math.Bool.{or-true}
-use Rattle.std.proofs.lemmas.Bool.{ne_eqb}
+use Rattle.std.proofs.lemmas.Bool.{ne_eqb, and_parts}
 use Rattle.std.proofs.lemmas.Slice.Eq.{bytes_eq-Decides}
 use Rattle.cc_arg.specs.declared.parts.ArgParts.{ArgParts as Arg}
 use Rattle.cc_arg.specs.ShownNames.{shown_longs, shown_shorts, with_aliases}
 use Rattle.cc_base.specs.Bytes.{dash}
-use Rattle.cc_base.specs.declared.error.Error.{Error}
-use Rattle.cc_base.specs.declared.error.Error.TheVariants as error
 use Rattle.cc_base.specs.Sorting.{in_order}
-use Rattle.cc_base.proofs.Members.{AllByRecursion-IsIn, AllByRecursion-append, AllByRecursion-filter, AllByRecursion-flat_map, AllByRecursion-from_IsIn, AllByRecursion-map, AllByRecursion-weaker, Contains-from_IsIn, IsIn, IsIn-append_left, IsIn-append_right}
+use Rattle.cc_base.proofs.Members.{AllByRecursion-IsIn, AllByRecursion-append, AllByRecursion-filter, AllByRecursion-flat_map, AllByRecursion-from_IsIn, AllByRecursion-map, Contains-from_IsIn, IsIn, IsIn-append_left, IsIn-append_right}
 use Rattle.cc_base.proofs.Sorted.{AllByRecursion-in_order}
 use Rattle.cc_candidates.specs.Beginning.{begins}
-use Rattle.cc_candidates.specs.Candidate.{candidate_cmp}
-use Rattle.cc_candidates.specs.Candidate.{comes_before as candidate_before}
+use Rattle.cc_candidates.specs.Candidate.{candidate_cmp, comes_before as candidate_before}
 use Rattle.cc_candidates.specs.declared.candidate.CompletionCandidate.{CompletionCandidate}
-use Rattle.cc_command.specs.Built.{built_tree}
 use Rattle.cc_command.specs.Names.{visible_names}
 use Rattle.cc_command.specs.Tree.{Forest, none, more, Tree}
 use Rattle.cc_command.specs.declared.node.Node.{Node}
-use Rattle.cc_engine.specs.Completion.{Completes, Refuses, Returned, candidates_for, is_in_range, finished_last, offered, offered_children, offered_match, opened_values, positional_values, match_candidates}
+use Rattle.cc_engine.specs.Completion.{Completes, Returned, candidates_for, finished_last, offered, offered_children, offered_match, opened_values, positional_values, match_candidates}
 use Rattle.cc_engine.specs.OpenLists.{least, open_lists_by}
 use Rattle.cc_gather.specs.Children.{child_candidate, child_candidates, children_candidates, external, in_candidates_order, subcommand_candidates}
 use Rattle.cc_gather.specs.Finished.{comes_before, finish, first_of_ids, group, shown_or_all}
@@ -38,8 +34,7 @@ use Rattle.cc_gather.proofs.FirstOfIds.{all-first_of_ids}
 use Rattle.cc_gather.proofs.Law.{all-shown}
 use Rattle.cc_parser.specs.Parsers.{IsAppOf, has_globals}
 use Rattle.cc_parser.specs.Taken.{fits_parser, has_index_or_name, KnowsChild, KnowsLong, KnowsShort, TakesNames, TakesOffered, TakesSiblings}
-use Rattle.cc_parser.proofs.OneApp.{both_true}
-use Rattle.cc_agreement.specs.ParserAgreement.{AgreesWithParser, IsParserOf, IsTaken, RefusesBoth, match_values, values_among}
+use Rattle.cc_agreement.specs.ParserAgreement.{AgreesWithParser, IsParserOf, IsTaken, match_values, values_among}
 use Rattle.cc_gather.specs.Values.{MayReturn, values}
 use Rattle.cc_walk.specs.Lookup.{positional_at}
 use Rattle.cc_walk.specs.WordClasses.{value_character}
@@ -213,8 +208,8 @@ module _ (tree : Tree) (app : App) (takes : TakesOffered tree app) (tidy : list_
 
   tidy_one : (args : List Arg) → list_all has_index_or_name args ≡ true → (a : Arg) → IsIn args a → has_index_or_name a ≡ true
   tidy_one [] h a there = absurd there
-  tidy_one (b ∷ args) h a (inl same) = ap has_index_or_name (sym same) ∙ (both_true (has_index_or_name b) (list_all has_index_or_name args) h).0
-  tidy_one (b ∷ args) h a (inr there) = tidy_one args (both_true (has_index_or_name b) (list_all has_index_or_name args) h).1 a there
+  tidy_one (b ∷ args) h a (inl same) = ap has_index_or_name (sym same) ∙ (and_parts (has_index_or_name b) (list_all has_index_or_name args) h).0
+  tidy_one (b ∷ args) h a (inr there) = tidy_one args (and_parts (has_index_or_name b) (list_all has_index_or_name args) h).1 a there
 
   known_long : (a : Arg) → IsIn tree.node.arguments a → (hidden : Bool) (names : List (List ℕ))
       → ((name : List ℕ) → IsIn names name → IsIn (shown_longs a ++ a.aliases) name)
@@ -329,7 +324,7 @@ agrees sources root app words index found takes fits completes = record {
   taken = λ same. subst (AllByRecursion (IsTaken root app (get_or words index []) (values_among completes.tree completes.state (get_or words index []) completes.offers.0))) (sym completes.offers.2)
       (subst (λ (t : Tree). AllByRecursion (IsTaken root app (get_or words index []) (values_among t completes.state (get_or words index []) completes.offers.0))
       (candidates_for t completes.state (get_or words index []) completes.offers.0)) (sym same)
-      (all_taken root app takes (both_true (list_all has_index_or_name root.node.arguments) _ fits).0 completes.state (get_or words index []) completes.offers.0));
+      (all_taken root app takes (and_parts (list_all has_index_or_name root.node.arguments) _ fits).0 completes.state (get_or words index []) completes.offers.0));
 }
 
 -- the same for the tree after building
@@ -350,10 +345,3 @@ pub parser_built : (root new : Tree) (app : App) (globals : Bool) → new ≡ ro
     → IsParserOf root app globals
 parser_built root new app globals same is counted taken =
     subst (λ (tree : Tree). IsParserOf tree app globals) same (record { is = is; same_globals = counted; taken = taken })
-
--- building failed, or the index is out of range
-pub refuses_both : (old new : Tree) (count index : ℕ) (error : Error) → Refuses old new count index error → RefusesBoth (built_tree old) count index error
-refuses_both old new count index error.Memory refuses = tt
-refuses_both old new count index error.NoCompletion refuses =
-    subst (λ (tree : Tree). is_in_range tree.node count index ≡ false) refuses.0 refuses.1
-refuses_both old new count index _ refuses = absurd refuses

@@ -147,8 +147,7 @@ fn same_texts(texts: &[Text], others: &[Text]) -> bool
     text.as_str() == other.as_str() && same_texts(texts, others)
 }
 
-/// Gives `argument` the list of candidates `list` if its values come from where those of `asked`
-/// come from.
+/// Sets the list of candidates of `argument` to `list` if it has the same value source as `asked`.
 pub fn list_if_same_source(argument: &mut Arg, asked: &Arg, list: ArgValueCandidates)
     ensures { argument.new ≡ listed asked.now list argument.old }
 {

@@ -5,7 +5,7 @@ use Rattle.std.specs.Char.{is_ascii_alphanumeric}
 use Rattle.cc_base.specs.Bytes.{dash, underscore}
 use Rattle.cc_base.specs.PlainName.{NameByte, letter, joiner, foreign, name_byte, is_joined, is_plain_name}
 
--- the rest of a name is joined, given whether a letter comes before it
+-- the remaining bytes of a name are joined, given whether a letter comes before them
 unfoldable pub joined_after : Bool → List NameByte → Bool
 joined_after true bytes = is_joined (letter ∷ bytes)
 joined_after false bytes = is_joined bytes

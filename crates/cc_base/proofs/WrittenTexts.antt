@@ -5,6 +5,14 @@ use Rattle.cc_base.specs.declared.error.Error.{Error}
 use Rattle.cc_base.specs.Sink.{Failures}
 use Rattle.cc_base.specs.Writes.{Writes, CountsWrite}
 
+-- A loop that writes goes on: the bytes taken since it began and the rest are the whole, and no put
+-- failed.
+abbrev pub GoesOn : {S : Type 0} → (S → List ℕ) → (S → Failures) → S → S → List ℕ → List ℕ → Type 0
+GoesOn taken failed begun sink all rest = record {
+  whole : taken sink ++ rest ≡ taken begun ++ all;
+  failures : failed sink ≡ failed begun;
+}
+
 -- a call that writes a text also writes an equal text
 pub writes_same : {S : Type 0} {taken : S → List ℕ} {failed : S → Failures}
     {result : Result (Unit {0}) Error} {old new : S} (text other : List ℕ) → text ≡ other →

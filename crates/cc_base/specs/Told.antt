@@ -1,4 +1,4 @@
--- A writer whose contract says what it holds.
+-- A writer whose contract names the bytes that it holds.
 use Rattle.std.specs.Prelude.{◌≡◌, List, [], ℕ, Some, None}
 use Rattle.std.specs.declared.option.Option.{Option}
 

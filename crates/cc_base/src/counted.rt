@@ -15,10 +15,9 @@ use std::io::{self, ErrorKind};
 /// A sink that passes bytes on to any writer and counts the failures. Each put is one `write`. An
 /// interrupted `write` counts as a failure like any other.
 ///
-/// The list of the bytes taken exists only for proofs and has no size. That the bytes reach the
-/// writer is shown by the short body of `put` and by a test. The contract of `put` says so only if
-/// the writer's own contract says what it holds. For such a writer use [`Held`](crate::Held), whose
-/// taken bytes are those that the writer holds.
+/// The list of the bytes taken exists only for proofs and has no size. The short body of `put` and
+/// a test show that the bytes reach the writer. A contract shows it for a writer whose own contract
+/// names the bytes that it holds: for such a writer use [`Held`](crate::Held).
 #[derive(Drop)]
 pub struct Counted<W> {
     writer: W,

@@ -1,4 +1,4 @@
-//! A sink over a writer whose contract says what it holds.
+//! A sink over a writer whose contract names the bytes that it holds.
 
 ghost use Rattle.std.specs.Prelude.{◌≡◌, ◌≤◌, ◌++◌, take, length, Some, IfOk, IfErr, OnErr};
 ghost use Rattle.cc_base.specs.Sink.{after_put, none_failed};
@@ -11,8 +11,9 @@ use crate::error::Error;
 use crate::sink::Sink;
 use std::io::{self, ErrorKind};
 
-/// A sink over a writer whose contract says what it holds, such as a `Vec` or a `BufWriter` over
-/// one. The bytes taken are all bytes that the writer holds, including those that it held before.
+/// A sink over a writer whose contract names the bytes that it holds, such as a `Vec` or a
+/// `BufWriter` over one. The bytes taken are all bytes that the writer holds, including those that
+/// it held before.
 #[derive(Drop)]
 pub struct Held<W: io::Write> {
     sink: Counted<W>,

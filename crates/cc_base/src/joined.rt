@@ -8,8 +8,7 @@ use crate::pieces::{put_piece, put_pieces};
 use crate::sink::Sink;
 use std::io::ErrorKind;
 
-/// Puts the separator `between` if a text was put before, as `begun` says. Sets `begun`, because a
-/// text follows.
+/// Puts the separator `between` if `begun` is true, and then sets `begun`.
 ///
 /// # Errors
 ///

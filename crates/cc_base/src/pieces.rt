@@ -1,5 +1,5 @@
 //! Functions that put pieces of a text one after another. Their error is the kind of the put that
-//! failed. It is smaller than the library's error, so many pieces in a row take fewer instructions.
+//! failed. It is smaller than the library's error, so long rows of pieces take fewer instructions.
 
 ghost use Rattle.std.specs.Prelude.{◌≡◌, [], ◌++◌, IsOk};
 ghost use Rattle.cc_base.specs.Joined.{with_pieces};

@@ -20,7 +20,7 @@ pub trait Sink {
     ///
     /// # Errors
     ///
-    /// The kind of the failure. The contract then does not say how much was taken.
+    /// The kind of the failure. The contract then leaves open how much was taken.
     fn put(&mut self, bytes: &[u8]) -> Result<usize, ErrorKind>
         ensures within { IfOk result (λ count. count ≤ length bytes.now) }
         ensures ok { IfOk result

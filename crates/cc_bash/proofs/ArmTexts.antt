@@ -33,7 +33,7 @@ arm_parts label level tree written same =
         ≡ (((((((a ++ b) ++ c) ++ d) ++ e) ++ f) ++ g) ++ h) ++ i
     regroup a b c d e f g h i = simp append_assoc
 
--- the details of an option are those of its longs, followed by those of its shorts
+-- the details of an option are the details of its longs, followed by the details of its shorts
 pub option_parts : (argument : Arg) →
     flat_map detail_text (map (detail_of argument) (map long_word (shown_longs argument)))
     ++ flat_map detail_text (map (detail_of argument) (map short_word (shown_shorts argument)))

@@ -1,21 +1,16 @@
-pub mod ArmOrder
 pub mod ArmTexts
 pub mod CaseOrder
 pub mod CaseWalk
 pub mod Clashes
-pub mod EachArm
 mod Examples
 pub mod LabelledPath
 pub mod ListedNodes
-pub mod NextSteps
 pub mod PlainArms
 pub mod PlainBytes
 pub mod PlainTable
 pub mod ReadsArms
-pub mod ReadsBack
 pub mod ReadsCases
 pub mod ReadsDetails
-pub mod Seen
 pub mod WholeScript
-pub mod WordTexts
 pub mod WordsRead
+pub mod WordLoops

@@ -1,6 +1,5 @@
 -- The cases and the arms that the bash script of a tree reads back to.
-use Rattle.std.specs.Prelude.{◌≡◌, ℕ, List, [], ◌∷◌, ◌++◌, map, IsTrue, Option, Some, None}
-use Rattle.std.specs.Prelude.{bytes_eq, codes, if◌then◌else◌}
+use Rattle.std.specs.Prelude.{◌≡◌, ℕ, List, [], ◌∷◌, ◌++◌, map, IsTrue, Option, Some, None, bytes_eq, codes, if◌then◌else◌}
 use Rattle.std.specs.List.Sorted.{IsPermutation}
 use Rattle.cc_base.specs.Differ.{AllDifferBy}
 use Rattle.cc_command.specs.Tree.{Tree}
@@ -11,8 +10,7 @@ use Rattle.cc_command.specs.Quiet.{is_quiet_tree}
 use Rattle.cc_generator.specs.Generators.{ShellSpec}
 use Rattle.cc_bash.specs.Reader.{Table, bash_cases, bash_table}
 use Rattle.cc_bash.specs.Script.{bash_script}
-use Rattle.cc_bash.specs.Walk.{PathNode, all_path_nodes, label_at, level_of, path_nodes}
-use Rattle.cc_bash.specs.Walk.{root_path_node, walk}
+use Rattle.cc_bash.specs.Walk.{PathNode, all_path_nodes, label_at, level_of, path_nodes, root_path_node, walk}
 
 -- the first arm with a label
 abbrev pub arm_at : List Arm → List ℕ → Option Arm

@@ -61,7 +61,7 @@ impl Generator for Bash {
 
 /// Returns the label that two nodes of `command` share, or `None` if all labels differ. It is the
 /// label of the first node whose label an earlier node has. If a command is built under a bin name,
-/// the generator fails with this label, and reports no label if there is none.
+/// the generator fails with this label. Without such a label it reports no clash.
 ///
 /// # Errors
 ///

@@ -1,4 +1,3 @@
-mod Finishing
 mod LinesRead
 mod Offering
 mod PromptAnswer

@@ -1,4 +1,3 @@
 pub mod AddedLast
-mod ByValue
 mod Examples
 pub mod Results

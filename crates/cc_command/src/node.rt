@@ -41,7 +41,7 @@ pub struct Node {
     pub disable_version_flag: bool,
     /// True if building the command adds no child `help`.
     pub disable_help_subcommand: bool,
-    /// True if a word that is not the name of a child is the name of another program.
+    /// True if an unknown subcommand is accepted as an external subcommand.
     pub allow_external_subcommands: bool,
     /// True if the words of a command line do not begin with the program's name.
     pub no_binary_name: bool,

@@ -19,9 +19,3 @@ pub(crate) fn is<E: Debug + Drop>(rt: &impl Abort, text: Result<String, E>, want
 pub(crate) fn is_none<T: Drop, E: Drop>(rt: &impl Abort, found: Result<Option<T>, E>) {
     assert!(rt; matches!(found, Ok(None)));
 }
-
-/// Fails unless `text` is `Ok` with the text `wanted` twice in a row.
-pub(crate) fn is_twice<E: Debug + Drop>(rt: &impl Abort, text: Result<String, E>, wanted: &str) {
-    let text = text.expect(rt, "no text");
-    same(rt, text.as_str().strip_prefix(wanted), Some(wanted));
-}

@@ -27,5 +27,3 @@ mod texts;
 mod tree_file;
 #[cfg(test)]
 mod trees;
-#[cfg(test)]
-mod values;

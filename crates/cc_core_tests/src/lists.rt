@@ -77,33 +77,24 @@ fn longs_of_flags_of(alloc: Global, command: &Command, word: &str) -> Result<Str
 #[test]
 fn visible_aliases_come_before_the_name(rt: HostRuntime) {
     let command = built_tree(&rt, rt.alloc(), MY_APP);
-    is(
-        &rt,
-        shorts_and_longs_of(rt.alloc(), &command, "test"),
-        "p f h path file help ",
-    );
+    let names = shorts_and_longs_of(rt.alloc(), &command, "test");
+    is(&rt, names, "p f h path file help ");
     drop(command);
 }
 
 #[test]
 fn generated_flags_come_last(rt: HostRuntime) {
     let command = built_tree(&rt, rt.alloc(), MY_APP);
-    is(
-        &rt,
-        shorts_and_longs(rt.alloc(), &command),
-        "h V help version ",
-    );
+    let names = shorts_and_longs(rt.alloc(), &command);
+    is(&rt, names, "h V help version ");
     drop(command);
 }
 
 #[test]
 fn flags_take_no_values(rt: HostRuntime) {
     let command = built_tree(&rt, rt.alloc(), MY_APP);
-    is(
-        &rt,
-        longs_of_flags_of(rt.alloc(), &command, "test"),
-        "file help ",
-    );
+    let longs = longs_of_flags_of(rt.alloc(), &command, "test");
+    is(&rt, longs, "file help ");
     drop(command);
 }
 
@@ -151,10 +142,7 @@ fn child_lines(alloc: Global, command: &Command) -> Result<String, Error> {
 #[test]
 fn a_child_is_listed_under_each_visible_name(rt: HostRuntime) {
     let command = built_tree(&rt, rt.alloc(), NESTED);
-    is(
-        &rt,
-        child_lines(rt.alloc(), &command),
-        "run: app run\nr: app run\n",
-    );
+    let shown = child_lines(rt.alloc(), &command);
+    is(&rt, shown, "run: app run\nr: app run\n");
     drop(command);
 }

@@ -12,18 +12,11 @@ fn display_text(alloc: Global, error: Error) -> Result<String, AllocError> {
 #[test]
 fn an_error_prints_its_text(rt: HostRuntime) {
     let alloc = rt.alloc();
-    is(
-        &rt,
-        display_text(alloc, Error::from(AllocError)),
-        "out of memory",
-    );
+    let memory = display_text(alloc, Error::from(AllocError));
+    is(&rt, memory, "out of memory");
     let write = Error::Write(ErrorKind::WriteZero);
     is(&rt, display_text(alloc, write), "write failed");
-    let completion = Error::NoCompletion;
-    is(
-        &rt,
-        display_text(alloc, completion),
-        "no completion generated",
-    );
+    let completion = display_text(alloc, Error::NoCompletion);
+    is(&rt, completion, "no completion generated");
     is(&rt, display_text(alloc, Error::NoArguments), "no arguments");
 }

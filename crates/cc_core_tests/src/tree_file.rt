@@ -5,7 +5,7 @@
 use crate::checks::is;
 use crate::fixtures::tree;
 use complgen_tree_file::TreeError;
-use std::alloc::{AllocError, Global};
+use std::process::Abort;
 
 #[test]
 fn a_command_that_requires_arguments_has_its_key(rt: HostRuntime) {
@@ -18,26 +18,14 @@ fn a_command_that_requires_arguments_has_its_key(rt: HostRuntime) {
     drop(command);
 }
 
-fn debug_text(alloc: Global, error: &TreeError) -> Result<String, AllocError> {
-    format!(in alloc; "{error} {error:?}")
+// Fails unless the error shows this text and this `Debug` text.
+fn shows(rt: &(impl Abort + AllocGlobal), error: &TreeError, wanted: &str) {
+    is(rt, format!(in rt.alloc(); "{error} {error:?}"), wanted);
 }
 
 #[test]
 fn each_error_shows_its_text(rt: HostRuntime) {
-    let alloc = rt.alloc();
-    is(
-        &rt,
-        debug_text(alloc, &TreeError::NotJson),
-        "tree: not JSON NotJson",
-    );
-    is(
-        &rt,
-        debug_text(alloc, &TreeError::BadForm),
-        "tree: bad form BadForm",
-    );
-    is(
-        &rt,
-        debug_text(alloc, &TreeError::Memory),
-        "out of memory Memory",
-    );
+    shows(&rt, &TreeError::NotJson, "tree: not JSON NotJson");
+    shows(&rt, &TreeError::BadForm, "tree: bad form BadForm");
+    shows(&rt, &TreeError::Memory, "out of memory Memory");
 }

@@ -7,8 +7,7 @@ use Rattle.cc_arg.specs.ShownNames.{with_aliases, shown_shorts, shown_longs}
 use Rattle.cc_command.specs.Tree.{Forest, none, more, Tree, has_nodes}
 use Rattle.cc_command.proofs.PlainParts.{IsPlainArgument, IsPlainNode}
 use Rattle.cc_base.specs.Bytes as ascii
-use Rattle.cc_quote.specs.FishQuote.{fish_sign, is_fish_safe, fish_escaped}
-use Rattle.cc_quote.specs.FishQuote.{bare}
+use Rattle.cc_quote.specs.FishQuote.{fish_sign, is_fish_safe, fish_escaped, bare}
 use Rattle.cc_quote.specs.FishTokens.{in_word, commands_from, fish_commands}
 use Rattle.cc_quote.proofs.FishWords.{IsSafe}
 use Rattle.cc_quote.proofs.FishCutting.{Adds, adds_word, adds_flat_map, safe_goes_on, word_ends}

@@ -16,8 +16,7 @@ use Rattle.cc_base.specs.Bytes as ascii
 use Rattle.cc_base.specs.Joined.{separator, joined, joined_after}
 use Rattle.cc_quote.specs.QuotedWord.{line_feeds_as_spaces}
 use Rattle.cc_quote.specs.Escapes.{marked_byte}
-use Rattle.cc_quote.specs.FishQuote.{fish_escaped, fish_sign, advance, begins_word, begins_with_word, is_fish_safe, is_double_marked, double_escaped, single_quoted, fish_quoted, fish_quoted_for_eval, fish_help_for_eval_of}
-use Rattle.cc_quote.specs.FishQuote.{bare, in_double}
+use Rattle.cc_quote.specs.FishQuote.{fish_escaped, fish_sign, advance, begins_word, begins_with_word, is_fish_safe, is_double_marked, double_escaped, single_quoted, fish_quoted, fish_quoted_for_eval, fish_help_for_eval_of, bare, in_double}
 use Rattle.cc_quote.specs.FishTokens.{between, in_word, commands_from, fish_commands}
 use Rattle.cc_quote.proofs.FishEscaped.{fish_escaped_composed}
 use Rattle.cc_quote.proofs.FishWords.{safe_sign, safe_bytes, safe_in_double, double_read, single_quoted_read, fish_quoted_read, advance-append}

@@ -5,13 +5,8 @@ ghost use Rattle.std.specs.Prelude.{◌≡◌, ◌++◌, [], flat_map, OnOk};
 ghost use Rattle.std.specs.String.{string_bytes};
 ghost use Rattle.cc_command.specs.Names.{visible_names};
 ghost use Rattle.cc_command.specs.Tree.{forest_of};
-ghost use Rattle.cc_fish.specs.Script.{
-  condition_text,
-  excluded_text,
-  front_text,
-  key_condition,
-  spaced_name,
-};
+ghost use Rattle.cc_fish.specs.Script.{condition_text, excluded_text, front_text, key_condition};
+ghost use Rattle.cc_fish.specs.Script.{spaced_name};
 ghost use Rattle.cc_generator.specs.Subcommands.{sibling_names};
 
 use crate::texts::NOT_SEEN;

@@ -4,14 +4,8 @@ ghost use Rattle.std.specs.Prelude.{◌≡◌, filter, flat_map, not, codes, [],
 ghost use Rattle.cc_arg.specs.Arguments.{is_positional, takes_values};
 ghost use Rattle.cc_arg.specs.ShownNames.{shown_longs, shown_shorts};
 ghost use Rattle.cc_base.specs.Writes.{Writes, as_write};
-ghost use Rattle.cc_fish.specs.Script.{
-  first_long,
-  first_short,
-  functions_text,
-  head_text,
-  slash_text,
-  spec_text,
-};
+ghost use Rattle.cc_fish.specs.Script.{first_long, first_short, functions_text, head_text};
+ghost use Rattle.cc_fish.specs.Script.{slash_text, spec_text};
 
 use crate::texts::{
     NEEDS_COMMAND_BEGIN, NEEDS_COMMAND_END, NEEDS_COMMAND_PARSE, OPTSPECS_BEGIN, OPTSPECS_JOIN,

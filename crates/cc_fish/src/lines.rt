@@ -8,18 +8,9 @@ ghost use Rattle.cc_command.specs.Iterators.{arguments_left};
 ghost use Rattle.cc_command.specs.Names.{visible_names};
 ghost use Rattle.cc_command.specs.Tree.{forest_of};
 ghost use Rattle.cc_generator.specs.Meaning.{visit_of};
-ghost use Rattle.cc_fish.specs.Script.{
-  argument_text,
-  below_text,
-  child_text,
-  children_text,
-  help_text,
-  long_text,
-  names_text,
-  node_text,
-  short_text,
-  visit_text,
-};
+ghost use Rattle.cc_fish.specs.Script.{argument_text, below_text, child_text, children_text};
+ghost use Rattle.cc_fish.specs.Script.{help_text, long_text, names_text, node_text, short_text};
+ghost use Rattle.cc_fish.specs.Script.{visit_text};
 ghost use Rattle.cc_fish.specs.Table.{has_positionals};
 
 use crate::front::set_front;
@@ -48,7 +39,7 @@ pub(crate) fn write_visit<W: Sink>(
     Ok(write_node(sink, front.as_str(), visit.command)?)
 }
 
-// Writes the records of a node, each after the front.
+// Writes the records of a node. Each begins with `front`.
 #[tactic(auto, unfolding(crate::specs::Script::node_text, crate::specs::Script::options_text, crate::specs::Script::flags_text))]
 fn write_node<W: Sink>(sink: &mut W, front: &str, command: &Command) -> Result<(), ErrorKind>
     ensures { Writes W.taken W.failed (as_write result) sink.old sink.new

@@ -4,13 +4,8 @@ ghost use Rattle.std.specs.Prelude.{◌≡◌, ◌++◌, ◌∷◌, [], not, tru
 ghost use Rattle.cc_base.specs.Bytes.{line_feed};
 ghost use Rattle.cc_base.specs.Joined.{separator};
 ghost use Rattle.cc_base.specs.Writes.{Writes, as_write};
-ghost use Rattle.cc_fish.specs.Script.{
-  hint_text,
-  listed_text,
-  value_lines,
-  value_text,
-  values_text,
-};
+ghost use Rattle.cc_fish.specs.Script.{hint_text, listed_text, value_lines, value_text};
+ghost use Rattle.cc_fish.specs.Script.{values_text};
 
 use crate::texts::LIST_BEGIN;
 use cc_arg::{Arg, PossibleValue, ValueHint, possible_values};

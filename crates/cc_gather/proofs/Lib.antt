@@ -4,7 +4,6 @@ pub mod Filters
 pub mod FirstOfIds
 pub mod Gathering
 pub mod Groups
-pub mod InOrder
 pub mod InTurn
 pub mod LastPosition
 pub mod Law

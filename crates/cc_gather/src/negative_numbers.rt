@@ -50,7 +50,7 @@ fn has_point(bytes: &[u8]) -> bool
     bytes.iter().any(|byte| *byte == b'.')
 }
 
-// Returns the text after the first `e`, or an empty text if there is none.
+// Returns the text after the first `e`, or an empty text if no `e` occurs.
 fn after_e(text: &str) -> &str
     ensures { result.now ≡ after_first is_e text.now }
 {

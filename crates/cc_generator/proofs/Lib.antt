@@ -2,12 +2,10 @@ pub mod DifferentKeys
 pub mod Entered
 pub mod FromStack
 pub mod InOrder
-pub mod Parents
 pub mod PlainVisits
 pub mod ReadInTurn
 pub mod SameVisits
 pub mod StepStack
-pub mod TableOrder
 pub mod TableStack
 pub mod VisitExamples
 pub mod VisitedPaths

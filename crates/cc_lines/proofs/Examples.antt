@@ -26,7 +26,7 @@ is_user_rows = (refl, refl, refl, refl, refl, refl, refl, refl)
 
 table_rows :
     (table_lines (codes "127.0.0.1 localhost\n::1\tlocalhost  ip6-localhost\n") ≡ codes "localhost\nlocalhost\nip6-localhost\n")
-    -- a comment, an address without names, and a blank before an address
+    -- a comment, an address without names, and spaces before an address
     × (table_lines (codes "# a comment\n1.2.3.4 # b\n  10.0.0.1 db # the database\n") ≡ codes "db\n")
     × (table_lines [] ≡ [])
 unfolding is_mark
@@ -36,7 +36,7 @@ known_rows :
     (known_lines (codes "a.example,10.0.0.1 ssh-ed25519 AAAA\n[b.example]:2222 ssh-rsa AAAA\n") ≡ codes "a.example\n10.0.0.1\nb.example\n")
     -- a hashed name, a marker, a comment
     × (known_lines (codes "|1|abc=|def= ssh-rsa AAAA\n@revoked c.example ssh-rsa AAAA\n# d\n\ne ssh-rsa AAAA\n") ≡ codes "e\n")
-    -- patterns, alone and beside names, with and without brackets; a pattern of ports alone
+    -- patterns, alone and next to names, with and without brackets; a pattern of ports alone
     × (known_lines (codes "*.f,g,h? ssh-rsa AAAA\n!i,j ssh-rsa AAAA\n[*.k]:22,[l]:* ssh-rsa AAAA\n@cert-authority *.m ssh-rsa AAAA\n") ≡ codes "g\nj\nl\n")
 unfolding is_mark
 known_rows = (refl, refl, refl)
@@ -71,7 +71,7 @@ command_rows :
     × (command_lines (codes "a\nb" ∷ codes "c\td" ∷ codes "e\r" ∷ [] ∷ codes "f" ∷ codes "f" ∷ []) ≡ codes "f\nf\n")
     × (command_lines [] ≡ [])
     × (command_line (codes "a") ≡ codes "a\n") × (command_line (127 ∷ codes "a") ≡ [])
-    -- the bytes beside the control characters
+    -- the bytes next to the control characters
     × (is_control 31 ≡ true) × (is_control 32 ≡ false) × (is_control 126 ≡ false) × (is_control 127 ≡ true) × (is_control 128 ≡ false)
 command_rows = (refl, refl, refl, refl, refl, refl, refl, refl, refl, refl)
 

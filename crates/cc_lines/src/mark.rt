@@ -50,21 +50,21 @@ fn is_blank(byte: u8) -> bool
     matches!(byte, b' ' | b'\t' | b'\n')
 }
 
-/// Returns the text before the first mark, or the whole text if there is none.
+/// Returns the text before the first mark, or the whole text if it has no mark.
 pub(crate) fn before(mark: Mark, text: &[u8]) -> &[u8]
     ensures { result.now ≡ before_first (is_mark mark) text.now }
 {
     &text[..first(mark, text)]
 }
 
-/// Returns the text from the first mark on, or nothing if there is none.
+/// Returns the text from the first mark on, or an empty text if it has no mark.
 pub(crate) fn from(mark: Mark, text: &[u8]) -> &[u8]
     ensures { result.now ≡ from_first (is_mark mark) text.now }
 {
     &text[first(mark, text)..]
 }
 
-/// Returns the text after the first mark, or nothing if there is none.
+/// Returns the text after the first mark, or an empty text if it has no mark.
 pub(crate) fn after(mark: Mark, text: &[u8]) -> &[u8]
     ensures { result.now ≡ after_first (is_mark mark) text.now }
 {
@@ -75,7 +75,7 @@ pub(crate) fn after(mark: Mark, text: &[u8]) -> &[u8]
     &text[at + 1..]
 }
 
-// Returns the index of the first mark, or the length of the text if there is none.
+// Returns the index of the first mark, or the length of the text if it has no mark.
 fn first(mark: Mark, text: &[u8]) -> usize
     ensures within { result ≤ length text.now }
     ensures index { result ≡ position_or_len (is_mark mark) text.now }

@@ -11,5 +11,5 @@ mod order;
 mod path_candidates;
 mod paths;
 mod possible;
-mod printed;
+mod shown;
 mod sources;

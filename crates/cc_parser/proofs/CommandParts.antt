@@ -12,21 +12,14 @@ use Rattle.clap.specs.declared.builder.command.Command.{Command}
 use Rattle.clap.specs.declared.builder.command.Command.TheViews.{out-Command}
 use Rattle.clap.specs.Simple.{App, Shape, app_of_fields, new_app, on_top, with_rule, with_subcommand}
 use Rattle.cc_parser.specs.Arguments.{AreRulesOf, IsRuleOf}
-use Rattle.cc_parser.specs.Parsers.{AddsArguments, AddsChildren, AddsShapes, AreShapesOf, IsAppOf, IsLeaf, IsShapeOf, any_global, globals_below, globals_in, has_globals, has_globals_under, is_disabled_below, is_left_out, kept, named_app, shape_of_node}
+use Rattle.cc_parser.specs.Parsers.{AddsArguments, AddsChildren, AddsShapes, AreShapesOf, IsLeaf, IsShapeOf, any_global, globals_in, has_globals, has_globals_under, is_disabled_below, is_left_out, kept, named_app, shape_of_node}
 use Rattle.cc_parser.proofs.RuleParts.{more_rules}
-
-pub either_false : (a b : Bool) → (a || b) ≡ false → (a ≡ false) × (b ≡ false)
-either_false false b e = (refl, e)
-either_false true b e = cc
 
 -- ---- arguments
 
 pub any_global-more : (args : List Arg) (arg : Arg) → any_global (args ++ arg ∷ []) ≡ (any_global args || arg.global)
 any_global-more [] arg = or-false arg.global
 any_global-more (a ∷ args) arg = ap (λ b. a.global || b) (any_global-more args arg) ∙ sym (or_assoc a.global (any_global args) arg.global)
-
-pub no_arguments : (a : App) → a.top.rules ≡ [] → AddsArguments [] a a
-no_arguments a e = (subst (AreRulesOf []) (sym e) tt, refl)
 
 pub more_arguments : (args : List Arg) (old new : App) (arg : Arg) (rule : Rule) → AddsArguments args old new → IsRuleOf arg rule
     → AddsArguments (args ++ arg ∷ []) old (with_rule new rule)
@@ -113,9 +106,6 @@ module _ (above here : Bool) (children : Forest) (tree : Tree) where
         h.1 ∙ ap (λ f. record old.top { is_leaf = not (has_nodes f) }) (sym same),
       )
 
-pub no_children : (above here : Bool) (a : App) → a.subs ≡ [] → a.top.is_leaf ≡ true → AddsShapes above here none a a
-no_children above here a e leaf = (subst (AreShapesOf here none) (sym e) tt, ap (λ b. record a.top { is_leaf = b }) leaf)
-
 -- ---- the whole command
 
 pub app_made : (above : Bool) (tree : Tree) (a b c : App) → a ≡ named_app tree.node tree.children → AddsArguments tree.node.arguments a b
@@ -184,12 +174,3 @@ with_settings c name is order hide no_name external disabled required or_help =
 -- a command with only its arguments has no children
 pub is_leaf : (args : List Arg) (node : Node) (below : Forest) (a : App) → AddsArguments args (named_app node below) a → IsLeaf a
 is_leaf args node below a h = (ap (λ (x : App). x.subs) h.1, ap (λ (x : App). x.top.is_leaf) h.1)
-
--- a command with its arguments and its children is the parser of the tree
-pub whole_app : (tree : Tree) (b c : App) → (any_global tree.node.arguments ≡ false → AddsArguments tree.node.arguments (named_app tree.node tree.children) b)
-    → (globals_below false tree.children ≡ false → IsLeaf b → AddsChildren false tree.children b c) → has_globals tree ≡ false → IsAppOf tree c
-whole_app tree b c args children local =
-    let parts = either_false (any_global tree.node.arguments) (globals_below false tree.children) local in
-    let added = args parts.0 in
-    let below = children parts.1 (is_leaf tree.node.arguments tree.node tree.children b added) in
-    (app_made false tree (named_app tree.node tree.children) b c refl added below, below.0)

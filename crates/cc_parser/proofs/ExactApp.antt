@@ -1,11 +1,12 @@
 -- The parser of a tree that is parsed exactly is simple.
-use Rattle.std.proofs.Common.{◌≡◌, ◌∙◌, ℕ, ◌+◌, Bool, true, false, not, cond, ◌&&◌, ◌||◌, ◌==◌, List, [], ◌∷◌, ◌++◌, map, Option, Some, None, is_some, unwrap_or, refl, sym, ap, ap₂, subst, true≢false}
+use Rattle.std.proofs.Common.{◌≡◌, ◌∙◌, ℕ, ◌+◌, Bool, true, false, not, cond, ◌&&◌, ◌||◌, ◌==◌, List, [], ◌∷◌, map, Option, Some, None, is_some, unwrap_or, refl, sym, ap, ap₂, subst, true≢false}
 use Rattle.std.specs.Prelude.{count_by, max, nat_lt}
 use Rattle.std.specs.List.{list_all, list_any}
 use Rattle.std.proofs.Math.Bool.{and-false}
 use Rattle.std.proofs.lemmas.List.{map-append}
 use Rattle.std.proofs.lemmas.List.Folds.{list_all-append}
 use Rattle.std.proofs.lemmas.List.Sums.{sum_by-append}
+use Rattle.std.proofs.lemmas.Bool.{and_from, not-true, and_parts}
 use Rattle.cc_arg.specs.declared.action.ArgAction.{ArgAction as Action}
 use Rattle.cc_arg.specs.declared.action.ArgAction.TheVariants as action
 use Rattle.cc_arg.specs.declared.parts.ArgParts.{ArgParts as Arg}
@@ -17,14 +18,10 @@ use Rattle.clap.specs.Walk.{Rule, is_append, is_early_multiple, is_multiple}
 use Rattle.clap.specs.Simple.{App, Shape, built, built_above, built_leaf, filled, filled_from, help_shape, index_after, inherited, is_buildable, is_in_order as is_ordered, is_ready, is_ready_leaf, is_simple, is_simple_leaf, marked_built, on_top, with_built_subs, with_filled_rules, with_help_flag, with_index, with_inherited, with_leaf_noted, with_subcommand, with_version_flag}
 use Rattle.clap.specs.declared.builder.value_parser.ValueParser.{ValueParser}
 use Rattle.cc_parser.specs.Arguments.{AreRulesOf, parser_action, reads_simply, rule_of_argument}
-use Rattle.cc_parser.specs.Parsers.{AreShapesOf, IsAppOf, any_global, globals_below, globals_in, has_globals, is_disabled_below, is_left_out, kept, shape_of_node}
+use Rattle.cc_parser.specs.Parsers.{AreShapesOf, IsAppOf, any_global, globals_in, has_globals, is_disabled_below, is_left_out, kept}
 use Rattle.cc_parser.specs.Taken.{has_index_or_name}
-use Rattle.cc_parser.proofs.OneApp.{both_true}
 use Rattle.cc_parser.proofs.Taking.{built_rules}
 use Rattle.cc_parser.specs.Exact.{are_leaves, count_indexed, has_single_range, is_in_order, is_leaf, is_parsed_exactly, is_placed, is_read_simply, is_single}
-
-and_true : (a b : Bool) → a ≡ true → b ≡ true → (a && b) ≡ true
-and_true a b here there = ap₂ (λ a b. a && b) here there
 
 -- ---- one rule
 
@@ -94,8 +91,8 @@ early_none : (count n : ℕ) (args : List Arg) (rules : List Rule) → AreRulesO
     → list_all (is_placed count) args ≡ true → list_any (is_early_multiple count) (filled_from n rules) ≡ false
 early_none count n [] [] h tidy all = refl
 early_none count n (a ∷ args) (r ∷ rules) h tidy all =
-    let t = both_true (has_index_or_name a) (list_all has_index_or_name args) tidy in
-    let p = both_true (is_placed count a) (list_all (is_placed count) args) all in
+    let t = and_parts (has_index_or_name a) (list_all has_index_or_name args) tidy in
+    let p = and_parts (is_placed count a) (list_all (is_placed count) args) all in
     ap₂ (λ x y. x || y)
     (subst (λ (rule : Rule). is_early_multiple count (with_index n (filled rule)) ≡ false) (sym h.0.0) (placed_rule count n r.parser a t.0 p.0))
     (early_none count (index_after n r) args rules h.1 t.1 p.1)
@@ -106,7 +103,7 @@ counted : (n : ℕ) (args : List Arg) (rules : List Rule) → AreRulesOf args ru
     → count_by (λ (rule : Rule). is_some rule.index) (filled_from n rules) ≡ count_indexed args
 counted n [] [] h tidy = refl
 counted n (a ∷ args) (r ∷ rules) h tidy =
-    let t = both_true (has_index_or_name a) (list_all has_index_or_name args) tidy in
+    let t = and_parts (has_index_or_name a) (list_all has_index_or_name args) tidy in
     sum_by-append (λ (rule : Rule). cond (is_some rule.index) 1 0) (with_index n (filled r) ∷ []) (filled_from (index_after n r) rules)
     ∙ ap₂ (λ x y. x + y)
     (ap (λ index. 0 + cond (is_some index) 1 0)
@@ -136,17 +133,17 @@ simple_given (a ∷ args) [] h = absurd h
 module _ (node : Node) (rules : List Rule) (are : AreRulesOf node.arguments rules) (ok : is_read_simply node ≡ true) where
   parts : (not node.allow_external_subcommands ≡ true)
       × ((list_all reads_simply node.arguments && (list_all has_index_or_name node.arguments && is_in_order node.arguments)) ≡ true)
-  parts = both_true (not node.allow_external_subcommands) _ ok
+  parts = and_parts (not node.allow_external_subcommands) _ ok
 
   reads : list_all reads_simply node.arguments ≡ true
-  reads = (both_true (list_all reads_simply node.arguments) _ parts.1).0
+  reads = (and_parts (list_all reads_simply node.arguments) _ parts.1).0
 
   rest : (list_all has_index_or_name node.arguments ≡ true) × (is_in_order node.arguments ≡ true)
-  rest = both_true (list_all has_index_or_name node.arguments) _ (both_true (list_all reads_simply node.arguments) _ parts.1).1
+  rest = and_parts (list_all has_index_or_name node.arguments) _ (and_parts (list_all reads_simply node.arguments) _ parts.1).1
 
   -- the rules as given
   pub given_simply : (not node.allow_external_subcommands && list_all (λ (rule : Rule). rule.is_simple) rules) ≡ true
-  given_simply = and_true _ _ parts.0 (simple_given node.arguments rules are ∙ reads)
+  given_simply = and_from _ _ parts.0 (simple_given node.arguments rules are ∙ reads)
 
   ordered : is_ordered (filled_from 1 rules) ≡ true
   ordered = ap not
@@ -156,7 +153,7 @@ module _ (node : Node) (rules : List Rule) (are : AreRulesOf node.arguments rule
   -- the rules as built
   pub built_simply : ((not node.allow_external_subcommands && list_all (λ (rule : Rule). rule.is_simple) (filled_from 1 rules))
       && is_ordered (filled_from 1 rules)) ≡ true
-  built_simply = and_true _ _ (and_true _ _ parts.0 (simple_filled 1 node.arguments rules are ∙ reads)) ordered
+  built_simply = and_from _ _ (and_from _ _ parts.0 (simple_filled 1 node.arguments rules are ∙ reads)) ordered
 
 -- ---- the children
 
@@ -165,10 +162,10 @@ module _ (here : Bool) where
       → list_all is_simple_leaf shapes ≡ true
   given_leaves none [] h ok = refl
   given_leaves (more node below later) (s ∷ shapes) h ok =
-      let both = both_true (is_leaf here node below) (are_leaves here later) ok in
-      let leaf = both_true (not (has_nodes (kept here below))) (is_read_simply node) both.0 in
-      and_true (is_simple_leaf s) (list_all is_simple_leaf shapes)
-      (subst (λ (shape : Shape). is_simple_leaf shape ≡ true) (sym h.0.0) (and_true _ _ leaf.0 (given_simply node s.rules h.0.1 leaf.1)))
+      let both = and_parts (is_leaf here node below) (are_leaves here later) ok in
+      let leaf = and_parts (not (has_nodes (kept here below))) (is_read_simply node) both.0 in
+      and_from (is_simple_leaf s) (list_all is_simple_leaf shapes)
+      (subst (λ (shape : Shape). is_simple_leaf shape ≡ true) (sym h.0.0) (and_from _ _ leaf.0 (given_simply node s.rules h.0.1 leaf.1)))
       (given_leaves later shapes h.1 both.1)
   given_leaves none (s ∷ shapes) h ok = absurd h
   given_leaves (more node below later) [] h ok = absurd h
@@ -177,11 +174,11 @@ module _ (here : Bool) where
       → list_all is_ready_leaf (map built_leaf (map (inherited top) shapes)) ≡ true
   built_leaves top none [] h ok = refl
   built_leaves top (more node below later) (s ∷ shapes) h ok =
-      let both = both_true (is_leaf here node below) (are_leaves here later) ok in
-      let leaf = both_true (not (has_nodes (kept here below))) (is_read_simply node) both.0 in
-      and_true (is_ready_leaf (built_leaf (inherited top s))) (list_all is_ready_leaf (map built_leaf (map (inherited top) shapes)))
+      let both = and_parts (is_leaf here node below) (are_leaves here later) ok in
+      let leaf = and_parts (not (has_nodes (kept here below))) (is_read_simply node) both.0 in
+      and_from (is_ready_leaf (built_leaf (inherited top s))) (list_all is_ready_leaf (map built_leaf (map (inherited top) shapes)))
       (subst (λ (shape : Shape). is_ready_leaf (built_leaf (inherited top shape)) ≡ true) (sym h.0.0)
-      (and_true _ _ leaf.0 (built_simply node s.rules h.0.1 leaf.1)))
+      (and_from _ _ leaf.0 (built_simply node s.rules h.0.1 leaf.1)))
       (built_leaves top later shapes h.1 both.1)
   built_leaves top none (s ∷ shapes) h ok = absurd h
   built_leaves top (more node below later) [] h ok = absurd h
@@ -209,7 +206,7 @@ module _ (tree : Tree) (app : App) (is : IsAppOf tree app) (ok : is_parsed_exact
   here = is_disabled_below false tree.children
 
   both : (is_read_simply tree.node ≡ true) × (are_leaves here (kept false tree.children) ≡ true)
-  both = both_true (is_read_simply tree.node) (are_leaves here (kept false tree.children)) ok
+  both = and_parts (is_read_simply tree.node) (are_leaves here (kept false tree.children)) ok
 
   unbuilt : app.top.is_built ≡ false
   unbuilt = ap (λ (s : Shape). s.is_built) is.0.0
@@ -218,7 +215,7 @@ module _ (tree : Tree) (app : App) (is : IsAppOf tree app) (ok : is_parsed_exact
   plain = ap (λ (s : Shape). s.is_plain) is.0.0
 
   buildable : is_buildable app ≡ true
-  buildable = and_true _ _
+  buildable = and_from _ _
       (ap (λ b. b && list_all (λ (rule : Rule). rule.is_simple) app.top.rules) plain ∙ given_simply tree.node app.top.rules is.0.1 both.0)
       (given_leaves here (kept false tree.children) app.subs is.1 both.1)
 
@@ -238,11 +235,11 @@ module _ (tree : Tree) (app : App) (is : IsAppOf tree app) (ok : is_parsed_exact
       let above : Shape = with_leaf_noted (marked_built app.top) in
       ap (list_all is_ready_leaf) (map-append built_leaf (map (inherited above) app.subs) (help_shape ∷ []))
       ∙ list_all-append is_ready_leaf (map built_leaf (map (inherited above) app.subs)) (map built_leaf (help_shape ∷ []))
-      ∙ and_true _ _ (built_leaves here above (kept false tree.children) app.subs is.1 both.1) help_ready
+      ∙ and_from _ _ (built_leaves here above (kept false tree.children) app.subs is.1 both.1) help_ready
 
   -- the parser is simple
   pub simple_app : is_simple app ≡ true
-  simple_app = and_true _ _ buildable (and_true _ _ top_ready
+  simple_app = and_from _ _ buildable (and_from _ _ top_ready
       (ap (λ (a : App). list_all is_ready_leaf a.subs) (built_is app unbuilt)
       ∙ subs_where (app.top.is_leaf || app.top.disable_help_subcommand)))
 
@@ -259,12 +256,12 @@ simple_local false b c d e h = absurd (true≢false (sym h))
 none_global : (args : List Arg) → list_all reads_simply args ≡ true → any_global args ≡ false
 none_global [] h = refl
 none_global (a ∷ args) h =
-    let both = both_true (reads_simply a) (list_all reads_simply args) h in
+    let both = and_parts (reads_simply a) (list_all reads_simply args) h in
     ap₂ (λ x y. x || y) (simple_local (not (is_some a.value_delimiter)) (not (is_some a.value_terminator)) (not a.allow_hyphen_values) (not a.last) a.global both.0) (none_global args both.1)
 
 node_local : (node : Node) → is_read_simply node ≡ true → any_global node.arguments ≡ false
 node_local node ok = none_global node.arguments
-    (both_true (list_all reads_simply node.arguments) _ (both_true (not node.allow_external_subcommands) _ ok).1).0
+    (and_parts (list_all reads_simply node.arguments) _ (and_parts (not node.allow_external_subcommands) _ ok).1).0
 
 -- a forest of which the parser keeps nothing has no global arguments for it
 nothing_kept : (above here : Bool) (forest : Forest) → has_nodes (kept above forest) ≡ false → globals_in above here forest ≡ false
@@ -278,10 +275,6 @@ nothing_kept above here (more node below later) h = go (nothing_kept above here 
         ∙ rest (sym (ap (λ b. has_nodes (cond b (kept above later) (more node below (kept above later)))) is) ∙ h)
     go rest false is = absurd (true≢false (sym (ap (λ b. has_nodes (cond b (kept above later) (more node below (kept above later)))) is) ∙ h))
 
-not_true : (b : Bool) → not b ≡ true → b ≡ false
-not_true false h = refl
-not_true true h = absurd (true≢false (sym h))
-
 leaves_local : (here : Bool) (forest : Forest) → are_leaves here (kept false forest) ≡ true → globals_in false here forest ≡ false
 leaves_local here none ok = refl
 leaves_local here (more node below later) ok = go (leaves_local here later) (is_left_out false node) refl
@@ -292,16 +285,16 @@ leaves_local here (more node below later) ok = go (leaves_local here later) (is_
         ((any_global node.arguments || globals_in here (is_disabled_below here below) below) || globals_in false here later)) is
         ∙ others (sym (ap (λ b. are_leaves here (cond b (kept false later) (more node below (kept false later)))) is) ∙ ok)
     go others false is =
-        let first = both_true (is_leaf here node below) (are_leaves here (kept false later))
+        let first = and_parts (is_leaf here node below) (are_leaves here (kept false later))
         (sym (ap (λ b. are_leaves here (cond b (kept false later) (more node below (kept false later)))) is) ∙ ok) in
-        let leaf = both_true (not (has_nodes (kept here below))) (is_read_simply node) first.0 in
+        let leaf = and_parts (not (has_nodes (kept here below))) (is_read_simply node) first.0 in
         ap (λ b. cond b (globals_in false here later)
         ((any_global node.arguments || globals_in here (is_disabled_below here below) below) || globals_in false here later)) is
         ∙ ap₂ (λ x y. x || y)
-        (ap₂ (λ x y. x || y) (node_local node leaf.1) (nothing_kept here (is_disabled_below here below) below (not_true (has_nodes (kept here below)) leaf.0)))
+        (ap₂ (λ x y. x || y) (node_local node leaf.1) (nothing_kept here (is_disabled_below here below) below (not-true (has_nodes (kept here below)) leaf.0)))
         (others first.1)
 
 pub exact_local : (tree : Tree) → is_parsed_exactly tree ≡ true → has_globals tree ≡ false
 exact_local tree ok =
-    let both = both_true (is_read_simply tree.node) (are_leaves (is_disabled_below false tree.children) (kept false tree.children)) ok in
+    let both = and_parts (is_read_simply tree.node) (are_leaves (is_disabled_below false tree.children) (kept false tree.children)) ok in
     ap₂ (λ x y. x || y) (node_local tree.node both.0) (leaves_local (is_disabled_below false tree.children) tree.children both.1)

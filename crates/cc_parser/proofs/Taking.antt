@@ -5,7 +5,7 @@ use Rattle.std.specs.List.{list_all, list_any, AllByRecursion}
 use Rattle.std.specs.Option.{option_map_or}
 use Rattle.std.specs.Str.{bytes_eq}
 use Rattle.std.proofs.Math.Bool.{and-false, or-true}
-use Rattle.std.proofs.lemmas.Bool.{ne_eqb}
+use Rattle.std.proofs.lemmas.Bool.{ne_eqb, or_right, and_parts}
 use Rattle.std.proofs.lemmas.List.Folds.{list_any-append}
 use Rattle.std.proofs.lemmas.Slice.Eq.{bytes_eq-Decides}
 use Rattle.cc_base.proofs.Members.{AllByRecursion-IsIn, AllByRecursion-from_IsIn, IsIn, IsIn-append_left, IsIn-append_right}
@@ -25,7 +25,6 @@ use Rattle.clap.specs.Values.{possible_matches, same_text as same_text_of}
 use Rattle.cc_parser.specs.Arguments.{ArePossible, AreRulesOf, IsRuleOf, TakesPossible, rule_of_argument}
 use Rattle.cc_parser.specs.Parsers.{AreShapesOf, IsAppOf, has_generated, is_disabled_below, kept}
 use Rattle.cc_parser.specs.Taken.{KnowsChild, KnowsLong, KnowsShort, TakesAllValues, TakesNames, TakesOffered, TakesSiblings, TakesValues, answers_long, answers_short, are_help_if_generated, fits_parser, has_index_or_name, id_of_long, id_of_short, is_help_if_generated, parsed_long, parsed_short}
-use Rattle.cc_parser.proofs.OneApp.{both_true}
 
 -- an argument with an index has no names, and one without an index has some
 abbrev IsTidy : Arg → Type 0
@@ -52,7 +51,7 @@ is_tidy (Some s) (Some l) (Some i) aliases h = absurd (true≢false (sym h))
 all_tidy : (args : List Arg) → list_all has_index_or_name args ≡ true → AllByRecursion IsTidy args
 all_tidy [] h = tt
 all_tidy (a ∷ args) h =
-    let both = both_true (has_index_or_name a) (list_all has_index_or_name args) h in
+    let both = and_parts (has_index_or_name a) (list_all has_index_or_name args) h in
     (is_tidy a.short a.long a.index a.aliases both.0, all_tidy args both.1)
 
 -- one step of two parallel searches
@@ -74,48 +73,32 @@ index_there true (Some i) n h = refl
 index_there true None n h = absurd (true≢false (sym (h refl)))
 index_there false index n h = refl
 
-module _ (name : List ℕ) where
-  abbrev knows : Rule → Bool
-  knows r = not (is_some r.index) && has_long r name
-
-  same_answer : (n : ℕ) (p : Option ValueParser) (a : Arg) → IsTidy a
-      → knows (with_index n (filled (rule_of_argument p a))) ≡ answers_long name a
-  same_answer n p a tidy =
-      ap (λ b. not b && has_long (rule_of_argument p a) name)
-      (index_there (not (is_some a.long) && not (is_some a.short)) a.index n tidy.0)
-
-  -- a long names the same argument in the tree and in its parser: the first that has it
-  pub same_by_long : (n : ℕ) (args : List Arg) (rules : List Rule) → AreRulesOf args rules → AllByRecursion IsTidy args
-      → option_map (λ r. r.id) (arg_by_long (filled_from n rules) name) ≡ id_of_long name args
-  same_by_long n [] [] h tidy = refl
-  same_by_long n (a ∷ args) (r ∷ rules) h tidy =
-      find_both knows (answers_long name) (λ r. r.id) (λ a. a.id) (with_index n (filled r)) a (filled_from (index_after n r) rules) args
-      (subst (λ (r : Rule). knows (with_index n (filled r)) ≡ answers_long name a) (sym h.0.0) (same_answer n r.parser a tidy.0))
+-- a test that a rule passes if its argument passes another: the first that passes is the same one
+module _ (knows : Rule → Bool) (answers : Arg → Bool)
+    (agree : (n : ℕ) (p : Option ValueParser) (a : Arg) → IsTidy a → knows (with_index n (filled (rule_of_argument p a))) ≡ answers a) where
+  same_first : (n : ℕ) (args : List Arg) (rules : List Rule) → AreRulesOf args rules → AllByRecursion IsTidy args
+      → option_map (λ (r : Rule). r.id) (find knows (filled_from n rules)) ≡ option_map (λ (a : Arg). a.id) (find answers args)
+  same_first n [] [] h tidy = refl
+  same_first n (a ∷ args) (r ∷ rules) h tidy =
+      find_both knows answers (λ r. r.id) (λ a. a.id) (with_index n (filled r)) a (filled_from (index_after n r) rules) args
+      (subst (λ (r : Rule). knows (with_index n (filled r)) ≡ answers a) (sym h.0.0) (agree n r.parser a tidy.0))
       (ap (λ (r : Rule). r.id) h.0.0)
-      (same_by_long (index_after n r) args rules h.1 tidy.1)
-  same_by_long n [] (r ∷ rules) h tidy = absurd h
-  same_by_long n (a ∷ args) [] h tidy = absurd h
+      (same_first (index_after n r) args rules h.1 tidy.1)
+  same_first n [] (r ∷ rules) h tidy = absurd h
+  same_first n (a ∷ args) [] h tidy = absurd h
 
-module _ (c : ℕ) where
-  abbrev knows_short : Rule → Bool
-  knows_short r = not (is_some r.index) && has_short r c
+-- a long or a short names the same argument in the tree and in its parser: the first that has it
+pub same_by_long : (name : List ℕ) (n : ℕ) (args : List Arg) (rules : List Rule) → AreRulesOf args rules → AllByRecursion IsTidy args
+    → option_map (λ r. r.id) (arg_by_long (filled_from n rules) name) ≡ id_of_long name args
+same_by_long name = same_first (λ r. not (is_some r.index) && has_long r name) (answers_long name)
+    (λ n p a tidy. ap (λ b. not b && has_long (rule_of_argument p a) name)
+    (index_there (not (is_some a.long) && not (is_some a.short)) a.index n tidy.0))
 
-  same_answer_short : (n : ℕ) (p : Option ValueParser) (a : Arg) → IsTidy a
-      → knows_short (with_index n (filled (rule_of_argument p a))) ≡ answers_short c a
-  same_answer_short n p a tidy =
-      ap (λ b. not b && has_short (rule_of_argument p a) c)
-      (index_there (not (is_some a.long) && not (is_some a.short)) a.index n tidy.0)
-
-  pub same_by_short : (n : ℕ) (args : List Arg) (rules : List Rule) → AreRulesOf args rules → AllByRecursion IsTidy args
-      → option_map (λ r. r.id) (arg_by_short (filled_from n rules) c) ≡ id_of_short c args
-  same_by_short n [] [] h tidy = refl
-  same_by_short n (a ∷ args) (r ∷ rules) h tidy =
-      find_both knows_short (answers_short c) (λ r. r.id) (λ a. a.id) (with_index n (filled r)) a (filled_from (index_after n r) rules) args
-      (subst (λ (r : Rule). knows_short (with_index n (filled r)) ≡ answers_short c a) (sym h.0.0) (same_answer_short n r.parser a tidy.0))
-      (ap (λ (r : Rule). r.id) h.0.0)
-      (same_by_short (index_after n r) args rules h.1 tidy.1)
-  same_by_short n [] (r ∷ rules) h tidy = absurd h
-  same_by_short n (a ∷ args) [] h tidy = absurd h
+pub same_by_short : (c : ℕ) (n : ℕ) (args : List Arg) (rules : List Rule) → AreRulesOf args rules → AllByRecursion IsTidy args
+    → option_map (λ r. r.id) (arg_by_short (filled_from n rules) c) ≡ id_of_short c args
+same_by_short c = same_first (λ r. not (is_some r.index) && has_short r c) (answers_short c)
+    (λ n p a tidy. ap (λ b. not b && has_short (rule_of_argument p a) c)
+    (index_there (not (is_some a.long) && not (is_some a.short)) a.index n tidy.0))
 
 -- ---- the rules as the parser builds them
 
@@ -166,10 +149,6 @@ any_in t [] x h e = absurd h
 any_in t (y ∷ xs) x (inl k) e = ap (λ b. b || list_any t xs) (ap t k ∙ e)
 any_in t (y ∷ xs) x (inr k) e = ap (λ b. t y || b) (any_in t xs x k e) ∙ or-true (t y)
 
-or_here : (a b : Bool) → b ≡ true → (a || b) ≡ true
-or_here true b e = refl
-or_here false b e = e
-
 same_text : (name : List ℕ) → bytes_eq name name ≡ true
 same_text name = (bytes_eq-Decides name name).1 refl
 
@@ -189,7 +168,7 @@ answers (Some i) long visible hidden tidy name h =
 answers None None visible hidden tidy name h = any_in (λ alias. bytes_eq alias name) (visible ++ hidden) name (IsIn-append_right visible hidden name h) (same_text name)
 answers None (Some long) visible hidden tidy name (inl e) = ap (λ b. b || list_any (λ alias. bytes_eq alias name) (visible ++ hidden)) (ap (λ l. bytes_eq l name) e ∙ same_text name)
 answers None (Some long) visible hidden tidy name (inr k) =
-    or_here (bytes_eq long name) _ (any_in (λ alias. bytes_eq alias name) (visible ++ hidden) name k (same_text name))
+    or_right (bytes_eq long name) _ (any_in (λ alias. bytes_eq alias name) (visible ++ hidden) name k (same_text name))
 
 answers_shorts : (index : Option ℕ) (short : Option ℕ) (visible hidden : List ℕ)
     → (is_some index ≡ true → short ≡ None) → (c : ℕ) → IsIn (with_aliases short visible) c
@@ -198,7 +177,7 @@ answers_shorts index None visible hidden tidy c h = absurd h
 answers_shorts (Some i) (Some short) visible hidden tidy c h = absurd (let e = tidy refl in cc)
 answers_shorts None (Some short) visible hidden tidy c (inl e) = ap (λ b. b || list_any (λ alias. alias == c) (visible ++ hidden)) (ap (λ s. s == c) e ∙ same_number c)
 answers_shorts None (Some short) visible hidden tidy c (inr k) =
-    or_here (short == c) _ (any_in (λ alias. alias == c) (visible ++ hidden) c (IsIn-append_left visible hidden c k) (same_number c))
+    or_right (short == c) _ (any_in (λ alias. alias == c) (visible ++ hidden) c (IsIn-append_left visible hidden c k) (same_number c))
 
 -- the parser accepts what is offered: it knows each long, each short and each alias that completion
 -- offers for an argument of the tree
@@ -270,7 +249,7 @@ help_there a unbuilt there =
 name_answers : (node : Node) (word : List ℕ) → IsIn (visible_names node ++ node.aliases) word
     → answers_to word (node.name, node.visible_aliases ++ node.aliases) ≡ true
 name_answers node word (inl e) = ap (λ b. b || list_any (λ alias. bytes_eq alias word) (node.visible_aliases ++ node.aliases)) (ap (λ n. bytes_eq n word) e ∙ same_text word)
-name_answers node word (inr k) = or_here (bytes_eq node.name word) _ (any_in (λ alias. bytes_eq alias word) (node.visible_aliases ++ node.aliases) word k (same_text word))
+name_answers node word (inr k) = or_right (bytes_eq node.name word) _ (any_in (λ alias. bytes_eq alias word) (node.visible_aliases ++ node.aliases) word k (same_text word))
 
 takes_kept : (app : App) → app.top.is_built ≡ false → (here : Bool) (forest : Forest) (shapes : List Shape) → AreShapesOf here forest shapes
     → ((word : List ℕ) → list_any (answers_to word) (map label_of shapes) ≡ true → list_any (answers_to word) (map label_of app.subs) ≡ true)
@@ -280,7 +259,7 @@ takes_kept app unbuilt here (more node below rest) (s ∷ shapes) h inside = (
   AllByRecursion-from_IsIn (KnowsChild app) (visible_names node ++ node.aliases) (λ word k.
       child_stays app unbuilt word (inside word
       (ap (λ b. b || list_any (answers_to word) (map label_of shapes)) (ap (λ (s : Shape). answers_to word (label_of s)) h.0.0 ∙ name_answers node word k)))),
-  takes_kept app unbuilt here rest shapes h.1 (λ word e. inside word (or_here (answers_to word (label_of s)) _ e)),
+  takes_kept app unbuilt here rest shapes h.1 (λ word e. inside word (or_right (answers_to word (label_of s)) _ e)),
 )
 takes_kept app unbuilt here none (s ∷ shapes) h inside = absurd h
 takes_kept app unbuilt here (more node below rest) [] h inside = absurd h
@@ -289,7 +268,7 @@ takes_kept app unbuilt here (more node below rest) [] h inside = absurd h
 knows_help : (app : App) → KnowsChild app (codes "help") → (name : List ℕ) (visible hidden : List (List ℕ))
     → (bytes_eq name (codes "help") && (is_empty visible && is_empty hidden)) ≡ true → AllByRecursion (KnowsChild app) (name ∷ visible ++ hidden)
 knows_help app help name [] [] h =
-    (subst (KnowsChild app) (sym ((bytes_eq-Decides name (codes "help")).0 (both_true (bytes_eq name (codes "help")) true h).0)) help, tt)
+    (subst (KnowsChild app) (sym ((bytes_eq-Decides name (codes "help")).0 (and_parts (bytes_eq name (codes "help")) true h).0)) help, tt)
 knows_help app help name (x ∷ visible) hidden h =
     absurd (true≢false (sym h ∙ ap (λ b. bytes_eq name (codes "help") && (b && is_empty hidden)) (not_empty x visible) ∙ and-false (bytes_eq name (codes "help"))))
 knows_help app help name [] (x ∷ hidden) h =
@@ -300,7 +279,7 @@ takes_siblings : (app : App) (forest : Forest) → TakesSiblings app (kept false
     → (has_generated forest ≡ true → KnowsChild app (codes "help")) → TakesSiblings app forest
 takes_siblings app none t names help = tt
 takes_siblings app (more node below rest) t names help =
-    let both = both_true (is_help_if_generated node) (are_help_if_generated rest) names in
+    let both = and_parts (is_help_if_generated node) (are_help_if_generated rest) names in
     go node.generated refl (λ t later. takes_siblings app rest t both.1 later)
   where
     go : (b : Bool) → node.generated ≡ b
@@ -309,20 +288,20 @@ takes_siblings app (more node below rest) t names help =
     go true is later = (
       knows_help app (help (ap (λ b. b || has_generated rest) is)) node.name node.visible_aliases node.aliases
           (ap (λ b. not b || (bytes_eq node.name (codes "help") && (is_empty node.visible_aliases && is_empty node.aliases))) (sym is)
-          ∙ (both_true (is_help_if_generated node) (are_help_if_generated rest) names).0),
+          ∙ (and_parts (is_help_if_generated node) (are_help_if_generated rest) names).0),
       later (subst (λ b. TakesSiblings app (cond (b && true) (kept false rest) (more node below (kept false rest)))) is t)
-          (λ e. help (or_here node.generated (has_generated rest) e)),
+          (λ e. help (or_right node.generated (has_generated rest) e)),
     )
     go false is later =
         let both : TakesSiblings app (more node below (kept false rest)) =
         subst (λ b. TakesSiblings app (cond (b && true) (kept false rest) (more node below (kept false rest)))) is t in
-        (both.0, later both.1 (λ e. help (or_here node.generated (has_generated rest) e)))
+        (both.0, later both.1 (λ e. help (or_right node.generated (has_generated rest) e)))
 
 -- the parser accepts the children that are offered
 pub takes_children : (tree : Tree) (app : App) → IsAppOf tree app → fits_parser tree ≡ true → TakesSiblings app tree.children
 takes_children tree app is fits =
-    let children = (both_true (list_all has_index_or_name tree.node.arguments) _ fits).1 in
-    let names = both_true (are_help_if_generated tree.children) _ children in
+    let children = (and_parts (list_all has_index_or_name tree.node.arguments) _ fits).1 in
+    let names = and_parts (are_help_if_generated tree.children) _ children in
     let unbuilt : app.top.is_built ≡ false = ap (λ (s : Shape). s.is_built) is.0.0 in
     takes_siblings app tree.children (takes_kept app unbuilt (is_disabled_below false tree.children) (kept false tree.children) app.subs is.1 (λ word e. e))
     names.0 (λ made. help_there app unbuilt (ap₂ (λ a b. a || b)
@@ -341,7 +320,7 @@ passes [] [] h value k = absurd k
 passes (x ∷ possible) (y ∷ values) h value (inl e) =
     ap (λ b. (b || list_any (λ name. same_text_of false name.now value.name) y.aliases.now) || list_any (possible_matches false value.name) values)
     (ap (λ n. bytes_eq n value.name) (h.0.0 ∙ ap (λ (v : Possible). v.name) e) ∙ same_text value.name)
-passes (x ∷ possible) (y ∷ values) h value (inr k) = or_here (possible_matches false value.name y) _ (passes possible values h.1 value k)
+passes (x ∷ possible) (y ∷ values) h value (inr k) = or_right (possible_matches false value.name y) _ (passes possible values h.1 value k)
 passes [] (y ∷ values) h value k = absurd h
 passes (x ∷ possible) [] h value k = absurd h
 
@@ -367,7 +346,7 @@ takes_all_values n (a ∷ args) [] h = absurd h
 -- the theorem: the parser accepts what is offered for the root
 pub takes_tree : (tree : Tree) (app : App) → IsAppOf tree app → fits_parser tree ≡ true → TakesOffered tree app
 takes_tree tree app is fits =
-    let ok = all_tidy tree.node.arguments (both_true (list_all has_index_or_name tree.node.arguments) _ fits).0 in record {
+    let ok = all_tidy tree.node.arguments (and_parts (list_all has_index_or_name tree.node.arguments) _ fits).0 in record {
       longs = same_long tree app is ok;
       shorts = same_short tree app is ok;
       names = takes_offered tree app is ok;

@@ -1,13 +1,12 @@
 -- The parser of a tree.
-use Rattle.std.specs.Prelude.{◌≡◌, List, [], ◌∷◌, ◌++◌, Bool, true, false, not, ◌||◌, ◌&&◌, if◌then◌else◌, is_some, map, None}
-use Rattle.std.specs.List.{list_all, list_any}
+use Rattle.std.specs.Prelude.{◌≡◌, List, [], ◌∷◌, ◌++◌, Bool, true, false, not, ◌||◌, ◌&&◌, if◌then◌else◌, is_some}
+use Rattle.std.specs.List.{list_any}
 use Rattle.cc_arg.specs.declared.parts.ArgParts.{ArgParts as Arg}
-use Rattle.cc_arg.specs.Arguments.{possible_values}
 use Rattle.cc_command.specs.declared.node.Node.{Node}
 use Rattle.cc_command.specs.Tree.{Forest, none, more, has_nodes, Tree}
 use Rattle.clap.specs.Walk.{Rule}
 use Rattle.clap.specs.Simple.{App, Shape, new_app, new_shape, on_top}
-use Rattle.cc_parser.specs.Arguments.{AreRulesOf, rule_of_argument}
+use Rattle.cc_parser.specs.Arguments.{AreRulesOf}
 
 -- The parser leaves the node out: `build` added it, and no command above its parent disables
 -- `clap`'s own `help`, which takes its place.
@@ -120,27 +119,3 @@ AddsChildren above children = AddsShapes above (is_disabled_below above children
 -- the command has no children
 abbrev pub IsLeaf : App → Type 0
 IsLeaf app = (app.subs ≡ []) × (app.top.is_leaf ≡ true)
-
--- ---- trees without possible values, which have exactly one parser
-
--- no argument has possible values
-abbrev pub has_no_values : List Arg → Bool
-has_no_values arguments = list_all (λ argument. not (is_some (possible_values argument))) arguments
-
-abbrev pub have_no_values : Forest → Bool
-have_no_values none = true
-have_no_values (more node below rest) = has_no_values node.arguments && have_no_values rest
-
-abbrev pub shape_of_tree : Bool → Node → Forest → Shape
-shape_of_tree above node below =
-    shape_of_node above node below (map (rule_of_argument None) node.arguments)
-
-abbrev pub shapes_of : Bool → Forest → List Shape
-shapes_of above none = []
-shapes_of above (more node below rest) = shape_of_tree above node below ∷ shapes_of above rest
-
-abbrev pub app_of_tree : Tree → App
-app_of_tree tree = record {
-  top = shape_of_tree false tree.node tree.children;
-  subs = shapes_of (is_disabled_below false tree.children) (kept false tree.children);
-}

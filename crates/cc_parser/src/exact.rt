@@ -9,15 +9,15 @@ ghost use Rattle.cc_parser.specs.Exact.{is_parsed_exactly, is_placed, is_read_si
 ghost use Rattle.cc_parser.specs.Exact.{is_single_range};
 ghost use Rattle.cc_parser.specs.Arguments.{reads_simply};
 ghost use Rattle.cc_parser.specs.Parsers.{IsAppOf, has_globals, kept};
-ghost use Rattle.cc_parser.specs.Taken.{has_index_or_name};
 ghost use Rattle.clap.specs.Simple.{App, is_simple};
 
+use crate::fits::have_index_or_name;
 use crate::globals::is_disabled_below;
 use cc_arg::{Arg, ArgAction, ValueRange};
 use cc_command::Command;
 
 /// Returns whether the parser of the built `tree` is a simple command, as `clap` calls it. If so,
-/// the clauses of `clap` say which words the parser takes, and which matches they have.
+/// the clauses of `clap` determine the words that the parser accepts, and their matches.
 ///
 /// It is if all of this is true of the root and its children:
 ///
@@ -101,22 +101,6 @@ fn reads_simply(argument: &Arg) -> bool
         && (argument.get_value_terminator().is_none()
             && (!argument.is_allow_hyphen_values_set()
                 && (!argument.is_last_set() && !argument.is_global_set())))
-}
-
-fn have_index_or_name(arguments: &[Arg]) -> bool
-    ensures { result ≡ list_all has_index_or_name arguments.now }
-{
-    arguments.iter().all(has_index_or_name)
-}
-
-fn has_index_or_name(argument: &Arg) -> bool
-    ensures { result ≡ has_index_or_name argument.now }
-{
-    if argument.is_positional() {
-        argument.get_index().is_some() && argument.get_aliases().is_empty()
-    } else {
-        argument.get_index().is_none()
-    }
 }
 
 // Returns whether only the last positional may get several values.

@@ -25,7 +25,8 @@ pub fn fits_parser(command: &Command) -> bool
     have_index_or_name(command.get_arguments()) && has_help_beside_others(command.get_subcommands())
 }
 
-fn have_index_or_name(arguments: &[Arg]) -> bool
+/// Returns whether each argument has an index or names, but not both.
+pub(crate) fn have_index_or_name(arguments: &[Arg]) -> bool
     ensures { result ≡ list_all has_index_or_name arguments.now }
 {
     arguments.iter().all(has_index_or_name)

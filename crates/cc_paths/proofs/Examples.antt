@@ -1,15 +1,104 @@
 -- Examples of the candidates in a file system that functions describe.
-use Rattle.std.proofs.Common.{◌≡◌, ◌++◌, ℕ, List, [], ◌∷◌, Bool, true, Option, Some, None, codes, refl}
-use Rattle.std.specs.Prelude.{◌||◌, if◌then◌else◌}
-use Rattle.std.specs.List.{list_any}
+use Rattle.std.proofs.Common.{◌≡◌, ◌++◌, ℕ, List, [], ◌∷◌, Bool, true, Option, Some, None, codes, refl, ◌==◌, suc, length, false, ne_eqb, ◌∙◌, ap, ap₂, map, filter, MatchOption}
+use Rattle.std.specs.Prelude.{◌||◌, if◌then◌else◌, unwrap_or, ⊤}
+use Rattle.std.specs.List.{list_any, AllByRecursion}
 use Rattle.std.specs.Path.{path_file_name, path_join, path_parent, rsplit_once, split_last_component, trim_trailing}
 use Rattle.std.specs.Str.{bytes_eq}
+use Rattle.std.specs.Option.{option_map_or}
 use Rattle.cc_base.specs.Sorting.{in_order, insert}
 use Rattle.cc_candidates.specs.Candidate.{new_candidate}
-use Rattle.cc_paths.specs.PathCandidates.{groups, stdio_candidate}
-use Rattle.cc_paths.proofs.FixedFolder.{candidates_by}
-use Rattle.cc_paths.specs.PathTexts.{search_root, word_name, word_prefix}
 use Rattle.cc_candidates.specs.declared.candidate.CompletionCandidate.{CompletionCandidate}
+use Rattle.cc_paths.specs.PathCandidates.{groups, stdio_candidate, ArePathCandidates, AreCandidatesAt, IsEntry, grouped_candidates, begins, entry_name}
+use Rattle.cc_paths.specs.PathTexts.{search_root, word_name, word_prefix}
+use Rattle.cc_paths.specs.Folders.{FolderFacts}
+use Rattle.cc_paths.specs.declared.entry.Entry.{Entry}
+
+-- the entries of these names, by functions of their paths
+abbrev pub entries_by : (List ℕ → Bool) → (List ℕ → Bool) → List ℕ → List (List ℕ) → List Entry
+entries_by is_dir passes root names =
+    map (λ name. record {
+      name = name;
+      is_folder = is_dir (path_join root name);
+      passes = passes (path_join root name);
+    }) names
+
+-- The candidates, given functions for the names in a directory, for which paths lead to
+-- directories, and for which paths pass.
+abbrev pub candidates_by : (List ℕ → List (List ℕ)) → (List ℕ → Bool) → (List ℕ → Bool)
+    → Option (List ℕ) → Option (List ℕ) → List ℕ → List CompletionCandidate
+candidates_by names is_dir passes home current word =
+    option_map_or
+    (λ root. grouped_candidates word (passes root)
+    (entries_by is_dir passes root (filter (begins (word_name word)) (names root))))
+    (search_root home current (word_prefix word)) []
+
+module _ (names : List ℕ → List (List ℕ)) (is_dir passes : List ℕ → Bool) where
+  -- a path has the result that the function returns
+  abbrev Returns : (List ℕ → Bool) → List ℕ → Bool → Type 0
+  Returns f path is = is ≡ f path
+
+  entry_is : (root : List ℕ) (entry : Entry) → IsEntry (Returns is_dir) (Returns passes) root entry
+      → entry ≡ record {
+        name = entry.name;
+        is_folder = is_dir (path_join root entry.name);
+        passes = passes (path_join root entry.name);
+      }
+  entry_is root entry is =
+      ap₂ (λ a b. record { name = entry.name; is_folder = a; passes = b }) is.folder is.test
+
+  entries_are : (root : List ℕ) (entries : List Entry)
+      → AllByRecursion (IsEntry (Returns is_dir) (Returns passes) root) entries
+      → entries ≡ entries_by is_dir passes root (map entry_name entries)
+  entries_are root [] is = refl
+  entries_are root (entry ∷ entries) is =
+      ap₂ (λ e es. e ∷ es) (entry_is root entry is.0) (entries_are root entries is.1)
+
+  -- whether the root passes matters only for the empty word
+  root_counts : (word root : List ℕ) (is : Bool) (entries : List Entry)
+      → (word ≡ [] → is ≡ passes root)
+      → grouped_candidates word is entries ≡ grouped_candidates word (passes root) entries
+  root_counts [] root is entries h = ap (λ b. grouped_candidates [] b entries) (h refl)
+  root_counts (byte ∷ word) root is entries h =
+      let some : (length (byte ∷ word) == 0) ≡ false =
+      ne_eqb (length (byte ∷ word)) 0 (λ (e : suc (length word) ≡ 0). cc) in
+      rw some
+
+  -- the file system that these functions describe
+  abbrev Facts : Option (List ℕ) → FolderFacts
+  Facts home = record {
+    names = λ path listing. unwrap_or listing [] ≡ names path;
+    is_dir = Returns is_dir;
+    is_file = λ path is. ⊤;
+    is_executable = λ path is. ⊤;
+    home = home;
+  }
+
+  candidates_at : (home : Option (List ℕ)) (word root : List ℕ)
+      (candidates : List CompletionCandidate)
+      → AreCandidatesAt (Facts home) (Returns passes) word root candidates
+      → candidates ≡ grouped_candidates word (passes root)
+      (entries_by is_dir passes root (filter (begins (word_name word)) (names root)))
+  candidates_at home word root candidates h =
+      h.is ∙ root_counts word root h.root_passes h.entries h.root_test
+      ∙ ap (grouped_candidates word (passes root)) (entries_are root h.entries h.are_entries
+      ∙ ap (entries_by is_dir passes root) (h.named
+      ∙ ap (filter (begins (word_name word))) (h.listed.2 ∙ h.listed.1)))
+
+  by_root : (home : Option (List ℕ)) (word : List ℕ) (candidates : List CompletionCandidate) (found : Option (List ℕ))
+      → MatchOption found (candidates ≡ [])
+      (λ root. AreCandidatesAt (Facts home) (Returns passes) word root candidates)
+      → candidates ≡ option_map_or
+      (λ root. grouped_candidates word (passes root)
+      (entries_by is_dir passes root (filter (begins (word_name word)) (names root)))) found []
+  by_root home word candidates None h = h
+  by_root home word candidates (Some root) h = candidates_at home word root candidates h
+
+  pub candidates_are : (home current : Option (List ℕ)) (word : List ℕ)
+      (candidates : List CompletionCandidate)
+      → ArePathCandidates (Facts home) (Returns passes) current word candidates
+      → candidates ≡ candidates_by names is_dir passes home current word
+  candidates_are home current word candidates h =
+      by_root home word candidates (search_root home current (word_prefix word)) h
 
 -- the path is this one, with or without a slash at its end
 abbrev is_at : List ℕ → List ℕ → Bool

@@ -34,8 +34,8 @@ is_wanted entry = entry.passes
 abbrev pub is_unwanted_folder : Entry → Bool
 is_unwanted_folder entry = not entry.passes && entry.is_folder
 
--- the wanted candidates and those of the wanted entries in order, then the unwanted directories in
--- order
+-- the given candidates and those of the entries that match, in order, then the other directories
+-- in order
 unfoldable pub groups : List CompletionCandidate → List ℕ → List Entry → List CompletionCandidate
 groups wanted prefix entries =
     in_order comes_before (wanted ++ map (path_candidate prefix) (filter is_wanted entries))

@@ -46,8 +46,8 @@ below_home path = if bytes_eq (before_first is_slash path) (codes "~")
 abbrev pub join_some : Option (List ℕ) → List ℕ → Option (List ℕ)
 join_some folder path = option_map (λ from. path_join from path) folder
 
--- The directory to list for a prefix, given a home directory and a current directory. There is none
--- if it needs one that is missing.
+-- The directory to list for a prefix, given a home directory and a current directory. The
+-- result is `None` if one of them is needed and missing.
 unfoldable pub search_root : Option (List ℕ) → Option (List ℕ) → List ℕ → Option (List ℕ)
 search_root home current prefix =
     if is_absolute prefix then Some prefix

@@ -11,8 +11,7 @@ use Rattle.cc_quote.specs.PosixSigns.{sign, byte_of}
 use Rattle.cc_quote.specs.PosixSigns.Sign.{other}
 use Rattle.cc_quote.specs.PosixQuote.{next_state, word_after, posix_word_from, posix_word_of, is_posix_safe, is_posix_safe_word, posix_escaped, posix_quoted}
 use Rattle.cc_quote.specs.declared.posix.QuoteState.TheVariants.{Before, Bare}
-use Rattle.cc_quote.specs.FishQuote.{fish_sign, begins_with_word, fish_word_from, fish_word_of, is_fish_safe, fish_quoted}
-use Rattle.cc_quote.specs.FishQuote.{bare}
+use Rattle.cc_quote.specs.FishQuote.{fish_sign, begins_with_word, fish_word_from, fish_word_of, is_fish_safe, fish_quoted, bare}
 use Rattle.std.specs.Str.{NonePass}
 use Rattle.cc_quote.specs.ElvishQuote.{elvish_word_of}
 use Rattle.cc_quote.specs.PowershellQuote.{powershell_signs, powershell_word_of}

@@ -25,7 +25,7 @@ sign-is_bare byte h = by_tests (byte == single_quote) (is_blank byte) h
     by_tests false true p = cc
     by_tests false false p = refl
 
--- a run of bare bytes, in a token that has begun
+-- a run of bare bytes within a token
 pub bare_run : (run rest : List ℕ) (pieces : List Piece) (begun : List ℕ) → IsBare run
     → cut (in_bare pieces begun) (map sign (run ++ rest)) ≡ cut (in_bare pieces (begun ++ run)) (map sign rest)
 unfolding cut

@@ -3,9 +3,8 @@
 use Rattle.std.proofs.Common.{◌≡◌, ℕ, List, [], ◌∷◌, ◌++◌, refl, ap, ◌∙◌, sym, append_assoc, append-nil, inl, inr, ◌⊎◌, Some, None, IsTrue, flat_map}
 use Rattle.std.specs.List.{AllByRecursion}
 use Rattle.cc_base.specs.Bytes as ascii
-use Rattle.cc_quote.specs.FishQuote.{FishSign, FishState, fish_sign, next_state, advance, begins_word, begins_with_word}
+use Rattle.cc_quote.specs.FishQuote.{FishSign, FishState, fish_sign, next_state, advance, begins_word, begins_with_word, bare}
 use Rattle.cc_quote.specs.FishQuote.FishSign.{blank, line_feed, hash}
-use Rattle.cc_quote.specs.FishQuote.{bare}
 use Rattle.cc_quote.specs.FishTokens.{between, in_word, commands_from}
 use Rattle.cc_quote.proofs.FishWords.{IsSafe, safe_bare}
 use Rattle.cc_base.proofs.Cases.{option_cases}

@@ -6,8 +6,7 @@ use Rattle.std.specs.List.{list_all}
 use Rattle.cc_base.proofs.Cases.{option_cases}
 use Rattle.cc_quote.specs.QuotedWord.{line_feeds_as_spaces}
 use Rattle.cc_quote.specs.Escapes.{marked_byte}
-use Rattle.cc_quote.specs.FishQuote.{FishState, fish_sign, advance, fish_word_from, fish_word_of, fish_double_from, fish_double_of, is_fish_safe, is_double_marked, double_escaped, single_quoted, fish_quoted, fish_quoted_for_eval, fish_help_for_eval_of, fish_escaped, ReadsTwice}
-use Rattle.cc_quote.specs.FishQuote.{bare, in_double, fish_next, fish_added, is_bare}
+use Rattle.cc_quote.specs.FishQuote.{FishState, fish_sign, advance, fish_word_from, fish_word_of, fish_double_from, fish_double_of, is_fish_safe, is_double_marked, double_escaped, single_quoted, fish_quoted, fish_quoted_for_eval, fish_help_for_eval_of, fish_escaped, ReadsTwice, bare, in_double, fish_next, fish_added, is_bare}
 use Rattle.cc_quote.specs.FishQuote.FishState.{at}
 use Rattle.cc_quote.specs.WordReader.{ended}
 use Rattle.cc_quote.specs.declared.fish_reader.QuoteState.{QuoteState}

@@ -5,9 +5,8 @@ use Rattle.std.proofs.lemmas.Bool.Decides.{nat_tests}
 use Rattle.std.specs.List.{list_all, AllByRecursion}
 use Rattle.cc_base.specs.Bytes.{backslash, dollar, double_quote, hash, single_quote, space}
 use Rattle.cc_quote.specs.Escapes.{marked_byte}
-use Rattle.cc_quote.specs.FishQuote.{FishState, fish_sign, next_state, advance, is_fish_safe, is_single_marked, single_escaped, is_double_marked, double_escaped, single_quoted, fish_quoted}
+use Rattle.cc_quote.specs.FishQuote.{FishState, fish_sign, next_state, advance, is_fish_safe, is_single_marked, single_escaped, is_double_marked, double_escaped, single_quoted, fish_quoted, bare, in_single, in_double}
 use Rattle.cc_quote.specs.FishQuote.FishSign.{other}
-use Rattle.cc_quote.specs.FishQuote.{bare, in_single, in_double}
 
 -- every byte of the text needs no quotes
 abbrev pub IsSafe : List ℕ → Type 0
@@ -45,7 +44,7 @@ advance-append (byte ∷ bytes) [] None = refl
 advance-append (byte ∷ bytes) (next ∷ rest) None = refl
 advance-append (byte ∷ bytes) rest (Some state) = advance-append bytes rest (next_state state byte)
 
--- bytes that need no quotes stand for themselves outside quotes
+-- outside quotes, bytes that need no quotes mean themselves
 pub safe_bare : (text word : List ℕ) → IsSafe text → advance (Some (bare word)) text ≡ Some (bare (word ++ text))
 safe_bare [] word h = rw append-nil
 safe_bare (byte ∷ text) word (h, hs) = rw (advance, safe_sign byte h) (rw append_assoc at (safe_bare text (word ++ byte ∷ []) hs))
@@ -65,7 +64,7 @@ pub safe_double_escaped : (text : List ℕ) → IsSafe text → double_escaped t
 safe_double_escaped [] h = refl
 safe_double_escaped (byte ∷ text) (h, hs) = ap (λ bytes. bytes ++ double_escaped text) (safe_double byte h) ∙ ap (λ bytes. byte ∷ bytes) (safe_double_escaped text hs)
 
--- so it stands for itself there
+-- so the text means itself between two `"`
 pub safe_in_double : (text word : List ℕ) → IsSafe text → advance (Some (in_double word)) text ≡ Some (in_double (word ++ text))
 safe_in_double text word h = ap (advance (Some (in_double word))) (sym (safe_double_escaped text h)) ∙ double_read text word
 

@@ -1,4 +1,3 @@
-pub mod BashCharacters
 pub mod BashDoubles
 pub mod BeforeBlanks
 pub mod Blanks

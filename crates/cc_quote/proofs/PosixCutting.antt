@@ -35,7 +35,7 @@ pub IsKept-append : (text more : List ℕ) → IsKept text → IsKept more → I
 IsKept-append [] more h k = k
 IsKept-append (b ∷ text) more h k = (h.0, IsKept-append text more h.1 k)
 
--- a run of such bytes, in a token that has begun
+-- a run of such bytes within a token
 pub bare_run : (text rest : List ℕ) (pieces : Token) (run : List ℕ) → IsOther text →
     tokens_from (in_bare pieces run) (text ++ rest)
     ≡ tokens_from (in_bare pieces (run ++ text)) rest

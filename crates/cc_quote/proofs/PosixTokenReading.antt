@@ -120,7 +120,7 @@ grown state s pieces text word bytes h = record {
   whole = ap (λ w. word_after state s w bytes) h.whole ∙ word_after-append state s h.before text bytes;
 }
 
--- a token has begun
+-- the state is within a token
 abbrev HasBegun : QuoteState → Type 0
 HasBegun Before = ⊥
 HasBegun BeforeEscaped = ⊥
@@ -195,7 +195,7 @@ at_blank InSingle line_feed signs rest token word e r b h = cc
 at_blank InDouble line_feed signs rest token word e r b h = cc
 at_blank state s signs rest token word e r b h = cc
 
--- what is read of a token that has begun agrees with the tokens
+-- the word that is read from within a token agrees with the tokens
 abbrev Agree : List ℕ → QuoteState → PartialToken → List ℕ → Type 0
 Agree text state token word = IsTokenRead (cut (at state token) (map sign text)) (posix_word_from state word text)
 

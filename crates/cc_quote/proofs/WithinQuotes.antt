@@ -6,7 +6,7 @@ use Rattle.cc_quote.specs.Signs.{Sign, blank, quote, other, sign, HasNoQuote}
 use Rattle.cc_quote.specs.Tokens.{Piece, cut}
 use Rattle.cc_quote.specs.Tokens.QuoteState.{in_quotes}
 
--- within quotes whitespace is kept, and two quotes in a row stand for the second
+-- within quotes whitespace is kept, and two quotes in a row mean the second
 pub record ReadsQuoted {A : Type 0} (reading : List ℕ → List Sign → A) : Type 0 where
   pub of_blank : (text run : List ℕ) (rest : List Sign) → reading text (blank run ∷ rest) ≡ reading (text ++ run) rest
   pub of_other : (text run : List ℕ) (rest : List Sign) → reading text (other run ∷ rest) ≡ reading (text ++ run) rest

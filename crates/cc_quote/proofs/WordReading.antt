@@ -51,7 +51,7 @@ module _ (signs : List ℕ → List Sign) (are : AreSigns signs) where
 
   -- ---- a bare word
 
-  -- a run without whitespace, in a word that has begun
+  -- a run without whitespace within a word
   bare_run : (run rest word : List ℕ) → NonePass is_blank run → word_from (bare word) (signs (run ++ rest)) ≡ word_from (bare (word ++ run)) (signs rest)
   bare_run [] rest word h = ap (λ w. word_from (bare w) (signs rest)) (sym (append-nil word))
   bare_run (byte ∷ run) rest word h =

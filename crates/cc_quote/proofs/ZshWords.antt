@@ -37,7 +37,7 @@ value_composed text =
 
 -- ---- backslashes
 
--- a byte other than a backslash stands for itself
+-- a byte other than a backslash means itself
 pub marks-kept : (byte : ℕ) (rest : List ℕ) → byte == backslash ≡ false → marks_from false (byte ∷ rest) ≡ kept byte ∷ marks_from false rest
 unfolding marks_from
 marks-kept byte rest e = rw (marks_from, e) refl

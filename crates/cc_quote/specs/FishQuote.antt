@@ -7,14 +7,7 @@ use Rattle.cc_quote.specs.Escapes.{backslashed, escaped_by, marked}
 use Rattle.cc_quote.specs.QuotedWord.{line_feeds_as_spaces}
 use Rattle.cc_quote.specs.WordReader.{word_from, after_double_quote}
 use Rattle.cc_quote.specs.declared.fish_reader.QuoteState.{QuoteState}
-use Rattle.cc_quote.specs.declared.fish_reader.QuoteState.TheVariants.{
-  Bare,
-  BareEscaped,
-  InSingle,
-  InSingleEscaped,
-  InDouble,
-  InDoubleEscaped,
-}
+use Rattle.cc_quote.specs.declared.fish_reader.QuoteState.TheVariants.{Bare, BareEscaped, InSingle, InSingleEscaped, InDouble, InDoubleEscaped}
 use Rattle.memchr.specs.Find.{is_byte3}
 
 -- ---- how a word is read

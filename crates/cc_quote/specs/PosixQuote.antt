@@ -1,45 +1,14 @@
 -- Words as a POSIX shell reads them, and the quoting of a text for a POSIX shell.
-use Rattle.std.specs.Prelude.{
-  ℕ,
-  Bool,
-  true,
-  false,
-  List,
-  [],
-  ◌∷◌,
-  ◌++◌,
-  Option,
-  Some,
-  None,
-  codes,
-  ◌==◌,
-  ◌||◌,
-  if◌then◌else◌,
-}
+use Rattle.std.specs.Prelude.{ℕ, Bool, true, false, List, [], ◌∷◌, ◌++◌, Option, Some, None, codes, ◌==◌, ◌||◌, if◌then◌else◌}
 use Rattle.std.specs.Char.{is_ascii_alphanumeric}
 use Rattle.std.specs.List.{list_all, list_any}
 use Rattle.cc_base.specs.Bytes.{single_quote as single_quote_byte}
 use Rattle.cc_quote.specs.Escapes.{replace_byte}
 use Rattle.cc_quote.specs.PosixSigns.{Sign, sign}
-use Rattle.cc_quote.specs.PosixSigns.Sign.{
-  blank,
-  line_feed,
-  single_quote,
-  double_quote,
-  backslash,
-  special,
-}
+use Rattle.cc_quote.specs.PosixSigns.Sign.{blank, line_feed, single_quote, double_quote, backslash, special}
 use Rattle.cc_quote.specs.WordReader.{word_from}
 use Rattle.cc_quote.specs.declared.posix.QuoteState.{QuoteState}
-use Rattle.cc_quote.specs.declared.posix.QuoteState.TheVariants.{
-  Before,
-  BeforeEscaped,
-  Bare,
-  BareEscaped,
-  InSingle,
-  InDouble,
-  InDoubleEscaped,
-}
+use Rattle.cc_quote.specs.declared.posix.QuoteState.TheVariants.{Before, BeforeEscaped, Bare, BareEscaped, InSingle, InDouble, InDoubleEscaped}
 
 -- ---- how a word is read
 
@@ -97,7 +66,7 @@ posix_next state character = next_state state (sign character)
 abbrev pub posix_added : QuoteState → ℕ → List ℕ → List ℕ → List ℕ
 posix_added state character word bytes = word_after state (sign character) word bytes
 
--- whether a word may end at a state: it must have begun, and no quote and no escape may be open
+-- whether a word may end at a state: within a word, with no open quote and no open escape
 abbrev pub is_bare : QuoteState → Bool
 is_bare Bare = true
 is_bare _ = false

@@ -1,15 +1,6 @@
--- What bytes mean to a POSIX shell.
+-- The meaning of each byte to a POSIX shell.
 use Rattle.std.specs.Prelude.{ℕ, ◌==◌, ◌||◌, if◌then◌else◌}
-use Rattle.cc_base.specs.Bytes.{
-  tab as tab_byte,
-  line_feed as line_feed_byte,
-  space as space_byte,
-  double_quote as double_quote_byte,
-  dollar as dollar_byte,
-  single_quote as single_quote_byte,
-  backslash as backslash_byte,
-  backtick as backtick_byte,
-}
+use Rattle.cc_base.specs.Bytes.{tab as tab_byte, line_feed as line_feed_byte, space as space_byte, double_quote as double_quote_byte, dollar as dollar_byte, single_quote as single_quote_byte, backslash as backslash_byte, backtick as backtick_byte}
 
 -- what a byte means: a space or a tab, a line feed, a quote of either kind, a backslash, one of the
 -- two others that a backslash escapes within double quotes, or any other

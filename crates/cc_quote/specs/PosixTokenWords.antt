@@ -1,20 +1,5 @@
 -- The words that a POSIX shell reads, as tokens of a script spell them.
-use Rattle.std.specs.Prelude.{
-  ◌≡◌,
-  ℕ,
-  Bool,
-  true,
-  false,
-  List,
-  [],
-  ◌∷◌,
-  ◌++◌,
-  Option,
-  Some,
-  None,
-  map,
-  option_map,
-}
+use Rattle.std.specs.Prelude.{◌≡◌, ℕ, Bool, true, false, List, [], ◌∷◌, ◌++◌, Option, Some, None, map, option_map}
 use Rattle.cc_quote.specs.PosixSigns.{Sign, sign}
 use Rattle.cc_quote.specs.PosixTokens.{posix_tokens}
 use Rattle.cc_quote.specs.PosixSigns.Sign.{blank, line_feed, backslash}
@@ -59,7 +44,7 @@ abbrev pub IsTokenRead : List Token → Option (List ℕ × List ℕ) → Type 0
 IsTokenRead tokens (Some (word, rest)) = IsFirstToken tokens word rest
 IsTokenRead tokens None = IsOpenToken tokens
 
--- What is read of a text agrees with its tokens. If no token begins the text, no word is read.
+-- The word that is read agrees with the tokens of the text. If no token begins it, no word is read.
 -- Otherwise the word of the first token and the text after it are read, or nothing if that token is
 -- open.
 pub record ReadsFirstToken (text : List ℕ) (read : Option (List ℕ × List ℕ)) : Type 0 where

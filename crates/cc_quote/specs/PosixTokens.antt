@@ -2,11 +2,7 @@
 -- outside quotes, as words are read. A token keeps its pieces, each with its kind of quote. Nothing
 -- is a comment.
 use Rattle.std.specs.Prelude.{ℕ, Bool, List, [], ◌∷◌, ◌++◌, map, Some, None, bytes_eq}
-use Rattle.cc_base.specs.Bytes.{
-  double_quote as double_quote_byte,
-  single_quote as single_quote_byte,
-  backslash as backslash_byte,
-}
+use Rattle.cc_base.specs.Bytes.{double_quote as double_quote_byte, single_quote as single_quote_byte, backslash as backslash_byte}
 use Rattle.cc_quote.specs.PosixQuote.{next_state, word_after}
 use Rattle.cc_quote.specs.PosixSigns.{Sign, sign, byte_of}
 use Rattle.cc_quote.specs.PosixSigns.Sign.{single_quote, double_quote}
@@ -82,7 +78,7 @@ token_after state s (after_piece pieces) = begun pieces (word_after state s [] (
 token_after state s (in_piece pieces text) =
     in_piece pieces (word_after state s text (byte_of s ∷ []))
 
--- the token that ends at a state, if one has begun
+-- the token that ends at a state, if the state is within one
 abbrev pub ended_token : QuoteState → PartialToken → List Token
 ended_token Before token = []
 ended_token Bare token = pieces_of Bare token ∷ []

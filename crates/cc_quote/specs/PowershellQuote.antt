@@ -1,37 +1,7 @@
 -- Words as PowerShell quotes them. Quotes are `'` and U+2019, and each of them closes what the
 -- other opened.
-use Rattle.std.specs.Prelude.{
-  ◌≡◌,
-  ℕ,
-  ◌<◌,
-  ◌+◌,
-  Bool,
-  true,
-  false,
-  ◌==◌,
-  ◌&&◌,
-  ◌||◌,
-  if◌then◌else◌,
-  List,
-  [],
-  ◌∷◌,
-  ◌++◌,
-  length,
-  take,
-  drop,
-  slice_index,
-  map,
-  Option,
-}
-use Rattle.cc_base.specs.Bytes.{
-  line_feed,
-  space,
-  single_quote,
-  right_quote_first,
-  right_quote_second,
-  right_quote_third,
-  right_quote,
-}
+use Rattle.std.specs.Prelude.{◌≡◌, ℕ, ◌<◌, ◌+◌, Bool, true, false, ◌==◌, ◌&&◌, ◌||◌, if◌then◌else◌, List, [], ◌∷◌, ◌++◌, length, take, drop, slice_index, map, Option}
+use Rattle.cc_base.specs.Bytes.{line_feed, space, single_quote, right_quote_first, right_quote_second, right_quote_third, right_quote}
 use Rattle.cc_quote.specs.QuotedWord.{before, word_from}
 use Rattle.cc_quote.specs.Signs.{Sign, quote, sign, HasNoQuote}
 

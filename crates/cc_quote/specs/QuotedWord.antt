@@ -1,25 +1,6 @@
--- A word at the start of a text, quoted or not. Two quotes in a row within quotes stand for the
+-- A word at the start of a text, quoted or not. Within quotes, two quotes in a row mean the
 -- second.
-use Rattle.std.specs.Prelude.{
-  ◌≡◌,
-  ◌≢◌,
-  ◌⊎◌,
-  ℕ,
-  ◌<◌,
-  ◌==◌,
-  if◌then◌else◌,
-  true,
-  List,
-  [],
-  ◌∷◌,
-  ◌++◌,
-  map,
-  flat_map,
-  length,
-  Option,
-  Some,
-  None,
-}
+use Rattle.std.specs.Prelude.{◌≡◌, ◌≢◌, ◌⊎◌, ℕ, ◌<◌, ◌==◌, if◌then◌else◌, true, List, [], ◌∷◌, ◌++◌, map, flat_map, length, Option, Some, None}
 use Rattle.std.specs.Borrow.{Bor}
 use Rattle.std.specs.Str.{NoCharPasses}
 use Rattle.std.specs.String.{string_bytes}
@@ -36,7 +17,7 @@ pub data QuoteState : Type 0 where
   after_quote : List ℕ → QuoteState
 
 -- The word and the rest. A word that begins with a quote ends at the quote that closes it, and two
--- quotes in a row inside it stand for the second. Any other word ends before the first whitespace,
+-- quotes in a row inside it mean the second. Any other word ends before the first whitespace,
 -- and a quote in it is an ordinary character. The result is `None` at whitespace, at the end, and
 -- if a quote is not closed.
 abbrev pub word_from : QuoteState → List Sign → Option (List ℕ × List ℕ)

@@ -1,4 +1,4 @@
--- What bytes mean to the readers of words and of tokens.
+-- The meaning of each byte to the readers of words and of tokens.
 use Rattle.std.specs.Prelude.{ℕ, not, ◌==◌, if◌then◌else◌, List, [], ◌∷◌, IsTrue}
 use Rattle.std.specs.List.{AllByRecursion}
 use Rattle.cc_base.specs.Bytes.{single_quote, is_blank}

@@ -1,20 +1,6 @@
--- The tokens of a script, which is cut at whitespace outside quotes. Two quotes in a row within
--- quotes stand for the second.
-use Rattle.std.specs.Prelude.{
-  ℕ,
-  Bool,
-  false,
-  List,
-  [],
-  ◌∷◌,
-  ◌++◌,
-  if◌then◌else◌,
-  Option,
-  Some,
-  None,
-  unwrap_or,
-  bytes_eq,
-}
+-- The tokens of a script, which is cut at whitespace outside quotes. Within quotes, two quotes
+-- in a row mean the second.
+use Rattle.std.specs.Prelude.{ℕ, Bool, false, List, [], ◌∷◌, ◌++◌, if◌then◌else◌, Option, Some, None, unwrap_or, bytes_eq}
 use Rattle.cc_quote.specs.Signs.{Sign, blank, quote, other}
 
 -- a piece of a token: a run outside quotes, or an opening quote and the text after it; a piece is

@@ -1,20 +1,5 @@
 -- A word read by an automaton, which goes from state to state by characters.
-use Rattle.std.specs.Prelude.{
-  ◌≡◌,
-  ◌⊎◌,
-  ℕ,
-  ◌≤◌,
-  Bool,
-  List,
-  [],
-  ◌∷◌,
-  ◌++◌,
-  Option,
-  Some,
-  None,
-  ◌==◌,
-  if◌then◌else◌,
-}
+use Rattle.std.specs.Prelude.{◌≡◌, ◌⊎◌, ℕ, ◌≤◌, Bool, List, [], ◌∷◌, ◌++◌, Option, Some, None, ◌==◌, if◌then◌else◌}
 use Rattle.cc_base.specs.Bytes.{double_quote}
 
 -- the word and the rest, if a word may end there

@@ -1,9 +1,7 @@
 -- The escapes of a text between two `'` for the lists of zsh's completion, and how the backslashes
 -- are removed again.
 use Rattle.std.specs.Prelude.{◌≡◌, ℕ, Bool, true, false, List, [], ◌∷◌, ◌++◌, Option, Some, None, option_map, codes, ◌==◌, ◌||◌, if◌then◌else◌}
-use Rattle.cc_base.specs.Bytes.{backslash, backtick, close_bracket, close_parenthesis, colon}
-use Rattle.cc_base.specs.Bytes.{dollar, line_feed, open_bracket, open_parenthesis, single_quote}
-use Rattle.cc_base.specs.Bytes.{space}
+use Rattle.cc_base.specs.Bytes.{backslash, backtick, close_bracket, close_parenthesis, colon, dollar, line_feed, open_bracket, open_parenthesis, single_quote, space}
 use Rattle.cc_quote.specs.Escapes.{backslashed, escaped_by}
 use Rattle.cc_quote.specs.PosixQuote.{posix_word_of}
 use Rattle.cc_quote.specs.declared.zsh.EscapeState.{EscapeState}
@@ -11,7 +9,7 @@ use Rattle.cc_quote.specs.declared.zsh.EscapeState.TheVariants.{Plain, Escaping}
 
 -- ---- how backslashes are read
 
--- a byte that stands for itself, one that a backslash escapes, or a backslash at the end
+-- a byte that means itself, one that a backslash escapes, or a backslash at the end
 pub data Mark : Type 0 where
   kept : ℕ → Mark
   escaped : ℕ → Mark

@@ -51,7 +51,7 @@ pub fn bash_double(alloc: Global, text: &str) -> Result<String, Error>
 }
 
 /// Reads a `text` that begins with `"` up to the `"` that closes it, as `posix_word` reads that
-/// part. Returns what it spells, and the rest of the text. Returns `None` if the text does not
+/// part. Returns what it spells, and the remaining text. Returns `None` if the text does not
 /// begin with `"`, or does not close it.
 ///
 /// # Errors

@@ -54,7 +54,7 @@ pub fn elvish_escape(alloc: Global, text: &str) -> Result<String, Error>
     Ok(escape_text(alloc, &ElvishEscape, text)?)
 }
 
-/// Reads the word with which `text` begins. Returns the word and the rest of the text.
+/// Reads the word with which `text` begins. Returns the word and the remaining text.
 ///
 /// - A word that begins with `'` ends at its closing `'`. In it, `''` is one quote.
 /// - Any other word ends before the first space, tab or line feed. In it, a quote is an ordinary

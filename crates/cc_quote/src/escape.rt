@@ -38,7 +38,7 @@ pub trait ByteEscape {
             ≡ replacement_by (escapes self.now) (replacement self.now) byte }
         ensures ascii { IsSome result → byte < 128 };
 
-    /// Returns the index of the first of the `bytes` that is escaped, or `None` if there is none.
+    /// Returns the index of the first of the `bytes` that is escaped, or `None` without one.
     fn find(&self, bytes: &[u8]) -> Option<usize>
         ensures { IsFirstByte (escapes self.now) bytes.now result }
     {

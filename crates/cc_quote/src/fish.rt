@@ -8,18 +8,10 @@ ghost use Rattle.cc_base.specs.Bytes.{backslash, line_feed, single_quote};
 ghost use Rattle.memchr.specs.Find.{is_byte3};
 ghost use Rattle.cc_quote.specs.Escapes.{backslashed};
 ghost use Rattle.cc_quote.specs.FishEscapes.{eval_byte, help_byte, is_eval_byte, is_help_byte};
-ghost use Rattle.cc_quote.specs.FishQuote.{
-  description_replacement,
-  fish_escaped,
-  fish_help_for_eval_of,
-  fish_quoted,
-  fish_quoted_for_eval,
-  fish_word_of,
-  is_fish_safe,
-  is_fish_safe_word,
-  is_single_marked,
-  ReadsTwice,
-};
+ghost use Rattle.cc_quote.specs.FishQuote.{description_replacement, fish_escaped};
+ghost use Rattle.cc_quote.specs.FishQuote.{fish_help_for_eval_of, fish_quoted};
+ghost use Rattle.cc_quote.specs.FishQuote.{fish_quoted_for_eval, fish_word_of, is_fish_safe};
+ghost use Rattle.cc_quote.specs.FishQuote.{is_fish_safe_word, is_single_marked, ReadsTwice};
 ghost use Rattle.cc_quote.specs.QuotedWord.{line_feeds_as_spaces};
 
 use crate::escape::{ByteEscape, Escape, escape_text, push_escaped, put_escaped};

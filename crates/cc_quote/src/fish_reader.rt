@@ -2,15 +2,8 @@
 
 ghost use Rattle.std.specs.Prelude.{◌≡◌, encode_utf8, false, true, IfOk, IfErr, OnOk};
 ghost use Rattle.std.specs.String.{string_bytes};
-ghost use Rattle.cc_quote.specs.FishQuote.{
-  begins_with_word,
-  double_next,
-  fish_added,
-  fish_double_of,
-  fish_next,
-  fish_word_of,
-  is_bare,
-};
+ghost use Rattle.cc_quote.specs.FishQuote.{begins_with_word, double_next, fish_added};
+ghost use Rattle.cc_quote.specs.FishQuote.{fish_double_of, fish_next, fish_word_of, is_bare};
 ghost use Rattle.cc_quote.specs.QuotedWord.{contents};
 
 use crate::word_state::{WordState, read_word};
@@ -29,7 +22,7 @@ pub(crate) enum QuoteState {
     InDoubleEscaped,
 }
 
-/// Reads the word with which `text` begins. Returns the word and the rest of the text. The word
+/// Reads the word with which `text` begins. Returns the word and the remaining text. The word
 /// consists of pieces, up to a space, tab or line feed outside quotes. Nothing is expanded.
 ///
 /// - Between two `'` a backslash is special before `'` and `\`.
@@ -55,7 +48,7 @@ pub fn fish_word(alloc: Global, text: &str) -> Result<Option<(String, &str)>, Er
 }
 
 /// Reads a `text` that begins with `"` up to the `"` that closes it, as [`fish_word`] reads that
-/// part. Returns what it spells, and the rest of the text. Returns `None` if the text does not
+/// part. Returns what it spells, and the remaining text. Returns `None` if the text does not
 /// begin with `"`, or does not close it.
 ///
 /// # Errors

@@ -1,36 +1,14 @@
 //! Words as a POSIX shell quotes and reads them: bare, between two `'`, between two `"`, and after
 //! `\`.
 
-ghost use Rattle.std.specs.Prelude.{
-  ◌≡◌,
-  ◌++◌,
-  [],
-  codes,
-  encode_utf8,
-  map,
-  option_map,
-  false,
-  true,
-  IfOk,
-  IfErr,
-  OnOk,
-  Some,
-};
+ghost use Rattle.std.specs.Prelude.{◌≡◌, ◌++◌, [], codes, encode_utf8, map, option_map, false};
+ghost use Rattle.std.specs.Prelude.{true, IfOk, IfErr, OnOk, Some};
 ghost use Rattle.std.specs.List.{list_all};
 ghost use Rattle.std.specs.String.{string_bytes};
 ghost use Rattle.cc_quote.specs.BashDouble.{double_next};
-ghost use Rattle.cc_quote.specs.PosixQuote.{
-  is_bare,
-  is_posix_safe,
-  is_posix_safe_word,
-  next_state,
-  posix_added,
-  posix_escaped,
-  posix_next,
-  posix_quoted,
-  posix_word_of,
-  word_after,
-};
+ghost use Rattle.cc_quote.specs.PosixQuote.{is_bare, is_posix_safe, is_posix_safe_word, next_state};
+ghost use Rattle.cc_quote.specs.PosixQuote.{posix_added, posix_escaped, posix_next, posix_quoted};
+ghost use Rattle.cc_quote.specs.PosixQuote.{posix_word_of, word_after};
 ghost use Rattle.cc_quote.specs.PosixTokenWords.{ReadsFirstToken};
 ghost use Rattle.cc_quote.specs.PosixSigns.{sign};
 ghost use Rattle.cc_quote.specs.QuotedWord.{contents};
@@ -113,7 +91,7 @@ pub(crate) enum QuoteState {
     InDoubleEscaped,
 }
 
-/// Reads the word with which `text` begins. Returns the word and the rest of the text. The word
+/// Reads the word with which `text` begins. Returns the word and the remaining text. The word
 /// consists of pieces, up to a space, tab or line feed outside quotes. Nothing is expanded.
 ///
 /// - Between two `'` every character is kept.

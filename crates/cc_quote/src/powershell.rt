@@ -1,45 +1,15 @@
 //! Words as PowerShell quotes them: between two quotes, each `'` or `’` (U+2019). Two quotes in a
-//! row inside stand for the second.
+//! row inside mean the second.
 
-ghost use Rattle.std.specs.Prelude.{
-  ◌≡◌,
-  ◌<◌,
-  ◌+◌,
-  ◌++◌,
-  [],
-  List,
-  ℕ,
-  codes,
-  true,
-  IfOk,
-  IfErr,
-  MatchOption,
-  Some,
-  drop,
-  length,
-  slice_index,
-};
+ghost use Rattle.std.specs.Prelude.{◌≡◌, ◌<◌, ◌+◌, ◌++◌, [], List, ℕ, codes, true, IfOk, IfErr};
+ghost use Rattle.std.specs.Prelude.{MatchOption, Some, drop, length, slice_index};
 ghost use Rattle.std.specs.String.{string_bytes};
-ghost use Rattle.cc_quote.specs.PowershellQuote.{
-  begins_quote,
-  begins_second,
-  is_escaped,
-  powershell_escaped,
-  powershell_signs,
-  powershell_word_of,
-  IsFirstEscaped,
-  IsFirstQuote,
-};
-ghost use Rattle.cc_quote.specs.QuotedWord.{
-  contents,
-  line_feeds_as_spaces,
-  quoted,
-  word_from,
-  BeginsWithNoQuote,
-  BeginsWithQuote,
-  IsCutAtQuote,
-  IsWithoutQuotes,
-};
+ghost use Rattle.cc_quote.specs.PowershellQuote.{begins_quote, begins_second, is_escaped};
+ghost use Rattle.cc_quote.specs.PowershellQuote.{powershell_escaped, powershell_signs};
+ghost use Rattle.cc_quote.specs.PowershellQuote.{powershell_word_of, IsFirstEscaped, IsFirstQuote};
+ghost use Rattle.cc_quote.specs.QuotedWord.{contents, line_feeds_as_spaces, quoted, word_from};
+ghost use Rattle.cc_quote.specs.QuotedWord.{BeginsWithNoQuote, BeginsWithQuote, IsCutAtQuote};
+ghost use Rattle.cc_quote.specs.QuotedWord.{IsWithoutQuotes};
 
 use crate::escape::{Escape, escape_text};
 use crate::word::bare_word;
@@ -137,10 +107,10 @@ pub fn powershell_escape(alloc: Global, text: &str) -> Result<String, Error>
     Ok(escape_text(alloc, &PowershellEscape, text)?)
 }
 
-/// Reads the word with which `text` begins. Returns the word and the rest of the text.
+/// Reads the word with which `text` begins. Returns the word and the remaining text.
 ///
 /// - A word that begins with a quote, `'` or `’` (U+2019), ends at the quote that closes it. In it,
-///   two quotes in a row stand for the second.
+///   two quotes in a row mean the second.
 /// - Any other word ends before the first space, tab or line feed. In it, a quote is an ordinary
 ///   character.
 ///

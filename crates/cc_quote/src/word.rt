@@ -6,7 +6,7 @@ ghost use Rattle.cc_quote.specs.QuotedWord.{contents, IsBareRead, IsCutAtBlank};
 use std::alloc::{AllocError, Global};
 
 /// Reads the word with which `text` begins, up to the first space, tab or line feed. Returns the
-/// word and the rest of the text, or `None` if the text is empty or begins with whitespace.
+/// word and the remaining text, or `None` if the text is empty or begins with whitespace.
 ///
 /// # Errors
 ///

@@ -40,7 +40,7 @@ pub(crate) trait WordState: Copy {
 }
 
 /// Reads a word of `text` from the state `first` on. With `is_double` it reads what is spelled up
-/// to the closing `"`. Returns the word and the rest of the text, or `None` if no word may end
+/// to the closing `"`. Returns the word and the remaining text, or `None` if no word may end
 /// where the reading ends.
 ///
 /// # Errors

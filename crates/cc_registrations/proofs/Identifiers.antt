@@ -1,4 +1,4 @@
--- What readers require of the bytes of identifiers.
+-- The bytes of identifiers meet the requirements of the readers.
 use Rattle.std.proofs.Common.{◌≡◌, ◌==◌, ℕ, Bool, true, false, cond, List, [], ◌∷◌, refl, sym, ◌∙◌, ap}
 use Rattle.std.proofs.lemmas.Bool.{ne_eqb}
 use Rattle.cc_base.specs.Bytes.{underscore}

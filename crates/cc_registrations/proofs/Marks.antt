@@ -1,4 +1,4 @@
--- What follows a mark in a text whose beginning does not contain it.
+-- The text after a mark, if the beginning of the text does not contain the mark.
 use Rattle.std.proofs.Common.{◌≡◌, ℕ, true, false, List, [], ◌∷◌, ◌++◌, Some, None, option_map, refl, ◌∙◌, ap, append-nil}
 use Rattle.cc_base.specs.Found.{after_mark, cut_at, up_to, with_front}
 use Rattle.cc_base.proofs.Finding.{Cut, is_free, past_free, past_lacking}

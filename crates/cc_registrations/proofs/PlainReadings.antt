@@ -1,4 +1,4 @@
--- A quoted word of bash, zsh or fish has only bytes outside quotes that stand for themselves.
+-- Outside quotes, a quoted word of bash, zsh or fish has only bytes that mean themselves.
 use Rattle.std.proofs.Common.{◌≡◌, ◌==◌, ℕ, Bool, true, false, cond, List, [], ◌∷◌, ◌++◌, Option, Some, None, option_map, codes, inl, inr, refl, ◌∙◌, ap, arith, append_assoc}
 use Rattle.std.specs.List.{list_all}
 use Rattle.std.proofs.lemmas.Bool.{and_parts, cases_Bool}
@@ -27,7 +27,7 @@ module _ (next : Place → ℕ → Option Place) where
         | false ↦ elim (next outside byte) [ Some following ↦ is_plain_from next following text | None ↦ false ]
       ]) e
 
-  -- a byte outside quotes that stands for itself
+  -- a byte that means itself, outside quotes
   plain_on : (byte : ℕ) (text : List ℕ) → is_blank byte ≡ false → next outside byte ≡ Some outside
       → is_plain_from next outside (byte ∷ text) ≡ is_plain_from next outside text
   unfolding is_plain_from

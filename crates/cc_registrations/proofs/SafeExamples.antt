@@ -152,7 +152,7 @@ powershell_line :
 unfolding first_line some_bins after with_front cut_at up_to after_mark between without_blanks word_by word_after is_identifier_byte identifier_byte powershell_quoted quoting_sign sign_before powershell_signs powershell.names_begin powershell.script_head powershell.variable_kept powershell.call_begins powershell.call_ends powershell.script_ends powershell.registration_head powershell.call powershell.registration_tail powershell.safe_powershell powershell.safe_powershell_names powershell.safe_powershell_binaries powershell.safe_powershell_script powershell.safe_powershell_variable powershell.safe_powershell_completer
 powershell_line = refl
 
--- ---- words with a byte that does not stand for itself
+-- ---- words with a byte that does not mean itself
 
 refused : List (List ℕ)
 refused = codes "a;b" ∷ codes "a$(b)" ∷ codes "`b`" ∷ codes "a|b" ∷ codes "a&" ∷ codes "*" ∷ codes "~a" ∷ codes "'a'$b" ∷ codes "\"$a\"" ∷ codes "a\\ b" ∷ []

@@ -11,7 +11,7 @@ use Rattle.cc_registrations.specs.declared.safe_text.SafeFrame.{SafeFrame}
 use Rattle.cc_registrations.proofs.ListedNames.{ReadsWords, listed, map_same}
 use Rattle.cc_registrations.proofs.Regrouped.{regroup_twelve}
 
--- the marks are in the fixed texts, each first where the part is
+-- the fixed texts contain the marks, and each mark first occurs at its part
 pub record IsMarked (frame : SafeFrame) (marks : SafeMarks) : Type 0 where
   pub begins_name : (rest : List ℕ) → after_mark marks.name_begins (frame.names_begin ++ rest) ≡ Some rest
   pub ends_name : (name rest : List ℕ) → up_to marks.name_ends (identifier name ++ (frame.names_follow ++ rest)) ≡ Some (identifier name)

@@ -1,4 +1,4 @@
--- Words in which each byte outside quotes stands for itself. A shell replaces other bytes there, or
+-- Words in which each byte outside quotes means itself. A shell replaces other bytes there, or
 -- ends the word or the command at them, so these readers refuse a word with such a byte.
 use Rattle.std.specs.Prelude.{ℕ, Bool, true, false, ◌||◌, ◌==◌, if◌then◌else◌, List, [], ◌∷◌, Option, Some, None, codes}
 use Rattle.std.specs.Char.{is_ascii_alphanumeric}
@@ -18,8 +18,8 @@ abbrev pub ends_word : Place → ℕ → Bool
 ends_word outside byte = is_blank byte
 ends_word _ byte = false
 
--- Each byte of the word with which a text begins may be where it is. `next` leads from a byte's
--- place to that of the next byte, and to none if the byte may not be there.
+-- Each byte of the word with which a text begins is allowed at its place. `next` leads from a
+-- byte's place to the next byte's place, and to `None` if the byte is not allowed there.
 unfoldable pub is_plain_from : (Place → ℕ → Option Place) → Place → List ℕ → Bool
 is_plain_from next place [] = true
 is_plain_from next place (byte ∷ text) = elim (ends_word place byte) [

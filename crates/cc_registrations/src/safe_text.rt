@@ -11,10 +11,10 @@ use crate::words::{Quoting, put_names, put_quoted};
 use cc_base::{Error, Sink, TextRef, put_piece};
 use std::alloc::Global;
 
-/// What differs between the shells: the fixed texts, and how words are quoted.
+/// The parts that differ between shells: the fixed texts, and the quoting of words.
 #[derive(Drop)]
 pub struct SafeFrame<'a> {
-    /// How the shell quotes words.
+    /// The quoting of words in this shell.
     pub quoting: Quoting,
     /// The text before the name in the first line.
     pub names_begin: TextRef<'a>,
@@ -32,14 +32,14 @@ pub struct SafeFrame<'a> {
     pub call_ends: TextRef<'a>,
 }
 
-/// What is filled in, except for the programs.
+/// The texts that are filled in, except for the programs.
 #[derive(Drop)]
 pub struct SafeNames<'a> {
     /// The variable that requests completions.
     pub variable: TextRef<'a>,
     /// The name of the function.
     pub name: TextRef<'a>,
-    /// The program that is asked for candidates.
+    /// The program that the shell runs for candidates.
     pub completer: TextRef<'a>,
 }
 

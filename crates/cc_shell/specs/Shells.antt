@@ -9,8 +9,7 @@ use Rattle.cc_fish.specs.Reads.{fish_spec}
 use Rattle.cc_generator.specs.Generators.{ShellSpec}
 use Rattle.cc_shell.specs.declared.shell.InvalidShell.{InvalidShell}
 use Rattle.cc_shell.specs.declared.shell.Shell.{Shell}
-use Rattle.cc_shell.specs.declared.shell.Shell.TheVariants.{Bash, Elvish, Fish, PowerShell, Zsh}
-use Rattle.cc_shell.specs.declared.shell.Shell.TheVariants.{Nushell}
+use Rattle.cc_shell.specs.declared.shell.Shell.TheVariants.{Bash, Elvish, Fish, PowerShell, Zsh, Nushell}
 use Rattle.cc_tables.specs.ElvishReader.{elvish_spec}
 use Rattle.cc_tables.specs.NushellReader.{nushell_spec}
 use Rattle.cc_tables.specs.PowershellReader.{powershell_spec}

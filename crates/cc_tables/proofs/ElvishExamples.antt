@@ -10,8 +10,7 @@ use Rattle.cc_quote.specs.Tokens.{cut, is_word, strip_words, after_words}
 use Rattle.cc_quote.specs.ElvishTokens.{elvish_tokens}
 use Rattle.cc_generator.specs.Visits.{tables_below}
 use Rattle.cc_tables.specs.ElvishReader.{part, step, spelling, tables_begin, elvish_tables}
-use Rattle.cc_tables.specs.ElvishScript.{Row, elvish_frame, elvish_named, offer_row, row_begin, row_end}
-use Rattle.cc_tables.specs.ElvishScript.{row_text, text_begin}
+use Rattle.cc_tables.specs.ElvishScript.{Row, elvish_frame, elvish_named, offer_row, row_begin, row_end, row_text, text_begin}
 use Rattle.cc_tables.specs.Offers.{node_offers}
 use Rattle.cc_tables.specs.Script.{head_text, named_text, script_text, table_text}
 use Rattle.cc_tables.specs.TableReader.{after_step, next, tables_of, read}

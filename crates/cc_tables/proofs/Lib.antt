@@ -1,9 +1,7 @@
 pub mod ElvishExamples
 pub mod ElvishPlain
-pub mod ElvishReadsBack
 pub mod NushellExamples
 pub mod NushellPlain
-pub mod NushellReadsBack
 pub mod NushellTexts
 pub mod PlainOffers
 pub mod PlainTables
@@ -11,7 +9,5 @@ pub mod PowershellExamples
 pub mod PowershellFreeOffers
 pub mod PowershellFreeScripts
 pub mod PowershellFreeTexts
-pub mod PowershellPlain
 pub mod PowershellReadsBack
 pub mod ScriptReadsBack
-pub mod VisitedTables

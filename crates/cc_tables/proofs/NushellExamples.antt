@@ -7,11 +7,8 @@ use Rattle.cc_command.specs.Made.{new_node}
 use Rattle.cc_command.specs.Tree.{Tree, none, more}
 use Rattle.cc_generator.specs.Visits.{tables_below}
 use Rattle.cc_base.specs.Found.{after, before_ending, after_mark, cut_at, with_front}
-use Rattle.cc_tables.specs.NushellReader.{after_name, closed}
-use Rattle.cc_tables.specs.NushellReader.{in_block_sign, key_sign, name_of, next}
-use Rattle.cc_tables.specs.NushellReader.{nushell_blocks, read, record_of, sign}
-use Rattle.cc_tables.specs.NushellScript.{Line, content, help_begin, help_text, line_begin}
-use Rattle.cc_tables.specs.NushellScript.{line_text, node_lines, nushell_frame, type_text, value_text}
+use Rattle.cc_tables.specs.NushellReader.{after_name, closed, in_block_sign, key_sign, name_of, next, nushell_blocks, read, record_of, sign}
+use Rattle.cc_tables.specs.NushellScript.{Line, content, help_begin, help_text, line_begin, line_text, node_lines, nushell_frame, type_text, value_text}
 use Rattle.cc_tables.specs.Script.{head_text, named_text, script_text, table_text}
 use Rattle.cc_tables.specs.Tables.{Table, path_tables}
 

@@ -8,8 +8,7 @@ use Rattle.cc_command.specs.ArgumentLists.{options, flags}
 use Rattle.cc_command.specs.Tree.{Tree}
 use Rattle.cc_quote.specs.Escapes.{replace_byte}
 use Rattle.cc_quote.specs.QuotedWord.{line_feeds_as_spaces}
-use Rattle.cc_tables.specs.NushellScript.{argument_lines, line_text, node_lines, offer_line}
-use Rattle.cc_tables.specs.NushellScript.{offer_text}
+use Rattle.cc_tables.specs.NushellScript.{argument_lines, line_text, node_lines, offer_line, offer_text}
 use Rattle.cc_tables.specs.Offers.{argument_offers}
 
 -- the lines of arguments

@@ -1,17 +1,13 @@
 -- The words that are offered at a plain node consist of bytes that may occur in plain names.
-use Rattle.std.proofs.Common.{◌≡◌, ◌≢◌, ℕ, IsTrue, List, []}
-use Rattle.std.proofs.Common.{◌∷◌, ◌++◌, map, flat_map, encode_utf8, subst, sym}
-use Rattle.std.proofs.Common.{arith}
+use Rattle.std.proofs.Common.{◌≡◌, ◌≢◌, ℕ, IsTrue, List, [], ◌∷◌, ◌++◌, map, flat_map, encode_utf8, subst, sym, arith}
 use Rattle.std.specs.Char.{is_ascii_alphanumeric}
 use Rattle.std.specs.List.{AllByRecursion}
 use Rattle.std.proofs.lemmas.Bool.Decides.{nat_tests}
 use Rattle.std.proofs.lemmas.Str.{encode_ascii}
-use Rattle.cc_base.proofs.Members.{AllByRecursion-weaker, AllByRecursion-append, AllByRecursion-map}
-use Rattle.cc_base.proofs.Members.{AllByRecursion-flat_map}
+use Rattle.cc_base.proofs.Members.{AllByRecursion-weaker, AllByRecursion-append, AllByRecursion-map, AllByRecursion-flat_map}
 use Rattle.cc_arg.specs.declared.parts.ArgParts.{ArgParts as Arg}
 use Rattle.cc_arg.specs.ShownNames.{shown_names, shown_shorts, shown_longs}
-use Rattle.cc_arg.specs.declared.names.ShownName.TheVariants.{Short as ShownShort}
-use Rattle.cc_arg.specs.declared.names.ShownName.TheVariants.{Long as ShownLong}
+use Rattle.cc_arg.specs.declared.names.ShownName.TheVariants.{Short as ShownShort, Long as ShownLong}
 use Rattle.cc_command.specs.declared.node.Node.{Node}
 use Rattle.cc_command.specs.Tree.{Forest, none, more, Tree}
 use Rattle.cc_command.specs.ArgumentLists.{options, flags}
@@ -19,10 +15,8 @@ use Rattle.cc_command.specs.Names.{visible_names}
 use Rattle.cc_command.specs.Plain.{is_plain_forest}
 use Rattle.cc_base.specs.PlainName.{name_byte, foreign, is_plain_name, is_joined}
 use Rattle.cc_base.proofs.NameBytes.{AreNameBytes, plain_bytes}
-use Rattle.cc_command.proofs.PlainParts.{IsPlainName, IsPlainShort, IsPlainArgument, IsPlainBelow}
-use Rattle.cc_command.proofs.PlainParts.{plain_node, plain_more, shown_plain}
-use Rattle.cc_tables.specs.Offers.{word, short_offer, long_offer, argument_offer, argument_offers}
-use Rattle.cc_tables.specs.Offers.{child_offer, child_offers, children_offers, node_offers}
+use Rattle.cc_command.proofs.PlainParts.{IsPlainName, IsPlainShort, IsPlainArgument, IsPlainBelow, plain_node, plain_more, shown_plain}
+use Rattle.cc_tables.specs.Offers.{word, short_offer, long_offer, argument_offer, argument_offers, child_offer, child_offers, children_offers, node_offers}
 use Rattle.cc_tables.specs.declared.offers.Offer.{Offer}
 
 -- the word of an offer is not empty, and its bytes may occur in a plain name

@@ -1,6 +1,5 @@
 -- Examples of rows, tables and scripts, byte by byte.
-use Rattle.std.proofs.Common.{◌≡◌, List, [], ◌∷◌, Some, None, codes, map, flat_map, refl}
-use Rattle.std.proofs.Common.{encode_utf8_all}
+use Rattle.std.proofs.Common.{◌≡◌, List, [], ◌∷◌, Some, None, codes, map, flat_map, refl, encode_utf8_all}
 use Rattle.std.specs.Char.{encode_utf8}
 use Rattle.cc_arg.specs.declared.parts.ArgParts.{ArgParts as Arg}
 use Rattle.cc_arg.specs.Arguments.{new_arg}
@@ -9,12 +8,8 @@ use Rattle.cc_quote.specs.PowershellTokens.{powershell_tokens}
 use Rattle.cc_quote.specs.Signs.{sign}
 use Rattle.cc_quote.specs.Tokens.{cut, is_word, strip_words, after_words}
 use Rattle.cc_tables.specs.Offers.{argument_offers}
-use Rattle.cc_tables.specs.PowershellReader.{if_quoted, part, kind_of, step, spelling, tables_begin}
-use Rattle.cc_tables.specs.PowershellReader.{powershell_tables}
-use Rattle.cc_tables.specs.PowershellScript.{Row, details_text, kind_begin, kind_text, list_begin}
-use Rattle.cc_tables.specs.PowershellScript.{offer_row, parameter_name, parameter_value}
-use Rattle.cc_tables.specs.PowershellScript.{powershell_frame, powershell_named, row_begin, row_end}
-use Rattle.cc_tables.specs.PowershellScript.{row_text, text_begin, words_text}
+use Rattle.cc_tables.specs.PowershellReader.{if_quoted, part, kind_of, step, spelling, tables_begin, powershell_tables}
+use Rattle.cc_tables.specs.PowershellScript.{Row, details_text, kind_begin, kind_text, list_begin, offer_row, parameter_name, parameter_value, powershell_frame, powershell_named, row_begin, row_end, row_text, text_begin, words_text}
 use Rattle.cc_tables.specs.Script.{head_text, named_text, script_text, table_text}
 use Rattle.cc_tables.specs.TableReader.{after_step, next, tables_of, read}
 use Rattle.cc_tables.specs.Tables.{Table}

@@ -1,8 +1,8 @@
 -- The offers at a plain node hold none of PowerShell's further quotes, if the quotes of the tree
 -- are escaped.
-use Rattle.std.proofs.Common.{◌≡◌, ◌≢◌, refl, sym, subst, ℕ, ◌++◌, Bool, true, false, IsTrue, List, [], ◌∷◌, map, flat_map, encode_utf8, Option, Some, None, is_none, unwrap_or, arith}
+use Rattle.std.proofs.Common.{◌≡◌, ◌≢◌, refl, sym, subst, ℕ, ◌++◌, Bool, IsTrue, List, [], ◌∷◌, map, flat_map, encode_utf8, Option, Some, None, is_none, unwrap_or, arith}
 use Rattle.std.specs.Char.{is_ascii_alphanumeric}
-use Rattle.std.specs.List.{AllByRecursion, list_all}
+use Rattle.std.specs.List.{AllByRecursion}
 use Rattle.std.proofs.lemmas.Bool.{and_parts}
 use Rattle.std.proofs.lemmas.Bool.Decides.{nat_tests}
 use Rattle.std.proofs.lemmas.Str.{encode_ascii}
@@ -10,9 +10,7 @@ use Rattle.cc_base.proofs.Booleans.{each_passes}
 use Rattle.cc_base.proofs.Members.{AllByRecursion-weaker, AllByRecursion-append, AllByRecursion-map, AllByRecursion-flat_map, AllByRecursion-filter}
 use Rattle.cc_arg.specs.declared.parts.ArgParts.{ArgParts as Arg}
 use Rattle.cc_arg.specs.ShownNames.{shown_names, shown_shorts, shown_longs}
-use Rattle.cc_arg.specs.declared.names.ShownName.TheVariants.{Short as ShownShort}
-use Rattle.cc_arg.specs.declared.names.ShownName.TheVariants.{Long as ShownLong}
-use Rattle.cc_command.specs.declared.node.Node.{Node}
+use Rattle.cc_arg.specs.declared.names.ShownName.TheVariants.{Short as ShownShort, Long as ShownLong}
 use Rattle.cc_command.specs.ArgumentLists.{is_flag, is_option, flags, options}
 use Rattle.cc_command.specs.Escaped.{is_escaped_argument, is_escaped_forest, is_escaped_node, is_escaped_text, is_escaped_tree, unescaped_quote}
 use Rattle.cc_command.specs.Names.{visible_names}

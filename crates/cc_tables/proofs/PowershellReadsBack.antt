@@ -1,6 +1,5 @@
 -- A PowerShell script reads back to the tables from which it was written.
-use Rattle.std.proofs.Common.{◌≡◌, not, IsTrue, ℕ, List, [], ◌∷◌, ◌++◌, map, Option, Some}
-use Rattle.std.proofs.Common.{codes, refl, ap, ◌∙◌, append_assoc}
+use Rattle.std.proofs.Common.{◌≡◌, not, IsTrue, ℕ, List, [], ◌∷◌, ◌++◌, map, Option, Some, codes, refl, ap, ◌∙◌, append_assoc}
 use Rattle.std.specs.List.{AllByRecursion}
 use Rattle.cc_base.specs.Bytes.{single_quote, line_feed}
 use Rattle.cc_base.proofs.Lines.{IsLine, regroup_five, regroup_six}
@@ -13,18 +12,10 @@ use Rattle.cc_quote.specs.PowershellQuote.{sign_before, powershell_signs, powers
 use Rattle.cc_quote.specs.PowershellTokens.{is_quote_first, powershell_tokens, IsUnquoted}
 use Rattle.cc_quote.specs.QuotedWord.{line_feeds_as_spaces}
 use Rattle.cc_quote.proofs.PowershellCutting.{quoted_text, escaped_text}
-use Rattle.cc_tables.specs.PowershellReader.{if_quoted, part, kind_of, between_rows, after_word}
-use Rattle.cc_tables.specs.PowershellReader.{after_kind, step, spelling, tables_begin}
-use Rattle.cc_tables.specs.PowershellReader.{offer_read, powershell_tables}
-use Rattle.cc_tables.specs.PowershellReader.{RowState}
-use Rattle.cc_tables.specs.PowershellScript.{ResultKind, parameter_name, parameter_value, Row}
-use Rattle.cc_tables.specs.PowershellScript.{details_text, kind_begin, kind_text, list_begin}
-use Rattle.cc_tables.specs.PowershellScript.{offer_row, offer_text, powershell_frame}
-use Rattle.cc_tables.specs.PowershellScript.{powershell_named, row_begin, row_end, row_text}
-use Rattle.cc_tables.specs.PowershellScript.{text_begin, words_text}
+use Rattle.cc_tables.specs.PowershellReader.{if_quoted, part, kind_of, between_rows, after_word, after_kind, step, spelling, tables_begin, offer_read, powershell_tables, RowState}
+use Rattle.cc_tables.specs.PowershellScript.{ResultKind, parameter_name, parameter_value, Row, details_text, kind_begin, kind_text, list_begin, offer_row, offer_text, powershell_frame, powershell_named, row_begin, row_end, row_text, text_begin, words_text}
 use Rattle.cc_tables.specs.Script.{head_text, script_text}
-use Rattle.cc_tables.specs.TableReader.{State, between_tables, in_table, after_step, next}
-use Rattle.cc_tables.specs.TableReader.{tables_of, read}
+use Rattle.cc_tables.specs.TableReader.{State, between_tables, in_table, after_step, next, tables_of, read}
 use Rattle.cc_tables.specs.Tables.{Table}
 use Rattle.cc_tables.specs.declared.offers.Offer.{Offer}
 use Rattle.cc_tables.proofs.PlainTables.{IsReadable, table_read}

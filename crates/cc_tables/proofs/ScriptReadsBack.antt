@@ -1,6 +1,5 @@
 -- A script reads back to the tables from which it was written, if its parts are read back.
-use Rattle.std.proofs.Common.{◌≡◌, ℕ, List, [], ◌∷◌, ◌++◌, map, flat_map, Option, Some, ap, ◌∙◌}
-use Rattle.std.proofs.Common.{append_assoc}
+use Rattle.std.proofs.Common.{◌≡◌, ℕ, List, [], ◌∷◌, ◌++◌, map, flat_map, Option, Some, ap, ◌∙◌, append_assoc}
 use Rattle.std.specs.List.{AllByRecursion}
 use Rattle.cc_base.proofs.Lines.{regroup_six}
 use Rattle.cc_tables.specs.Script.{head_text, named_text, script_text, table_text}

@@ -1,8 +1,7 @@
 -- The tables in an Elvish script. They come after the bare words `completions`, `=` and `[`, and
 -- end before `]`. A table is `&'key'=`, `{`, rows and `}`. A row is `cand`, a bare word and a
 -- quoted text. The rest of the script is not read.
-use Rattle.std.specs.Prelude.{ℕ, List, [], ◌∷◌, ◌++◌, ◌&&◌, if◌then◌else◌, Option, None}
-use Rattle.std.specs.Prelude.{bytes_eq, codes}
+use Rattle.std.specs.Prelude.{ℕ, List, [], ◌∷◌, ◌++◌, ◌&&◌, if◌then◌else◌, Option, None, bytes_eq, codes}
 use Rattle.cc_command.specs.Tree.{Tree}
 use Rattle.cc_generator.specs.Generators.{ShellSpec}
 use Rattle.cc_quote.specs.ElvishTokens.{elvish_tokens}

@@ -1,8 +1,7 @@
 -- The blocks in a Nushell script, which is read line by line. A line `  export extern "key" [`
 -- opens a block. The lines after it, up to a line `  ]`, are the records of the block. Other lines
 -- between blocks are not read.
-use Rattle.std.specs.Prelude.{ℕ, List, [], ◌∷◌, ◌++◌, ◌==◌, ◌||◌, Bool, Option, Some}
-use Rattle.std.specs.Prelude.{None, if◌then◌else◌, bytes_eq, codes, is_some, map, option_map}
+use Rattle.std.specs.Prelude.{ℕ, List, [], ◌∷◌, ◌++◌, ◌==◌, ◌||◌, Bool, Option, Some, None, if◌then◌else◌, bytes_eq, codes, is_some, map, option_map}
 use Rattle.cc_command.specs.Tree.{Tree}
 use Rattle.cc_base.specs.Bytes.{line_feed, space, colon}
 use Rattle.cc_base.specs.Found.{after, after_mark, before_ending, pieces_from}
@@ -36,8 +35,8 @@ record_of text = record {
   help = after_mark (codes " # ") text;
 }
 
--- the meaning of a line: it opens the block of a key, closes a block, is a record, or is none of
--- these
+-- the meaning of a line: it opens the block of a key, closes a block, is a record, or has no
+-- meaning
 pub data Sign : Type 0 where
   opens : List ℕ → Sign
   closes : Sign

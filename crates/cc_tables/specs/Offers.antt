@@ -1,10 +1,9 @@
 -- The names that a table offers at a node.
-use Rattle.std.specs.Prelude.{ℕ, List, [], ◌++◌, map, codes, encode_utf8, unwrap_or}
+use Rattle.std.specs.Prelude.{ℕ, List, ◌++◌, map, codes, encode_utf8, unwrap_or, []}
 use Rattle.std.specs.List.{flat_map}
 use Rattle.cc_arg.specs.declared.parts.ArgParts.{ArgParts as Arg}
 use Rattle.cc_arg.specs.declared.names.ShownName.{ShownName}
-use Rattle.cc_arg.specs.declared.names.ShownName.TheVariants.{Short as ShownShort}
-use Rattle.cc_arg.specs.declared.names.ShownName.TheVariants.{Long as ShownLong}
+use Rattle.cc_arg.specs.declared.names.ShownName.TheVariants.{Short as ShownShort, Long as ShownLong}
 use Rattle.cc_arg.specs.ShownNames.{shown_names}
 use Rattle.cc_command.specs.declared.node.Node.{Node}
 use Rattle.cc_command.specs.Tree.{Forest, none, more, Tree}

@@ -2,9 +2,7 @@
 -- `{`, and end before `})`. A table is a quoted key, `{`, rows, `break` and `}`. A row is a call
 -- `[CompletionResult]::new(` with four arguments and `)`. Every quote is a `'`. The rest of the
 -- script is not read.
-use Rattle.std.specs.Prelude.{ℕ, Bool, IsTrue, List, [], ◌∷◌, ◌++◌, ◌&&◌, if◌then◌else◌, drop}
-use Rattle.std.specs.Prelude.{encode_utf8, Option, Some, None}
-use Rattle.std.specs.Prelude.{option_map, unwrap_or, bytes_eq, codes}
+use Rattle.std.specs.Prelude.{ℕ, Bool, IsTrue, List, [], ◌∷◌, ◌++◌, ◌&&◌, if◌then◌else◌, drop, encode_utf8, Option, Some, None, option_map, unwrap_or, bytes_eq, codes}
 use Rattle.cc_command.specs.Escaped.{is_escaped_tree, quote_at}
 use Rattle.cc_command.specs.Tree.{Tree}
 use Rattle.cc_generator.specs.Generators.{ShellSpec}
@@ -15,8 +13,7 @@ use Rattle.cc_quote.specs.Signs.{Sign, quote}
 use Rattle.cc_quote.specs.Tokens.{Token, after_words, cut}
 use Rattle.cc_quote.specs.Tokens.Piece.{bare, quoted}
 use Rattle.cc_quote.specs.Tokens.QuoteState.{between}
-use Rattle.cc_tables.specs.PowershellScript.{ResultKind, parameter_name, parameter_value, Row}
-use Rattle.cc_tables.specs.PowershellScript.{offer_row, powershell_script}
+use Rattle.cc_tables.specs.PowershellScript.{ResultKind, parameter_name, parameter_value, Row, offer_row, powershell_script}
 use Rattle.cc_tables.specs.TableReader.{Part, ReadsTables, Spelling, Step, read}
 use Rattle.cc_tables.specs.TableReader.Part.{word, argument, key, unknown}
 use Rattle.cc_tables.specs.TableReader.State.{between_tables}

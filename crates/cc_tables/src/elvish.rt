@@ -111,7 +111,7 @@ impl Rows for Elvish {
     }
 }
 
-// Returns the description of an offer, or the fallback if there is none.
+// Returns the description of an offer, or the fallback if it has no description.
 fn shown_text<'a>(offer: &'a Offer<'_>) -> &'a str
     ensures { result.now ≡ (offer_row offer.now).text }
 {

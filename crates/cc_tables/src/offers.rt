@@ -48,7 +48,7 @@ pub trait Rows {
     // the text of the row of an offer
     ghost row_text: { Self → Offer → List ℕ };
 
-    /// Writes the row of an `offer`. An impl should be inlined where the offer is built, because
+    /// Writes the row of an `offer`. Inline an impl into the code that builds the offer, because
     /// the kind, and with it the fixed texts, is known there.
     ///
     /// # Errors

@@ -16,7 +16,7 @@ abbrev pub shows : Option Tree → List ℕ → Bool
 shows None word = true
 shows (Some child) word = contains_name (visible_names child.node) word
 
--- No word is a hidden alias at the command where it is read. Each word that names a child leads to
+-- No word is a hidden alias at the command that reads it. Each word that names a child leads to
 -- it by a name that the child shows.
 abbrev pub has_no_hidden_alias : Tree → List (List ℕ) → Bool
 has_no_hidden_alias tree [] = true

@@ -81,7 +81,8 @@ pub fn positional_at(arguments: &[Arg], position: usize) -> Option<&Arg>
     arguments.iter().find(|argument| is_at(argument, position))
 }
 
-/// Returns the number of values that the position holds.
+/// Returns the greatest number of values of the positional at `position`, but at least 1. Returns 1
+/// if there is no such positional.
 #[tactic(auto, unfolding(crate::specs::Lookup::capacity_at))]
 pub(crate) fn capacity_at(arguments: &[Arg], position: usize) -> usize
     ensures value { result ≡ capacity_at arguments.now position }

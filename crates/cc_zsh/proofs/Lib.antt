@@ -4,7 +4,6 @@ pub mod BlockRead
 pub mod Cutting
 pub mod EscapedValues
 pub mod Examples
-pub mod FunctionOrder
 pub mod FunctionsRead
 pub mod Labels
 pub mod LastBytes

@@ -79,7 +79,7 @@ fn star(argument: &Arg) -> &'static str
     }
 }
 
-// Returns the sign that says how the value of an option may follow its name.
+// Returns the sign between the name of an option and its value, such as `=`.
 fn value_sign(argument: &Arg, name: &ShownName<'_>) -> &'static str
     ensures { result.now ≡ value_sign argument.now name.now }
 {

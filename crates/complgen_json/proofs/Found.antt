@@ -1,11 +1,8 @@
 -- The same is found in a value and in its view.
-use Rattle.std.proofs.Common.{◌≡◌, ◌∙◌, ◌&&◌, ◌||◌, ◌^◌, ◌+◌, ◌<◌, drop, get_or, length, ℕ, Bool, true, false, List, [], ◌∷◌, Option, Some, None}
-use Rattle.std.proofs.Common.{Bor, Global, Ordering, Less, Equal, Greater, ap, ap₂, bytes_eq, cond}
-use Rattle.std.proofs.Common.{if◌then◌else◌, is_eq, is_some, map, nat_cmp, refl, subst, sym, true≢false}
-use Rattle.std.specs.Prelude.{option_and_then, option_map}
+use Rattle.std.proofs.Common.{◌≡◌, ◌∙◌, ◌&&◌, ◌||◌, ◌^◌, ◌+◌, ◌<◌, drop, get_or, length, ℕ, Bool, true, false, List, [], ◌∷◌, Option, Some, None, Bor, Global, Ordering, Less, Equal, Greater, ap, ap₂, bytes_eq, cond, if◌then◌else◌, is_eq, is_some, map, nat_cmp, refl, subst, sym, true≢false}
+use Rattle.std.specs.Prelude.{option_and_then, option_map, nat_le, nat_lt}
 use Rattle.std.specs.Float.{binary64, float_is_finite}
 use Rattle.std.specs.List.{list_all, list_any}
-use Rattle.std.specs.Prelude.{nat_le, nat_lt}
 use Rattle.std.specs.Cmp.Lexicographic.{slice_cmp}
 use Rattle.std.specs.Ordering.{match_ordering}
 use Rattle.std.proofs.Math.Bool.{and_assoc, and_comm, and-true}
@@ -18,11 +15,10 @@ use Rattle.json.specs.Json as borrowed_json
 use Rattle.json.specs.Value as views
 use Rattle.json.specs.declared.value.Value.{Value}
 use Rattle.serde_json.specs.Data.{Data, Num, float, negative, Members, member, no_members, put}
-use Rattle.serde_json.specs.Find.{as_bool, as_null, as_number, as_object, as_str, as_u64, get, get_member}
+use Rattle.serde_json.specs.Find.{as_bool, as_null, as_number, as_str, as_u64, get, get_member}
 use Rattle.serde_json.specs.Read.{is_integer, number_from, number_of}
 use Rattle.serde_json.proofs.Views.{get_member-put, get_member-put_other}
 use Rattle.complgen_json.specs.Keys.{is_one_of, keys_in}
-use Rattle.complgen_json.specs.Slots.{members_at, values_at}
 use Rattle.complgen_json.specs.Seen.{data_of, number_seen, members_put, members_view, view}
 
 no_text : (o : Option Num) → as_str (number_seen o) ≡ None
@@ -62,10 +58,6 @@ no_null (Some n) = refl
 pub null_seen : (j : borrowed_json.Json) → borrowed.is_null j ≡ is_some (as_null (data_of j))
 null_seen (borrowed_json.number text) = no_null (number_of text)
 null_seen j = refl
-
-no_object : (o : Option Num) → as_object (number_seen o) ≡ None
-no_object None = refl
-no_object (Some n) = refl
 
 -- ---- the value at a key
 
@@ -201,21 +193,6 @@ pub known_seen : (keys : List Key) (ms : List Member)
 known_seen keys ms = same_tests keys ms ∙ keys_seen (is_one_of (map (λ key. key.now) keys)) ms
 
 -- ---- the slots
-
-nothing_in_number : (keys : List (List ℕ)) (o : Option Num)
-    → values_at keys (number_seen o) ≡ members_at keys no_members
-nothing_in_number keys None = refl
-nothing_in_number keys (Some n) = refl
-
--- a value that is no object has nothing at the keys
-pub nothing_in : (keys : List (List ℕ)) (j : borrowed_json.Json) → as_object (data_of j) ≡ None
-    → values_at keys (data_of j) ≡ members_at keys no_members
-nothing_in keys (borrowed_json.number text) is = nothing_in_number keys (number_of text)
-nothing_in keys (borrowed_json.object ms) is = absurd (some_is_not_none is)
-  where
-    some_is_not_none : {A : Type 0} {a : A} → Some a ≡ None → ⊥
-    some_is_not_none e = cc e
-nothing_in keys j is = refl
 
 -- one more key is known, or not
 pub known_step : (test : Member → Bool) (ms : List Member) (i : ℕ) (m : Member) (known is whole : Bool)

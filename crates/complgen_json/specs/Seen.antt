@@ -1,14 +1,12 @@
 -- A value of `json`, which borrows its text, as a value of `serde_json`.
-use Rattle.std.specs.Prelude.{ℕ, ◌&&◌, List, Bool, true, Option, Some, None}
-use Rattle.std.specs.Prelude.{is_some, negsuc}
+use Rattle.std.specs.Prelude.{ℕ, ◌&&◌, List, Bool, true, Option, Some, None, is_some, negsuc}
 use Rattle.std.specs.Borrow.{Bor}
 use Rattle.std.specs.declared.alloc.Global.{Global}
 use Rattle.json.specs.Json as borrowed
 use Rattle.json.specs.Value.{value_view}
 use Rattle.json.specs.Value as views
 use Rattle.json.specs.declared.value.Value.{Value}
-use Rattle.serde_json.specs.Data.{Data, null, boolean, number, string, array, object, Num, negative}
-use Rattle.serde_json.specs.Data.{Items, no_items, item, Members, no_members, put}
+use Rattle.serde_json.specs.Data.{Data, null, boolean, number, string, array, object, Num, negative, Items, no_items, item, Members, no_members, put}
 use Rattle.serde_json.specs.Read.{number_of}
 
 -- the number; -1 if it is out of range, which fits no field either

@@ -1,8 +1,9 @@
 -- The warnings about conflicts are the same if the same ids are known.
-use Rattle.std.proofs.Common.{◌≡◌, ap, ap₂, refl, ℕ, suc, Bool, true, false, ◌||◌, List, [], ◌∷◌, ◌++◌, is_some, codes}
+use Rattle.std.proofs.Common.{◌≡◌, ap, ap₂, refl, ℕ, suc, Bool, false, ◌||◌, List, [], ◌∷◌, ◌++◌, is_some, codes}
 use Rattle.std.specs.Borrow.{Bor}
 use Rattle.std.specs.BTreeMap.{BTreeMap}
 use Rattle.std.specs.Str.{bytes_eq}
+use Rattle.std.proofs.lemmas.Bool.{or_parts}
 use Rattle.cc_arg.specs.declared.parts.ArgParts.{ArgParts as Arg}
 use Rattle.complgen_lints.specs.PlacedNames.{owner_in, owner_with}
 use Rattle.complgen_lints.specs.Scopes.{conflict_kind, conflict_list, conflicts_of, has_conflicts, have_conflicts, is_known, is_known_in}
@@ -37,16 +38,11 @@ no_conflicts_of : (known : List ℕ → Bool) (index : ℕ) (conflicts : List (L
 no_conflicts_of known index [] h = refl
 no_conflicts_of known index (id ∷ ids) h = cc
 
-neither : (a b : Bool) → (a || b) ≡ false → (a ≡ false) × (b ≡ false)
-neither false false h = (refl, refl)
-neither false true h = cc
-neither true b h = cc
-
 -- without conflicts there are no findings about them
 pub none_of_none : (known : List ℕ → Bool) (index : ℕ) (arguments : List Arg) → have_conflicts arguments ≡ false →
     each_from (conflicts_of known) index arguments ≡ []
 none_of_none known index [] h = refl
 none_of_none known index (argument ∷ arguments) h =
-    let each = neither (has_conflicts argument.conflicts) (have_conflicts arguments) h in
+    let each = or_parts (has_conflicts argument.conflicts) (have_conflicts arguments) h in
     ap₂ (λ a b. a ++ b) (no_conflicts_of known index argument.conflicts each.0)
     (none_of_none known (suc index) arguments each.1)

@@ -2,7 +2,6 @@ pub mod Joined
 pub mod Conflicts
 pub mod PremisesFound
 pub mod Steps
-pub mod TakenNames
 pub mod TextsFound
 pub mod ValueLintsExamples
 pub mod Walked

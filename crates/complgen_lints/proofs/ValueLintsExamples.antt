@@ -53,7 +53,7 @@ found_flag : source_list 0 (record branch { action = Some SetTrue })
 unfolding code_runners
 found_flag = refl
 
--- a shell beside a hint of paths
+-- a shell next to a hint of paths
 found_shell : source_list 0 (record (new_arg (codes "b")) {
   values_from = Some (codes "/bin/sh" ∷ codes "-c" ∷ codes "ls" ∷ []);
   value_hint = DirPath;
@@ -64,7 +64,7 @@ found_shell : source_list 0 (record (new_arg (codes "b")) {
 unfolding code_runners
 found_shell = refl
 
--- a file beside another hint, and an argument without a source beside a hint of paths
+-- a file next to another hint, and an argument without a source next to a hint of paths
 found_nothing : source_list 0 (record (new_arg (codes "h")) {
   values_file = Some (codes "hosts");
   value_hint = Hostname;

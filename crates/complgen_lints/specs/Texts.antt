@@ -1,13 +1,10 @@
 -- The text of a warning.
-use Rattle.std.specs.Prelude.{ℕ, List, [], ◌++◌, Option, Some, codes, encode_utf8, if◌then◌else◌}
+use Rattle.std.specs.Prelude.{ℕ, List, ◌++◌, Option, Some, codes, encode_utf8, if◌then◌else◌, []}
 use Rattle.complgen_lints.specs.Running.{may_run_name, may_run_value}
 use Rattle.complgen_lints.specs.declared.place.Key.{Key}
 use Rattle.complgen_lints.specs.declared.place.Key.TheVariants.{BinName, Aliases, Help, VisibleAliases, Id, PossibleValues, Short, Long, ValueNames}
 use Rattle.complgen_lints.specs.declared.warning.Kind.{Kind}
-use Rattle.complgen_lints.specs.declared.warning.Kind.TheVariants.{BinNotPlain, NotPlain, LongWithHyphen, ShortNotPlain, Quote, ZshSign, TakenName, LoudValue, SharedLabel, UnescapedQuote}
-use Rattle.complgen_lints.specs.declared.warning.Kind.TheVariants.{TakenId, TakenLong, TakenShort, TakenByHelp, TakenByVersion, UnknownConflict}
-use Rattle.complgen_lints.specs.declared.warning.Kind.TheVariants.{IndexOutOfRange, TakenIndex, PositionalWithoutValue, ValuesOfFlag, NoValues, HiddenCommand, HiddenArgument}
-use Rattle.complgen_lints.specs.declared.warning.Kind.TheVariants.{RunsCommand, RunsCode, SourceOfFlag, HintBesideSource}
+use Rattle.complgen_lints.specs.declared.warning.Kind.TheVariants.{BinNotPlain, NotPlain, LongWithHyphen, ShortNotPlain, Quote, ZshSign, TakenName, LoudValue, SharedLabel, UnescapedQuote, TakenId, TakenLong, TakenShort, TakenByHelp, TakenByVersion, UnknownConflict, IndexOutOfRange, TakenIndex, PositionalWithoutValue, ValuesOfFlag, NoValues, HiddenCommand, HiddenArgument, RunsCommand, RunsCode, SourceOfFlag, HintBesideSource}
 use Rattle.complgen_lints.specs.declared.warning.Warning.{Warning}
 
 -- what messages call a text at a key
@@ -85,7 +82,7 @@ zsh_sign _ = codes ": or a \\"
 -- the text of a name or a help text that ends a text of the zsh script
 abbrev pub ended_text : List ℕ → List ℕ → List ℕ
 ended_text named sign = codes "the " ++ named ++ codes " contains a " ++ sign
-    ++ codes ", which ends a text of the zsh script: the shell may run what follows"
+    ++ codes ", which ends this text in the zsh script; the shell may run the rest"
 
 -- the text of a value that is not quiet: one that bash may run, and any other
 abbrev pub loud_value_text : List ℕ → List ℕ
@@ -121,7 +118,7 @@ other_text key TakenByHelp = generated_text (named key) (help_name key) (codes "
 other_text key TakenByVersion = generated_text (named key) (version_name key) (codes "version")
 other_text key (UnknownConflict id) = codes "no argument here has the id `" ++ id ++ codes "`"
 other_text key (IndexOutOfRange index count) = outside_text index count
-other_text key (RunsCommand words) = codes "a tab runs" ++ words
+other_text key (RunsCommand words) = codes "pressing Tab here runs" ++ words
 other_text key (RunsCode program) = codes "`" ++ program
     ++ codes "` may run its arguments as code; name a program that only prints values"
 other_text key kind = fixed_text kind

@@ -87,7 +87,7 @@ flag_list spot argument =
     ++ when (not (takes_values argument) && is_some argument.values_split)
     (finding spot key.ValuesSplit None SourceOfFlag)
 
--- a command or a file beside a hint of paths
+-- a command or a file next to a hint of paths
 abbrev pub hint_list : Spot → Arg → List Warning
 hint_list spot argument = when (takes_values argument
     && (hints_paths argument.value_hint

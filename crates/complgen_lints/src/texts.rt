@@ -122,8 +122,8 @@ fn write_ended<W: fmt::Write>(named: &str, sign: &str, f: &mut fmt::Formatter<W>
 {
     write!(
         f,
-        "the {named} contains a {sign}, which ends a text of the zsh script: the shell may run \
-         what follows"
+        "the {named} contains a {sign}, which ends this text in the zsh script; the shell may run \
+         the rest"
     )
 }
 
@@ -182,7 +182,7 @@ fn write_other<W: fmt::Write>(
         Kind::TakenByVersion => write_generated(named(key), version_name(key), "version", f),
         Kind::UnknownConflict(id) => write!(f, "no argument here has the id `{}`", id.as_str()),
         Kind::IndexOutOfRange(index, count) => write_outside(index.as_str(), count.as_str(), f),
-        Kind::RunsCommand(words) => write!(f, "a tab runs{}", words.as_str()),
+        Kind::RunsCommand(words) => write!(f, "pressing Tab here runs{}", words.as_str()),
         Kind::RunsCode(program) => write!(
             f,
             "`{}` may run its arguments as code; name a program that only prints values",

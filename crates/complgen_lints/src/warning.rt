@@ -6,8 +6,8 @@ ghost use Rattle.complgen_lints.specs.Notes.{are_notes, is_note};
 use crate::place::Place;
 use cc_base::Text;
 
-/// The subject of a warning, with the names and numbers in its text. Each comment says what a user
-/// of the shell sees.
+/// The subject of a warning, with the names and numbers in its text. Each comment describes the
+/// effect for a user of the shell.
 #[derive(Drop, Debug)]
 pub enum Kind {
     /// The bin name of a call is not plain: scripts may break at it, and the shell may run it.

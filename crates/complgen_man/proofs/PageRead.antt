@@ -1,6 +1,8 @@
 -- A reader of roff reads the page of a tree as what it shows.
-use Rattle.std.proofs.Common.{◌≡◌, ℕ, Bool, true, false, List, [], ◌∷◌, ◌++◌, map, filter, flat_map, unwrap_or, codes, refl, Option, Some, None, encode_utf8}
+use Rattle.std.proofs.Common.{◌≡◌, ℕ, Bool, true, false, List, [], ◌∷◌, ◌++◌, filter, unwrap_or, codes, refl, Option, Some, None, encode_utf8, ◌==◌, sym, subst, ⊎_elim}
 use Rattle.std.specs.List.{list_any}
+use Rattle.std.proofs.lemmas.Bool.{cases_Bool}
+use Rattle.std.proofs.lemmas.Bool.Decides.{Decides-eqb}
 use Rattle.cc_arg.specs.declared.names.ShownName.{ShownName}
 use Rattle.cc_arg.specs.declared.names.ShownName.TheVariants.{Short, Long}
 use Rattle.cc_arg.specs.declared.parts.ArgParts.{ArgParts as Arg}
@@ -10,11 +12,58 @@ use Rattle.cc_arg.specs.ShownNames.{shown_names}
 use Rattle.cc_command.specs.declared.node.Node.{Node}
 use Rattle.cc_command.specs.Names.{full_name}
 use Rattle.cc_command.specs.Tree.{Forest, none, more, Tree}
-use Rattle.complgen_man.specs.Page.{about_text, aliases_text, argument_text, arguments_text, bold_text, command_head, command_mark, command_text, command_words, commands_section, commands_text, default_line, default_text, described_text, description, front_text, further_bold, further_value, has_shown, heading_text, if_shown, is_optional, is_shown_argument, is_shown_option, is_shown_positional, is_shown_value, label_text, labels_text, listed_text, man_page, name_section, name_text, names_text, notes_text, options_mark, options_section, paragraph_text, possible_text, possible_values_text, source_text, spaced_values, synopsis_text, takes_more, title_text, titled_commands, usage_text, value_help_text, value_line, value_list, value_text, values_text, where_true}
-use Rattle.complgen_man.specs.Reader.{Font, roman, bold, italic, Sign, control, line_end, quote, at_first, inside}
-use Rattle.complgen_man.specs.Shown.{ReadsBack, about_shown, aliases_shown, argument_shown, arguments_shown, command_shown, commands_shown, default_shown, front_shown, further_alias, further_shown, label_shown, labels_shown, name_section_shown, name_shown, names_shown, notes_shown, page_shown, possible_shown, possible_values_shown, request, signs_if_shown, signs_where, source_shown, spaced_shown, synopsis_shown, title_begins, title_ends, title_goes_on, title_shown, usage_shown, value_help_shown, value_line_shown, value_shown, values_shown, word, words_shown}
-use Rattle.complgen_man.proofs.Parts.{Reads, computed, each, either, fixed, joins, nothing, then, then_unseen, unseen_then, when}
-use Rattle.complgen_man.proofs.Words.{paragraph_reads, word_reads}
+use Rattle.cc_base.specs.Bytes.{backslash, backtick, dash, double_quote, line_feed, single_quote}
+use Rattle.cc_quote.specs.Escapes.{escaped_byte}
+use Rattle.complgen_man.specs.Page.{about_text, aliases_text, argument_text, arguments_text, bold_text, command_head, command_mark, command_text, command_words, commands_section, commands_text, default_line, default_text, described_text, description, front_text, further_bold, further_value, has_shown, heading_text, is_optional, is_shown_argument, is_shown_option, is_shown_positional, is_shown_value, label_text, labels_text, listed_text, man_page, name_section, name_text, names_text, notes_text, options_mark, options_section, paragraph_text, possible_text, possible_values_text, source_text, spaced_values, synopsis_text, takes_more, title_text, titled_commands, usage_text, value_help_text, value_line, value_text, values_text, where_true}
+use Rattle.complgen_man.specs.Reader.{Font, roman, bold, italic, Sign, control, line_end, quote, at_first, inside, glyph}
+use Rattle.complgen_man.specs.Shown.{ReadsBack, about_shown, aliases_shown, argument_shown, arguments_shown, command_shown, commands_shown, default_shown, front_shown, further_alias, further_shown, label_shown, labels_shown, name_section_shown, name_shown, names_shown, notes_shown, page_shown, possible_shown, possible_values_shown, request, signs_where, source_shown, spaced_shown, synopsis_shown, title_begins, title_ends, title_goes_on, title_shown, usage_shown, value_help_shown, value_line_shown, value_shown, values_shown, word, words_shown, prose, prose_sign, shown_byte}
+use Rattle.complgen_man.specs.Roff.{caret, escaped_prose, escaped_word, is_control, is_escaped, prose_replacement, tilde, word_replacement}
+use Rattle.complgen_man.proofs.Parts.{Reads, computed, each, either, fixed, joins, nothing, then, then_unseen, unseen_then, when, each_one}
+
+-- a fact of this byte, or the byte is another
+is_or_not : (P : ℕ → Type 0) (special byte : ℕ) → P special → ((byte == special) ≡ false → P byte) → P byte
+is_or_not P special byte is not =
+    ⊎_elim {C = P byte} (λ e. subst P (sym ((Decides-eqb byte special).0 e)) is) not (cases_Bool (byte == special))
+
+-- a byte of a word
+abbrev IsRead : Font → ℕ → Type 0
+IsRead font byte = Reads (inside font) (escaped_byte is_escaped word_replacement byte) (glyph font (shown_byte byte) ∷ []) (inside font)
+
+word_byte : (font : Font) (byte : ℕ) → IsRead font byte
+word_byte font byte =
+    is_or_not (IsRead font) backslash byte (computed refl refl) (λ a.
+    is_or_not (IsRead font) dash byte (computed refl refl) (λ b.
+    is_or_not (IsRead font) double_quote byte (computed refl refl) (λ c.
+    is_or_not (IsRead font) single_quote byte (computed refl refl) (λ d.
+    is_or_not (IsRead font) backtick byte (computed refl refl) (λ e.
+    is_or_not (IsRead font) caret byte (computed refl refl) (λ f.
+    is_or_not (IsRead font) tilde byte (computed refl refl) (λ g.
+    is_or_not (IsRead font) line_feed byte (computed refl refl) (λ h.
+    ⊎_elim {C = IsRead font byte}
+    (λ (is : is_control byte ≡ true). rw (a, b, c, d, e, f, g, is) (computed refl refl))
+    (λ (not : is_control byte ≡ false). rw (a, b, c, d, e, f, g, not) (computed (rw (h, a, c) refl) (rw (h, a) refl)))
+    (cases_Bool (is_control byte))))))))))
+
+pub word_reads : (font : Font) (text : List ℕ) → Reads (inside font) (escaped_word text) (word font text) (inside font)
+unfolding escaped_word
+word_reads font text = each_one (escaped_byte is_escaped word_replacement) (λ byte. glyph font (shown_byte byte)) (word_byte font) text
+
+-- a byte of a help text
+abbrev IsProse : ℕ → Type 0
+IsProse byte = Reads (inside roman) (escaped_byte is_escaped prose_replacement byte) (prose_sign byte) (inside roman)
+
+prose_byte : (byte : ℕ) → IsProse byte
+prose_byte byte =
+    is_or_not IsProse line_feed byte (computed refl refl) (λ (no : (byte == line_feed) ≡ false). rw no (word_byte roman byte))
+
+-- a help text, on lines of its own
+pub paragraph_reads : (text : List ℕ) → Reads (at_first roman) (paragraph_text text) (prose text) (at_first roman)
+unfolding paragraph_text escaped_prose
+paragraph_reads text =
+    then
+    (unseen_then (fixed (codes "\\&") [] refl refl)
+    (each (escaped_byte is_escaped prose_replacement) prose_sign prose_byte text))
+    (fixed (codes "\n") (line_end ∷ []) refl refl)
 
 -- ---- texts of the page's own, as they are read in a line
 

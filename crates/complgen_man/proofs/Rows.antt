@@ -1,4 +1,4 @@
--- The texts of small pages, and what a reader of roff makes of hostile ones.
+-- The texts of small pages, and the signs that a reader of roff finds in hostile ones.
 use Rattle.std.proofs.Common.{◌≡◌, ℕ, true, List, [], ◌∷◌, ◌++◌, codes, refl, Some, None}
 use Rattle.cc_arg.specs.Arguments.{new_arg}
 use Rattle.cc_arg.specs.PossibleValues.{new_possible_value}

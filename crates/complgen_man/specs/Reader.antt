@@ -1,4 +1,4 @@
--- How a page in roff is read: byte by byte, as far as man pages need it.
+-- A reader of pages in roff: it goes byte by byte, and knows what man pages need.
 use Rattle.std.specs.Prelude.{ℕ, List, [], ◌∷◌, ◌++◌, Bool, ◌==◌, ◌||◌, ◌&&◌, if◌then◌else◌, map, codes}
 use Rattle.cc_base.specs.Bytes.{backslash, backtick, dash, double_quote, line_feed, open_parenthesis, single_quote}
 use Rattle.complgen_man.specs.Roff.{caret, tilde}
@@ -18,8 +18,8 @@ pub data Sign : Type 0 where
   line_end : Sign
   unknown : ℕ → Sign
 
--- where the reader is: at the start of a line, within it, after a `\`, after `\f`, after `\(`, and
--- after `\(` and one more byte
+-- the place of the reader: at the start of a line, within it, after a `\`, after `\f`, after `\(`,
+-- and after `\(` and one more byte
 pub data Place : Type 0 where
   at_start : Place
   within : Place

@@ -1,4 +1,4 @@
--- What the man page of a tree shows: its requests, and the texts of the tree in their fonts.
+-- The signs that the man page of a tree shows: its requests, and the texts of the tree in fonts.
 use Rattle.std.specs.Prelude.{◌≡◌, ℕ, List, [], ◌∷◌, ◌++◌, Bool, true, false, ◌==◌, if◌then◌else◌, Option, Some, None, unwrap_or, codes, encode_utf8, filter, flat_map, map}
 use Rattle.std.specs.List.{list_any}
 use Rattle.cc_arg.specs.declared.names.ShownName.{ShownName}
@@ -192,7 +192,7 @@ title_goes_on =
     quote ∷ glyph roman space ∷ quote ∷ word roman (codes "1")
     ++ quote ∷ glyph roman space ∷ quote ∷ quote ∷ glyph roman space ∷ quote ∷ []
 
--- the rest of the request, and the one that turns hyphenation off
+-- the end of the request, and the request that turns hyphenation off
 abbrev pub title_ends : List Sign
 title_ends =
     quote ∷ glyph roman space ∷ quote ∷ word roman (codes "User Commands")

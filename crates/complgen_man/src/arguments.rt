@@ -6,22 +6,11 @@ ghost use Rattle.std.specs.Option.{option_copied};
 ghost use Rattle.cc_arg.specs.Arguments.{possible_values};
 ghost use Rattle.cc_base.specs.Joined.{separator};
 ghost use Rattle.cc_base.specs.Writes.{Writes, as_write};
-ghost use Rattle.complgen_man.specs.Page.{
-  argument_text,
-  arguments_text,
-  default_line,
-  default_text,
-  described_text,
-  is_shown_option,
-  is_shown_positional,
-  is_shown_value,
-  listed_text,
-  possible_text,
-  possible_values_text,
-  value_help_text,
-  value_line,
-  value_list,
-};
+ghost use Rattle.complgen_man.specs.Page.{argument_text, arguments_text, default_line};
+ghost use Rattle.complgen_man.specs.Page.{default_text, described_text, is_shown_option};
+ghost use Rattle.complgen_man.specs.Page.{is_shown_positional, is_shown_value, listed_text};
+ghost use Rattle.complgen_man.specs.Page.{possible_text, possible_values_text, value_help_text};
+ghost use Rattle.complgen_man.specs.Page.{value_line, value_list};
 
 use crate::escapes::{put_word, write_bold, write_paragraph};
 use crate::labels::write_label;

@@ -4,19 +4,9 @@ ghost use Rattle.std.specs.Prelude.{◌≡◌, ◌++◌, flat_map, codes, encode
 ghost use Rattle.cc_base.specs.Joined.{separator};
 ghost use Rattle.cc_base.specs.Writes.{Writes, as_write};
 ghost use Rattle.complgen_man.specs.Roff.{escaped_word};
-ghost use Rattle.complgen_man.specs.Page.{
-  further_value,
-  is_optional,
-  label_text,
-  labels_text,
-  name_text,
-  names_text,
-  spaced_values,
-  takes_more,
-  value_text,
-  values_text,
-  where_true,
-};
+ghost use Rattle.complgen_man.specs.Page.{further_value, is_optional, label_text, labels_text};
+ghost use Rattle.complgen_man.specs.Page.{name_text, names_text, spaced_values, takes_more};
+ghost use Rattle.complgen_man.specs.Page.{value_text, values_text, where_true};
 
 use crate::escapes::put_word;
 use cc_arg::{Arg, ArgAction, ShownName, counted_range, shown_names};

@@ -9,19 +9,10 @@ ghost use Rattle.cc_command.specs.Built.{built_under};
 ghost use Rattle.cc_command.specs.Tree.{forest_of};
 ghost use Rattle.complgen_man.specs.Outcome.{LeavesBuilt};
 ghost use Rattle.complgen_man.specs.Shown.{ReadsBack};
-ghost use Rattle.complgen_man.specs.Page.{
-  about_text,
-  commands_section,
-  front_text,
-  heading_text,
-  is_shown_argument,
-  man_page,
-  name_section,
-  options_section,
-  source_text,
-  title_text,
-  titled_commands,
-};
+ghost use Rattle.complgen_man.specs.Page.{about_text, commands_section, front_text, heading_text};
+ghost use Rattle.complgen_man.specs.Page.{is_shown_argument, man_page, name_section};
+ghost use Rattle.complgen_man.specs.Page.{options_section, source_text, title_text};
+ghost use Rattle.complgen_man.specs.Page.{titled_commands};
 
 use crate::arguments::write_arguments;
 use crate::commands::write_commands;

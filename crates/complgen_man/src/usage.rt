@@ -1,25 +1,14 @@
-//! How a command is called, its aliases, and what it does.
+//! The synopsis of a command, its aliases, and its description.
 
 ghost use Rattle.std.specs.Prelude.{◌≡◌, ◌++◌, codes, filter, flat_map};
 ghost use Rattle.std.specs.List.{list_any};
 ghost use Rattle.std.specs.Option.{option_copied};
 ghost use Rattle.cc_base.specs.Writes.{Writes, as_write};
 ghost use Rattle.cc_command.specs.Tree.{forest_of};
-ghost use Rattle.complgen_man.specs.Page.{
-  aliases_text,
-  command_mark,
-  command_words,
-  description,
-  further_bold,
-  has_shown,
-  is_shown_option,
-  is_shown_positional,
-  notes_text,
-  options_mark,
-  spaced_values,
-  synopsis_text,
-  usage_text,
-};
+ghost use Rattle.complgen_man.specs.Page.{aliases_text, command_mark, command_words, description};
+ghost use Rattle.complgen_man.specs.Page.{further_bold, has_shown, is_shown_option};
+ghost use Rattle.complgen_man.specs.Page.{is_shown_positional, notes_text, options_mark};
+ghost use Rattle.complgen_man.specs.Page.{spaced_values, synopsis_text, usage_text};
 
 use crate::arguments::{is_shown_option, is_shown_positional};
 use crate::escapes::{write_bold, write_further_bold, write_paragraph};
@@ -68,7 +57,7 @@ fn has_shown_option(arguments: &[Arg]) -> bool
     arguments.iter().any(|argument| is_shown_option(argument))
 }
 
-// Returns what represents a subcommand, if one of them is not hidden.
+// Returns the placeholder for subcommands, or an empty text if all of them are hidden.
 #[tactic(auto, unfolding(crate::specs::Page::command_mark))]
 fn command_mark(command: &Command) -> &'static str
     ensures { result.now ≡ command_mark command.now }

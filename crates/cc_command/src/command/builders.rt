@@ -13,8 +13,8 @@ use std::alloc::{AllocError, Global};
 use std::mem::replace;
 
 impl Command {
-    /// Adds an argument. If it is an option or a flag, it uses up the next display order of the
-    /// command, and gets it unless it has a display order of its own.
+    /// Adds an argument. An option or a flag advances the counter of display orders of the command,
+    /// and gets its number unless it has a display order of its own.
     ///
     /// # Errors
     ///
@@ -28,8 +28,8 @@ impl Command {
         Ok(added.map(|()| self)?)
     }
 
-    /// Adds a child. It uses up the next display order of the command, and gets it unless it has a
-    /// display order of its own.
+    /// Adds a child. It advances the counter of display orders of the command, and gets its number
+    /// unless it has a display order of its own.
     ///
     /// # Errors
     ///
@@ -52,9 +52,9 @@ impl Command {
 
 // These are free functions, so that `clap_complete` does not re-export them.
 
-/// Adds an argument to a node, which then counts as not built. If the argument is an option or a
-/// flag, it uses up the next display order of the node, and gets it unless it has a display order
-/// of its own.
+/// Adds an argument to a node, which then counts as not built. An option or a flag advances the
+/// counter of display orders of the node, and gets its number unless it has a display order of its
+/// own.
 ///
 /// # Errors
 ///
@@ -72,8 +72,8 @@ pub fn add_argument(node: &mut Node, mut argument: Arg) -> Result<(), AllocError
     Ok(())
 }
 
-/// Adds a child to a command, which then counts as not built. The child uses up the next display
-/// order of the command, and gets it unless it has a display order of its own.
+/// Adds a child to a command, which then counts as not built. The child advances the counter of
+/// display orders of the command, and gets its number unless it has a display order of its own.
 ///
 /// # Errors
 ///

@@ -231,7 +231,8 @@ impl Command {
         self
     }
 
-    /// Sets whether a word that is not the name of a child is the name of another program.
+    /// Sets whether an unknown subcommand is accepted as an external subcommand, that is, the name
+    /// of another program.
     pub fn allow_external_subcommands(mut self, allow: bool) -> Command
         ensures { result
             ≡ with_root (λ node. record node { allow_external_subcommands = allow }) self }
@@ -241,7 +242,7 @@ impl Command {
         self
     }
 
-    /// Returns whether a word that is not the name of a child is the name of another program.
+    /// Returns whether an unknown subcommand is accepted as an external subcommand.
     pub fn is_allow_external_subcommands_set(&self) -> bool
         ensures { result ≡ self.now.node.allow_external_subcommands }
     {
@@ -299,7 +300,7 @@ impl Command {
         self.node.arg_required_else_help
     }
 
-    /// Sets the list that has the names of other programs, by its number.
+    /// Sets the list of external subcommands, by its number in `Completers`.
     pub fn add(mut self, candidates: SubcommandCandidates) -> Command
         ensures { result ≡ with_root (λ node. record node { candidates = Some candidates }) self }
     {

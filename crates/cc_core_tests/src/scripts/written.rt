@@ -13,17 +13,7 @@ pub(crate) fn script<R: Abort + AllocGlobal, G: Generator + Drop>(
     generator: G,
     text: &str,
 ) -> Result<String, AllocError> {
-    script_for(rt, generator, text, "app")
-}
-
-/// Returns the script of the command of a tree file, for a program with the given name.
-pub(crate) fn script_for<R: Abort + AllocGlobal, G: Generator + Drop>(
-    rt: &R,
-    generator: G,
-    text: &str,
-    name: &str,
-) -> Result<String, AllocError> {
-    script_of(rt, generator, tree(rt, rt.alloc(), text), name)
+    script_of(rt, generator, tree(rt, rt.alloc(), text), "app")
 }
 
 /// Returns the script of `command`, for a program with the given name.
@@ -39,39 +29,5 @@ pub(crate) fn script_of<R: Abort + AllocGlobal, G: Generator + Drop>(
     let written = generate(rt.alloc(), generator, &mut command, bin_name, &mut sink);
     drop(command);
     written.expect(rt, "no script");
-    String::from_utf8_lossy(rt.alloc(), sink.as_slice())
-}
-
-/// Returns what both methods of a generator write for the command of a tree file, built for a
-/// program with the given name.
-pub(crate) fn twice<R: Abort + AllocGlobal, G: Generator>(
-    rt: &R,
-    generator: &G,
-    text: &str,
-    name: &str,
-) -> Result<String, AllocError> {
-    let bin_name = String::from_str(rt.alloc(), name).expect(rt, "no name");
-    let mut command = tree(rt, rt.alloc(), text).bin_name(bin_name);
-    command.build(rt.alloc()).expect(rt, "not built");
-    let written = by_methods(rt, generator, &command);
-    drop(command);
-    written
-}
-
-// Returns what both methods of a generator write for a command that is ready.
-fn by_methods<R: Abort + AllocGlobal, G: Generator>(
-    rt: &R,
-    generator: &G,
-    command: &Command,
-) -> Result<String, AllocError> {
-    let mut sink = Collected::new(rt.alloc());
-    if command.is_ready() {
-        generator
-            .generate(rt.alloc(), command, &mut sink)
-            .expect(rt, "no script");
-        generator
-            .try_generate(rt.alloc(), command, &mut sink)
-            .expect(rt, "no script");
-    }
     String::from_utf8_lossy(rt.alloc(), sink.as_slice())
 }

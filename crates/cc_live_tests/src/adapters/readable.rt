@@ -63,7 +63,7 @@ fn zsh_has_marks_of_its_own(rt: HostRuntime) {
     readable(&rt, "a", "b", b'\\', (true, false, true, true));
 }
 
-// It shows the value in place of a help text with a tab, and refuses an empty text.
+// It shows the value instead of a help text with a tab, and refuses an empty text.
 #[test]
 fn powershell_takes_a_line_apart(rt: HostRuntime) {
     readable(&rt, "a", "b\tc", b'\n', (true, true, true, false));

@@ -37,36 +37,19 @@ fn the_others_are_finished_before_they_follow_the_values_of_an_option(rt: HostRu
 #[test]
 fn a_completer_gets_the_number_of_the_value(rt: HostRuntime) {
     let two = ValueRange::new(2, 2);
-    offers(
-        &rt,
-        with_positional(rt.alloc(), 1, two),
-        &["app", ""],
-        "0: ",
-    );
-    let two = ValueRange::new(2, 2);
-    offers(
-        &rt,
-        with_positional(rt.alloc(), 1, two),
-        &["app", "a", ""],
-        "1: ",
-    );
+    let first = with_positional(rt.alloc(), 1, two);
+    offers(&rt, first, &["app", ""], "0: ");
+    let second = with_positional(rt.alloc(), 1, two);
+    offers(&rt, second, &["app", "a", ""], "1: ");
     offers(&rt, with_pair(rt.alloc()), &["app", "--pair", ""], "0: ");
-    offers(
-        &rt,
-        with_pair(rt.alloc()),
-        &["app", "--pair", "a", "b"],
-        "1:b ",
-    );
+    let pair = with_pair(rt.alloc());
+    offers(&rt, pair, &["app", "--pair", "a", "b"], "1:b ");
 }
 
 #[test]
 fn a_completer_gets_what_follows_the_last_delimiter(rt: HostRuntime) {
-    offers(
-        &rt,
-        with_delimiter(rt.alloc()),
-        &["app", "a,b,c"],
-        "a,b,0:c ",
-    );
+    let parts = with_delimiter(rt.alloc());
+    offers(&rt, parts, &["app", "a,b,c"], "a,b,0:c ");
 }
 
 #[test]
@@ -133,21 +116,12 @@ fn a_number_of_what_is_added(rt: HostRuntime) {
 fn a_number_past_two_completers_has_no_candidates(rt: HostRuntime) {
     let alloc = rt.alloc();
     let completers = two_completers(alloc).expect(&rt, "nothing is added");
-    gives(
-        &rt,
-        ArgValueCompleter::new(7).complete(alloc, &completers, ""),
-        "",
-    );
-    gives(
-        &rt,
-        ArgValueCandidates::new(7).candidates(alloc, &completers),
-        "",
-    );
-    gives(
-        &rt,
-        SubcommandCandidates::new(7).candidates(alloc, &completers),
-        "",
-    );
+    let values = ArgValueCompleter::new(7).complete(alloc, &completers, "");
+    gives(&rt, values, "");
+    let list = ArgValueCandidates::new(7).candidates(alloc, &completers);
+    gives(&rt, list, "");
+    let programs = SubcommandCandidates::new(7).candidates(alloc, &completers);
+    gives(&rt, programs, "");
     drop(completers);
 }
 

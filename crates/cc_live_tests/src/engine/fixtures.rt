@@ -8,10 +8,3 @@ pub(crate) const COLORED: &str = r#"{"name": "app", "args": [
         "possible_values": [{"name": "auto"}, {"name": "never", "hide": true}]},
     {"id": "verbose", "short": "v", "long": "verbose", "action": "SetTrue",
         "visible_aliases": ["loud"], "aliases": ["noisy"]}]}"#;
-
-/// `app` with an option `--o` of at most two values, a required positional `p` of two values, and a
-/// flag `-v` that is counted.
-pub(crate) const PRINTED: &str = r#"{"name": "app", "args": [
-    {"id": "o", "long": "o", "value_names": ["N"], "num_args": [0, 2]},
-    {"id": "p", "required": true, "num_args": [2, 2]},
-    {"id": "v", "short": "v", "action": "Count"}]}"#;

@@ -2,4 +2,3 @@
 
 mod completers;
 mod folders;
-mod shown;

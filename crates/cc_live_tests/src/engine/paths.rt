@@ -23,14 +23,6 @@ pub(crate) fn work() -> MemoryFolder {
     .with_home("/home/u")
 }
 
-/// Returns `/o` with two files and a directory.
-pub(crate) fn other() -> MemoryFolder {
-    MemoryFolder::new(
-        &[("/o", &["foobar", "foo", "bar"]), ("/o/foo", &[])],
-        &["/o/foobar", "/o/bar"],
-    )
-}
-
 #[test]
 fn a_folder_that_is_out_of_memory(rt: HostRuntime) {
     let folder = work().out_of_memory();

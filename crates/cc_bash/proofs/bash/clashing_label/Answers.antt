@@ -1,30 +1,21 @@
-use Rattle.std.proofs.Common.{◌≡◌, ◌∷◌, [], map, ◌∙◌, ap, rules}
+use Rattle.std.proofs.Common.{◌≡◌, [], ◌∷◌, map, ◌∙◌, ap, rules}
 use Rattle.std.specs.Prelude.{codes, string_bytes}
 use Rattle.std.proofs.lemmas.Result.{IfOk-weaker}
 use Rattle.cc_flat.specs.Flat.{tree_at}
 use Rattle.cc_command.specs.Tree.{Tree}
-use Rattle.cc_bash.specs.Labels.{first_again, labelled_commands, labelled_under, root_label, shared_label}
+use Rattle.cc_bash.specs.Labels.{first_again, root_label, shared_label}
 use Rattle.cc_base.specs.Bytes.{dash}
 use Rattle.cc_quote.specs.Escapes.{replace_byte}
-use Rattle.cc_bash.specs.Nodes.{labelled_of}
 use Rattle.cc_bash.proofs.WholeScript.{clash_is, nodes_are}
 use Rattle.cc_bash.proofs.bash.clashing_label.Goals as goal
 
 pub returns : goal.returns
 returns c =
     let tree : Tree = c.args.command.now in
-    let at : Tree = tree_at c.in_ok-flat.flat 0 in
-    let is : at ≡ tree = search rules in
-    let root : string_bytes c.in_ok-root.root ≡ root_label tree =
-    c.in_ok-root.ensures ∙ ap (replace_byte dash (codes "__")) c.full_name.ensures in
-    let label : c.as_str.result.now ≡ root_label tree = c.as_str.ensures.value ∙ root in
-    let same_label : c.as_str-2.result.now ≡ root_label tree = c.as_str-2.ensures.value ∙ root in
-    let listed : map labelled_of c.deref.result.now
-    ≡ labelled_under c.as_str.result.now 2 at.children = search rules in
-    let are : map labelled_of c.deref.result.now
-    ≡ labelled_commands tree =
-    nodes_are tree at c.as_str.result.now c.deref.result.now is label listed in
-    let labels = c.as_str-2.result.now ∷ map (λ n. n.label) c.deref.result.now in
+    let nodes = c.deref.result.now in
+    let root : string_bytes c.in_ok-root.root ≡ root_label tree = c.in_ok-root.ensures ∙ ap (replace_byte dash (codes "__")) c.full_name.ensures in
+    let are = nodes_are tree (tree_at c.in_ok-flat.flat 0) c.as_str.result.now nodes (search rules) (c.as_str.ensures.value ∙ root) (search rules) in
+    let labels = c.as_str-2.result.now ∷ map (λ n. n.label) nodes in
     IfOk-weaker c.shared_label.result (λ shared. shared ≡ first_again [] labels) (λ shared. shared ≡ shared_label tree)
-    (λ shared found. found ∙ clash_is tree c.as_str-2.result.now c.deref.result.now same_label are)
+    (λ shared found. found ∙ clash_is tree c.as_str-2.result.now nodes (c.as_str-2.ensures.value ∙ root) are)
     c.shared_label.ensures

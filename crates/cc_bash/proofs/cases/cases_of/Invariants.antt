@@ -1,7 +1,6 @@
 use Rattle.std.proofs.Common.{◌≡◌, ◌++◌, drop, map, flat_map}
 use Rattle.cc_bash.specs.CaseTable.{node_cases}
-use Rattle.cc_bash.specs.Nodes.{case_of}
-use Rattle.cc_bash.specs.Nodes.{labelled_of}
+use Rattle.cc_bash.specs.Nodes.{case_of, labelled_of}
 use Rattle.cc_bash.proofs.cases.cases_of.Given as goal
 
 -- the cases so far and those of the remaining nodes make up the whole

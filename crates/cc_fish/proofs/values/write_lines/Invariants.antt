@@ -1,13 +1,9 @@
-use Rattle.std.proofs.Common.{◌≡◌, ◌++◌, ◌∷◌, [], drop, map, filter, not}
+use Rattle.std.proofs.Common.{[], ◌∷◌, drop, map, filter, not}
+use Rattle.cc_base.proofs.WrittenTexts.{GoesOn}
 use Rattle.cc_base.specs.Joined.{joined, joined_after}
 use Rattle.cc_base.specs.Bytes.{line_feed}
 use Rattle.cc_fish.specs.Script.{value_text}
 use Rattle.cc_fish.proofs.values.write_lines.Given as goal
 
--- the bytes taken and what remains make up the whole; no put failed
 abbrev pub invariant-loop-value : goal.invariant-loop-value
-invariant-loop-value g l = record {
-  whole : g.W.Sink.taken l.sink ++ joined_after (line_feed ∷ []) l.begun (map value_text (filter (λ value. not value.hide) (drop l.value-index l.values)))
-      ≡ g.W.Sink.taken l.initial.sink ++ joined (line_feed ∷ []) (map value_text (filter (λ value. not value.hide) l.values));
-  failures : g.W.Sink.failed l.sink ≡ g.W.Sink.failed l.initial.sink;
-}
+invariant-loop-value g l = GoesOn g.W.Sink.taken g.W.Sink.failed l.initial.sink l.sink (joined (line_feed ∷ []) (map value_text (filter (λ value. not value.hide) l.values))) (joined_after (line_feed ∷ []) l.begun (map value_text (filter (λ value. not value.hide) (drop l.value-index l.values))))

@@ -3,7 +3,7 @@ use Rattle.std.specs.String.{string_bytes}
 use Rattle.cc_lines.specs.Commands.{command_lines}
 use Rattle.cc_lines.proofs.commands.command_names.Given as goal
 
--- the lines so far, and those of the names that are left, are those of all names
+-- the lines so far and the lines of the remaining names are the lines of all names
 abbrev pub invariant-loop-name : goal.invariant-loop-name
 invariant-loop-name l = l.lines.items
     ++ command_lines (map string_bytes (drop l.name-index l.names))

@@ -1,8 +1,8 @@
 //! Completers of paths.
 
 use crate::engine::path_candidates::folders::Unlisted;
-use crate::engine::path_candidates::shown::{other, returns, text};
 use crate::engine::paths::work;
+use crate::engine::shown::{other, returns, text};
 use cc_candidates::ValueCompleter;
 use cc_paths::{MemoryFolder, PathCompleter};
 

@@ -1,7 +1,7 @@
 //! Directories and their errors.
 
 use crate::checks::{is, same};
-use crate::engine::path_candidates::shown::{returns, text};
+use crate::engine::shown::{returns, text};
 use cc_paths::{Folder, FolderError, PathCompleter, RealFolder};
 use std::alloc::{AllocError, Global};
 use std::process::Abort;

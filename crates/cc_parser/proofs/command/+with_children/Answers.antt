@@ -5,11 +5,12 @@ use Rattle.clap.specs.Simple.{App}
 use Rattle.clap.specs.Words.{app_of}
 use Rattle.clap.specs.declared.builder.command.Command.TheViews.{out-Command}
 use Rattle.std.proofs.Math.Bool.{or_assoc}
+use Rattle.std.proofs.lemmas.Bool.{or_parts}
 use Rattle.cc_parser.specs.Local.{local_forest, local_tree}
 use Rattle.cc_parser.specs.Parsers.{AddsChildren, AddsShapes, IsLeaf, any_global, globals_below, globals_in, has_globals_under, is_disabled_below, is_left_out, named_app}
 use Rattle.cc_parser.proofs.Localizing.{has_generated-local, local_forest-join}
 use Rattle.cc_parser.proofs.RuleParts.{take_more}
-use Rattle.cc_parser.proofs.CommandParts.{app_made, either_false, forest_of-more, globals_in-kept, globals_in-left_out, is_leaf, left_out, more_children}
+use Rattle.cc_parser.proofs.CommandParts.{app_made, forest_of-more, globals_in-kept, globals_in-left_out, is_leaf, left_out, more_children}
 use Rattle.cc_parser.proofs.command.+with_children.Goals as goal
 
 pub with_children-requires : goal.with_children-requires
@@ -48,8 +49,8 @@ loop-child-preserved t c =
     let counted = globals_in-kept above here before child kept_one in
     let has : Bool = (out-Command c.args.parser).has_globals in (
       subst (λ (f : Forest). globals_in above here f ≡ false → IsLeaf first → AddsShapes above here f first (app_of c.in_ok-parser.parser)) (sym longer) (λ clear leaf.
-          let parts = either_false (globals_in above here before) (has_globals_under here child) (sym counted ∙ clear) in
-          let mine = either_false (any_global child.node.arguments) (globals_below here child.children) parts.1 in
+          let parts = or_parts (globals_in above here before) (has_globals_under here child) (sym counted ∙ clear) in
+          let mine = or_parts (any_global child.node.arguments) (globals_below here child.children) parts.1 in
           let args = c.in_ok-made.ensures.app mine.0 in
           let added = subst (λ (b : Bool). AddsChildren b child.children (app_of c.in_ok-made.made) (app_of c.in_ok-made-2.made)) is_here
           (subst (λ (f : Forest). AddsChildren c.is_disabled_below-here.result (local_forest local f) (app_of c.in_ok-made.made) (app_of c.in_ok-made-2.made)) c.get_subcommands.ensures

@@ -1,5 +1,4 @@
-use Rattle.std.proofs.Common.{◌≡◌, ◌∙◌, ◌==◌, ap, arith, drop, false, get_or, is_some, length-drop}
-use Rattle.std.proofs.Common.{sym, take_all, true}
+use Rattle.std.proofs.Common.{◌≡◌, ◌∙◌, ◌==◌, ap, arith, drop, false, get_or, is_some, length-drop, sym, take_all, true}
 use Rattle.fast_float.specs.Text.{scan}
 use Rattle.serde_json.specs.Read.{number_from, number_of}
 use Rattle.complgen_json.proofs.number.is_any_in_range.Goals as goal

@@ -4,6 +4,7 @@ use crate::checks::is;
 use cc_candidates::{CompletionCandidate, ValueCompleter};
 use cc_paths::MemoryFolder;
 use std::alloc::{AllocError, Global};
+use std::fmt::Debug;
 use std::process::Abort;
 
 // Adds a `?` if the candidate is hidden, its value, its help text in brackets, and a line feed.
@@ -29,10 +30,10 @@ fn values_text(alloc: Global, candidates: &[CompletionCandidate]) -> Result<Stri
     Ok(text)
 }
 
-// Fails unless these are the candidates.
-fn are(
+/// Fails unless these are the candidates, each with a line feed.
+pub(crate) fn are<E: Debug + Drop>(
     rt: &(impl Abort + AllocGlobal),
-    candidates: Result<Vec<CompletionCandidate>, AllocError>,
+    candidates: Result<Vec<CompletionCandidate>, E>,
     wanted: &str,
 ) {
     let candidates = candidates.expect(rt, "no candidates");
