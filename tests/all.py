@@ -75,8 +75,9 @@ def listed() -> List[Test]:
         tested(complgen, [], "tests/check.py"), tested(complgen, [], "tests/bash_texts.py"),
         tested(complgen, [], "tests/shell_syntax.py"), tested(complgen, [], "tests/man_pages.py"),
         tested([], ["git"], "tests/first-minutes", "--without-rt"), tested([], [], "tools/documents.py"),
-        tested([], [], "tools/calls.py", "--check"), tested([], [], "tools/keys.py", "--check"),
-        tested([], [], "release/declarations.py"), tested(complgen, ["bash", "zsh"], "tools/demo.py", "--check"),
+        tested([], [], "tools/calls.py", "--check"), tested([], [], "tools/clauses.py", "--check"),
+        tested([], [], "tools/keys.py", "--check"), tested([], [], "release/declarations.py"),
+        tested(complgen, ["bash", "zsh"], "tools/demo.py", "--check"),
     ]
     skipped = [
         ("tests/safe_live.py --only ten-thousand --only start", "measures times, so it needs a machine of its own"),

@@ -151,10 +151,10 @@ def private_traits(crate):
 
 # ---- clauses
 
-def functions(lines, indent):
-    """Yields the functions that begin at this indent: the name, whether it is public, and the clauses.
+def functions(lines, indent, keywords=("ensures",)):
+    """Yields the functions that begin at this indent: the name, whether it is public, and its clauses.
 
-    A clause is its name, its text and the parameters of the function.
+    A clause is its name, its text and the parameters of the function. Those with these keywords count.
     """
     for at, line in enumerate(lines):
         found = FUNCTION.match(line[len(indent):]) if line.startswith(indent) else None
@@ -165,14 +165,14 @@ def functions(lines, indent):
             end += 1
         if CLAUSE.match(lines[end]):
             parameters = set(re.findall(r"\b(\w+):(?!:)", "\n".join(lines[at:end])))
-            clauses = ensured("\n".join(lines[end:]))
+            clauses = stated("\n".join(lines[end:]), keywords)
             yield found[2], bool(found[1]), [(name, text, parameters) for name, text in clauses]
         else:
             yield found[2], bool(found[1]), []
 
 
-def ensured(text):
-    """Returns the name and the text of each clause `ensures` at the beginning of a text."""
+def stated(text, keywords):
+    """Returns the name and the text of each clause with one of these keywords at the beginning of a text."""
     found, at = [], 0
     while keyword := KEYWORD.match(text, at):
         begin = keyword.end()
@@ -180,7 +180,7 @@ def ensured(text):
             at = text.find("\n", begin) + 1
             continue
         at = closing(text, begin) + 1
-        if keyword[1] == "ensures":
+        if keyword[1] in keywords:
             found.append((keyword[2], text[begin + 1:at - 1]))
     return found
 
