@@ -177,7 +177,8 @@ impl Arg {
         Some(LongAndVisibleAliases::new(long, aliases))
     }
 
-    /// Adds a hidden alias of the long: a parser accepts it, but it is not shown.
+    /// Adds a hidden alias of the long, after those that it has: a parser accepts it, but it is not
+    /// shown. It may be empty, and it may be there already.
     ///
     /// # Errors
     ///

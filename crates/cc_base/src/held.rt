@@ -35,7 +35,7 @@ impl<W: io::Write> Held<W> {
         }
     }
 
-    /// Returns the writer.
+    /// Returns the writer. It is known what it holds: the bytes of this sink.
     pub fn get_ref(&self) -> &W
         ensures writer { result.now ≡ held_writer self.now }
         ensures bytes { W.contents result.now ≡ Some (held_bytes W.contents self.now) }

@@ -37,7 +37,8 @@ pub struct Preorder<'f, 'a> {
 impl<'a> Flat<'a> {
     ghost use Rattle.cc_flat.specs.Nodes.{nodes_left};
 
-    /// Returns an iterator over the nodes below the root, each before everything below it.
+    /// Returns an iterator over the nodes below the root, siblings in their order: each node comes
+    /// with its level, before everything below it.
     pub fn preorder<'f>(&'f self) -> Preorder<'f, 'a>
         requires { 0 < length self.now }
         ensures { nodes_left result ≡ preorder 2 (tree_at self.now 0).children }

@@ -54,8 +54,8 @@ fn join_some(alloc: Global, base: Option<&str>, path: &str) -> Result<Option<Str
     }
 }
 
-/// Returns the bytes that count of a text of lines: all of at most `limit` bytes; of more, the lines
-/// that end within the first `limit` bytes.
+/// Returns all of `bytes` if they are at most `limit`. Otherwise returns the first `limit` bytes up
+/// to their last line feed, which is included; without a line feed there, none.
 pub fn first_lines(bytes: &[u8], limit: usize) -> &[u8]
     ensures { result.now ≡ first_lines limit bytes.now }
 {
