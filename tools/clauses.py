@@ -11,7 +11,8 @@ definitions of this project that each clause cites.
 
 - CLAUSE of FUNCTION, and FUNCTION, clause CLAUSE, also with several of each;
 - FUNCTION: CLAUSE in a table, below the head "Clause";
-- in other rows of such a table, the function is in the column "Function" or "Of", or in the row above.
+- in other rows of such a table, the function is in the column "Function" or "Of", or in the row above, or in
+  the head. If no function is named there, any function may have the clause.
 
 The function has to have such a clause, an `ensures` or a `requires`. It may also be a definition that a clause
 of it cites, or a field or a case of that definition. Instead of a function, a citation may name a definition,
@@ -168,8 +169,8 @@ def check():
         for at, line, head in numbered(page):
             for functions, clause in citations(line, head):
                 clauses += 1
-                if not any(known.has(function, clause) for function in functions):
-                    wrong.append(f"{page}:{at}: no clause `{clause}` of {' or '.join(functions)}")
+                if not any(known.has(function, clause) for function in functions or known.crates):
+                    wrong.append(f"{page}:{at}: no clause `{clause}` of {' or '.join(functions) or 'a function'}")
             for crate, fault in FAULT.findall(line):
                 faults += 1
                 if not is_planted(crate, fault):
@@ -221,8 +222,8 @@ def citations(line, head):
     clause = CITED_OF.sub("", cells["Clause"])
     for cited in CITED_BY.finditer(clause):
         yield from pairs(cited[1], cited[2])
-    functions = names(cells.get("Function", cells.get("Of", "")))
-    if functions and not CITED_BY.search(clause):
+    functions = names(cells.get("Function", cells.get("Of", " ".join(head))))
+    if not CITED_BY.search(clause):
         yield from ((functions, it) for it in names(clause))
 
 
@@ -249,8 +250,8 @@ class Known:
         self.named = collections.defaultdict(set)
         # By the same names and by definition: the words of clauses or of the definition.
         self.words = collections.defaultdict(set)
-        self.clauses, self.defined = set(), definitions()
-        for crate in common.crate_lines():
+        self.clauses, self.defined, self.crates = set(), definitions(), list(common.crate_lines())
+        for crate in self.crates:
             for path in glob.glob(os.path.join(common.TOP, "crates", crate, "specs", "**", "*.antt"), recursive=True):
                 self.read_definitions(crate, path)
             for lines in source.sources(crate):

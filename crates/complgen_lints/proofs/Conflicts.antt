@@ -1,12 +1,11 @@
 -- The warnings about conflicts are the same if the same ids are known.
-use Rattle.std.proofs.Common.{◌≡◌, ap, ap₂, refl, ℕ, suc, Bool, false, ◌||◌, List, [], ◌∷◌, ◌++◌, is_some, codes}
+use Rattle.std.proofs.Common.{◌≡◌, ap, ap₂, refl, ℕ, suc, Bool, false, ◌||◌, List, [], ◌∷◌, ◌++◌, is_some}
 use Rattle.std.specs.Borrow.{Bor}
 use Rattle.std.specs.BTreeMap.{BTreeMap}
-use Rattle.std.specs.Str.{bytes_eq}
 use Rattle.std.proofs.lemmas.Bool.{or_parts}
 use Rattle.cc_arg.specs.declared.parts.ArgParts.{ArgParts as Arg}
 use Rattle.complgen_lints.specs.PlacedNames.{owner_in, owner_with}
-use Rattle.complgen_lints.specs.Scopes.{conflict_kind, conflict_list, conflicts_of, has_conflicts, have_conflicts, is_known, is_known_in}
+use Rattle.complgen_lints.specs.Scopes.{conflict_kind, conflict_list, conflicts_of, has_conflicts, have_conflicts, is_generated_id, is_known, is_known_in}
 use Rattle.complgen_lints.specs.Lists.{each_from}
 use Rattle.complgen_lints.specs.declared.names.PlacedName.{PlacedName}
 
@@ -18,7 +17,7 @@ each_same f g h index (thing ∷ things) = ap₂ (λ a b. a ++ b) (h index thing
 known_same : (seen : BTreeMap (Bor (List ℕ)) (List ℕ)) (names : List PlacedName) →
     ((word : List ℕ) → owner_in seen word ≡ owner_with names word) → (id : List ℕ) → is_known_in seen id ≡ is_known names id
 known_same seen names h id =
-    ap (λ found. is_some found || (bytes_eq id (codes "help") || bytes_eq id (codes "version"))) (h id)
+    ap (λ found. is_some found || is_generated_id id) (h id)
 
 pub same_conflicts : (seen : BTreeMap (Bor (List ℕ)) (List ℕ)) (names : List PlacedName) →
     ((word : List ℕ) → owner_in seen word ≡ owner_with names word) → (arguments : List Arg) →

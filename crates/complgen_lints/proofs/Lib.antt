@@ -1,3 +1,4 @@
+pub mod AddedFlags
 pub mod Joined
 pub mod Conflicts
 pub mod PremisesFound

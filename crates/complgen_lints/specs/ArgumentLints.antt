@@ -1,11 +1,14 @@
 -- Findings about an argument whose settings make a shell offer something wrong.
-use Rattle.std.specs.Prelude.{ℕ, Bool, true, false, not, ◌&&◌, ◌==◌, List, [], ◌++◌, codes, if◌then◌else◌, is_some, Option, Some, None}
+use Rattle.std.specs.Prelude.{ℕ, Bool, true, false, not, ◌&&◌, ◌==◌, List, [], ◌++◌, if◌then◌else◌, is_some, Option, Some, None}
+use Rattle.std.specs.Option.{option_eq}
 use Rattle.std.specs.Str.{bytes_eq}
 use Rattle.cc_arg.specs.declared.parts.ArgParts.{ArgParts as Arg}
 use Rattle.cc_arg.specs.declared.possible_value.PossibleValue.{PossibleValue}
 use Rattle.cc_arg.specs.Arguments.{is_positional, takes_values}
 use Rattle.cc_command.specs.declared.node.Node.{Node}
+use Rattle.cc_command.specs.Generated.{generated_arguments}
 use Rattle.cc_command.specs.Names.{has_id}
+use Rattle.cc_command.specs.Texts.{help_name, help_short, version_name, version_short}
 use Rattle.cc_command.specs.Tree.{Tree}
 use Rattle.complgen_lints.specs.Findings.{finding}
 use Rattle.complgen_lints.specs.Lists.{each_from, when}
@@ -43,44 +46,31 @@ values_list spot argument =
 
 -- ---- an argument in its command
 
--- whether there is a text that equals this one, and the same for a short
-abbrev pub is_text : Option (List ℕ) → List ℕ → Bool
-is_text None text = false
-is_text (Some other) text = bytes_eq other text
-
-abbrev pub is_short : Option ℕ → ℕ → Bool
-is_short None short = false
-is_short (Some other) short = other == short
-
 -- the id of the flag, which is also its long; its short; and the finding about an argument that has
 -- one of these
 abbrev pub added_name : AddedFlag → List ℕ
-added_name added.Help = codes "help"
-added_name added.Version = codes "version"
+added_name added.Help = help_name
+added_name added.Version = version_name
 
 abbrev pub added_short : AddedFlag → ℕ
-added_short added.Help = 104
-added_short added.Version = 86
+added_short added.Help = help_short
+added_short added.Version = version_short
 
 abbrev pub added_kind : AddedFlag → Kind
 added_kind added.Help = TakenByHelp
 added_kind added.Version = TakenByVersion
 
--- whether building adds the flag to this node, if it inherits no arguments: the flag is not disabled,
--- and no argument has its id
-abbrev pub is_enabled : AddedFlag → Node → Bool
-is_enabled added.Help node = not node.disable_help_flag
-is_enabled added.Version node = is_some node.version && not node.disable_version_flag
-
+-- building adds the flag to this node, if it inherits no arguments
 abbrev pub is_added : AddedFlag → Node → Bool
-is_added flag node = is_enabled flag node && not (has_id node.arguments (added_name flag))
+is_added flag node = has_id (generated_arguments node) (added_name flag)
+    && not (has_id node.arguments (added_name flag))
 
 -- the long and the short of the flag, if building adds it and the argument has them too
 abbrev pub added_list : AddedFlag → Node → Spot → Arg → List Warning
 added_list flag node spot argument =
-    when (is_text argument.long (added_name flag) && is_added flag node)
+    when (option_eq bytes_eq argument.long (Some (added_name flag)) && is_added flag node)
     (finding spot key.Long None (added_kind flag))
-    ++ when (is_short argument.short (added_short flag) && is_added flag node)
+    ++ when (option_eq ◌==◌ argument.short (Some (added_short flag)) && is_added flag node)
     (finding spot key.Short None (added_kind flag))
 
 abbrev pub argument_list : Tree → ℕ → Arg → List Warning

@@ -1,6 +1,6 @@
 -- Findings about the arguments of a command together with the global arguments of the commands above
 -- it: names that another one has, and unknown conflicts.
-use Rattle.std.specs.Prelude.{ℕ, Bool, true, false, not, ◌||◌, List, [], ◌∷◌, ◌++◌, codes, filter, is_some, Option, Some, None}
+use Rattle.std.specs.Prelude.{ℕ, Bool, true, false, not, ◌||◌, List, [], ◌∷◌, ◌++◌, filter, is_some, Option, Some, None}
 use Rattle.std.specs.Borrow.{Bor}
 use Rattle.std.specs.BTreeMap.{BTreeMap}
 use Rattle.std.specs.List.{list_any}
@@ -8,6 +8,7 @@ use Rattle.std.specs.Str.{bytes_eq}
 use Rattle.cc_arg.specs.declared.parts.ArgParts.{ArgParts as Arg}
 use Rattle.cc_command.specs.Built.{globals}
 use Rattle.cc_command.specs.Names.{has_id}
+use Rattle.cc_command.specs.Texts.{help_name, version_name}
 use Rattle.complgen_lints.specs.ArgumentNames.{all_names, taken_of}
 use Rattle.complgen_lints.specs.PlacedNames.{owner_in, owner_with}
 use Rattle.complgen_lints.specs.Findings.{some_finding}
@@ -41,15 +42,17 @@ abbrev pub conflicts_of : (List ℕ → Bool) → ℕ → Arg → List Warning
 conflicts_of known index argument = each_from (λ item id.
     conflict_list index item (conflict_kind (known id) id)) 0 argument.conflicts
 
--- the id is among the names, or is that of a flag that building may add
+-- the id of a flag that building may add
+abbrev pub is_generated_id : List ℕ → Bool
+is_generated_id id = bytes_eq id help_name || bytes_eq id version_name
+
+-- the id is among the names, or is such an id
 abbrev pub is_known : List PlacedName → List ℕ → Bool
-is_known names id =
-    is_some (owner_with names id) || (bytes_eq id (codes "help") || bytes_eq id (codes "version"))
+is_known names id = is_some (owner_with names id) || is_generated_id id
 
 -- the same for the names in a map
 abbrev pub is_known_in : BTreeMap (Bor (List ℕ)) (List ℕ) → List ℕ → Bool
-is_known_in seen id =
-    is_some (owner_in seen id) || (bytes_eq id (codes "help") || bytes_eq id (codes "version"))
+is_known_in seen id = is_some (owner_in seen id) || is_generated_id id
 
 -- an argument has conflicts, and one of some arguments does
 abbrev pub has_conflicts : List (List ℕ) → Bool

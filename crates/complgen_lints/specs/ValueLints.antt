@@ -1,12 +1,13 @@
 -- Findings about where the values of arguments come from: each command that a tab runs, a program
 -- that may run its arguments as code, and keys with no effect.
-use Rattle.std.specs.Prelude.{ℕ, ◌-◌, Bool, true, false, not, ◌&&◌, ◌||◌, ◌==◌, List, [], ◌∷◌, ◌++◌, codes, is_some, length, slice_get, take, Option, Some, None}
-use Rattle.std.specs.List.{ends_with, flat_map, list_any}
+use Rattle.std.specs.Prelude.{ℕ, Bool, true, false, not, ◌&&◌, ◌||◌, List, [], ◌∷◌, ◌++◌, bytes_eq, codes, is_some, Option, Some, None}
+use Rattle.std.specs.List.{flat_map, list_any}
+use Rattle.std.specs.Option.{option_map_or}
+use Rattle.std.specs.Path.{path_file_name}
 use Rattle.cc_arg.specs.declared.parts.ArgParts.{ArgParts as Arg}
 use Rattle.cc_arg.specs.declared.value_hint.ValueHint.{ValueHint}
 use Rattle.cc_arg.specs.declared.value_hint.ValueHint.TheVariants.{AnyPath, FilePath, DirPath, ExecutablePath}
 use Rattle.cc_arg.specs.Arguments.{takes_values}
-use Rattle.cc_arg.specs.ValueSources.{slash}
 use Rattle.complgen_lints.specs.Findings.{finding}
 use Rattle.complgen_lints.specs.Lists.{when}
 use Rattle.complgen_lints.specs.declared.warning.Warning.{Warning}
@@ -38,22 +39,10 @@ code_runners =
     ∷ codes "make" ∷ codes "parallel" ∷ codes "ssh" ∷ codes "su" ∷ codes "sudo"
     ∷ codes "watch" ∷ codes "xargs" ∷ []
 
--- the last byte of the directories in a path, if there are any, is a slash
-abbrev pub ends_directories : Option ℕ → Bool
-ends_directories None = true
-ends_directories (Some byte) = byte == slash
-
-abbrev pub last_byte : List ℕ → Option ℕ
-last_byte text = slice_get text (length text - 1)
-
--- a path is this name, or ends with it after a slash
-abbrev pub is_called : List ℕ → List ℕ → Bool
-is_called path name = ends_with ◌==◌ path name
-    && ends_directories (last_byte (take (length path - length name) path))
-
--- a program that may run its arguments as code
+-- the last component of the program's path is one of these names
 abbrev pub runs_code : List ℕ → Bool
-runs_code program = list_any (is_called program) code_runners
+runs_code program = option_map_or (λ name. list_any (bytes_eq name) code_runners)
+    (path_file_name program) false
 
 -- a program that may run its arguments as code
 abbrev pub program_list : Spot → List (List ℕ) → List Warning

@@ -1,11 +1,12 @@
 //! Finds arguments whose settings make a shell offer something wrong.
 
 ghost use Rattle.std.specs.Prelude.{◌≡◌, ◌++◌, OnOk};
-ghost use Rattle.std.specs.Option.{option_copied};
+ghost use Rattle.cc_command.specs.Generated.{generated_arguments};
+ghost use Rattle.cc_command.specs.Names.{has_id};
 ghost use Rattle.complgen_lints.specs.ArgumentLints.{added_kind, added_list, added_name};
 ghost use Rattle.complgen_lints.specs.ArgumentLints.{added_short, argument_list, arguments_list};
-ghost use Rattle.complgen_lints.specs.ArgumentLints.{count_key, is_added, is_empty_list, is_enabled};
-ghost use Rattle.complgen_lints.specs.ArgumentLints.{is_short, is_text, values_list};
+ghost use Rattle.complgen_lints.specs.ArgumentLints.{count_key, is_added, is_empty_list};
+ghost use Rattle.complgen_lints.specs.ArgumentLints.{values_list};
 
 use crate::found::{Added, Found, Spot};
 use crate::place::Key;
@@ -88,9 +89,9 @@ fn push_added(
     ensures { OnOk result (found.new
         ≡ found.old ++ added_list flag command.now.node spot argument.now) }
 {
-    let long = is_text(argument.get_long(), added_name(flag)) && is_added(flag, command);
+    let long = argument.get_long() == Some(added_name(flag)) && is_added(flag, command);
     found.note_if(long, spot, Key::Long, added_kind(flag))?;
-    let short = is_short(argument.get_short(), added_short(flag)) && is_added(flag, command);
+    let short = argument.get_short() == Some(added_short(flag)) && is_added(flag, command);
     found.note_if(short, spot, Key::Short, added_kind(flag))
 }
 
@@ -102,8 +103,10 @@ fn is_added(flag: AddedFlag, command: &Command) -> bool
     is_enabled(flag, command) && !has_id(command.get_arguments(), added_name(flag))
 }
 
+// Returns whether the flag is not disabled.
+#[tactic(auto, using(crate::proofs::AddedFlags::help_generated, crate::proofs::AddedFlags::version_generated))]
 fn is_enabled(flag: AddedFlag, command: &Command) -> bool
-    ensures { result ≡ is_enabled flag command.now.node }
+    ensures { result ≡ has_id (generated_arguments command.now.node) (added_name flag) }
 {
     let node = node_of(command);
     match flag {
@@ -113,6 +116,7 @@ fn is_enabled(flag: AddedFlag, command: &Command) -> bool
 }
 
 // Returns the id of `flag`, which is also its long.
+#[tactic(auto, unfolding(cc_command::specs::Texts::fixed_texts))]
 fn added_name(flag: AddedFlag) -> &'static str
     ensures { result.now ≡ added_name flag }
 {
@@ -137,23 +141,5 @@ fn added_kind(flag: AddedFlag) -> Kind
     match flag {
         AddedFlag::Help => Kind::TakenByHelp,
         AddedFlag::Version => Kind::TakenByVersion,
-    }
-}
-
-fn is_text(text: Option<&str>, other: &str) -> bool
-    ensures { result ≡ is_text (option_copied text.entry) other.now }
-{
-    match text {
-        Some(text) => text == other,
-        None => false,
-    }
-}
-
-fn is_short(short: Option<char>, other: char) -> bool
-    ensures { result ≡ is_short short other }
-{
-    match short {
-        Some(short) => short == other,
-        None => false,
     }
 }

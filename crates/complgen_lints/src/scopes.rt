@@ -189,6 +189,7 @@ fn conflict_kind(
 }
 
 // Returns whether `id` is in `seen`, or is the id of a flag that building may add.
+#[tactic(auto, unfolding(cc_command::specs::Texts::fixed_texts))]
 fn is_known(seen: &BTreeMap<&str, TextRef<'_>>, id: &str) -> bool
     ensures { result ≡ is_known_in seen.now id.now }
 {

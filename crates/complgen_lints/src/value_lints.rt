@@ -1,10 +1,9 @@
 //! Finds the commands that a tab runs to list values, and keys of sources with no effect.
 
-ghost use Rattle.std.specs.Prelude.{◌≡◌, ◌++◌, IfOk, OnOk, string_bytes};
+ghost use Rattle.std.specs.Prelude.{◌≡◌, ◌++◌, IfOk, OnOk, bytes_eq, string_bytes};
 ghost use Rattle.std.specs.List.{flat_map, list_any};
 ghost use Rattle.std.specs.Option.{option_copied};
-ghost use Rattle.complgen_lints.specs.ValueLints.{command_list, ends_directories, flag_list};
-ghost use Rattle.complgen_lints.specs.ValueLints.{hint_list, hints_paths, is_called, last_byte};
+ghost use Rattle.complgen_lints.specs.ValueLints.{command_list, flag_list, hint_list, hints_paths};
 ghost use Rattle.complgen_lints.specs.ValueLints.{program_list, runs_code, shown_word, shown_words};
 ghost use Rattle.complgen_lints.specs.ValueLints.{source_list};
 ghost use Rattle.complgen_lints.specs.Lists.{each_from};
@@ -15,6 +14,7 @@ use crate::warning::Kind;
 use cc_arg::{Arg, ValueHint};
 use cc_base::Text;
 use std::alloc::{AllocError, Global};
+use std::path::Path;
 
 /// Adds findings about the sources of the values of each argument: a note for each command, a
 /// warning if its program may run code, and warnings about keys with no effect.
@@ -104,31 +104,16 @@ const CODE_RUNNERS: &[&str] = &[
 fn runs_code(program: &str) -> bool
     ensures { result ≡ runs_code program.now }
 {
-    has_one_of(program, CODE_RUNNERS)
-}
-
-// Returns whether the program at `path` has one of `names`.
-fn has_one_of(path: &str, names: &[&str]) -> bool
-    ensures { result ≡ list_any (λ name. is_called path.now name.now) names.now }
-{
-    names.iter().any(|name| is_called(path, *name))
-}
-
-// Returns whether `path` is `name`, or ends with it after a slash.
-fn is_called(path: &str, name: &str) -> bool
-    ensures { result ≡ is_called path.now name.now }
-{
-    let (path, name) = (path.as_bytes(), name.as_bytes());
-    path.ends_with(name) && ends_directories(&path[..path.len() - name.len()])
-}
-
-fn ends_directories(text: &[u8]) -> bool
-    ensures { result ≡ ends_directories (last_byte text.now) }
-{
-    match text.last() {
-        Some(byte) => *byte == b'/',
-        None => true,
+    match Path::new(program).file_name() {
+        Some(name) => is_one_of(name, CODE_RUNNERS),
+        None => false,
     }
+}
+
+fn is_one_of(name: &str, names: &[&str]) -> bool
+    ensures { result ≡ list_any (λ other. bytes_eq name.now other.now) names.now }
+{
+    names.iter().any(|other| name == *other)
 }
 
 // Adds a warning about each key of a source, if the argument takes no values.

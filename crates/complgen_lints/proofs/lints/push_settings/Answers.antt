@@ -1,4 +1,4 @@
-use Rattle.std.proofs.Common.{◌≡◌, ◌++◌, ◌∙◌, ap}
+use Rattle.std.proofs.Common.{◌++◌, ◌∙◌, ap}
 use Rattle.std.proofs.lemmas.Result.{on_ok_weaker}
 use Rattle.complgen_lints.specs.ArgumentLints.{arguments_list}
 use Rattle.complgen_lints.specs.PositionalLints.{positional_list}
