@@ -209,7 +209,7 @@ agrees : (sources : MayReturn) (root : Tree) (words : List (List ℕ)) (index : 
     (found : List CompletionCandidate) → BashReads root
     → HasNoHiddenAlias root (words_before root.node words index)
     → Completes sources root words index found → AgreesWithBash sources root words index found
-agrees sources root words index found reads none completes = record {
+agrees sources root words index found reads no_alias completes = record {
   tree = completes.tree;
   state = completes.state;
   leads = completes.leads;
@@ -217,7 +217,7 @@ agrees sources root words index found reads none completes = record {
   offers = completes.offers;
   reads = reads;
   bash_leads = leads root completes.tree (words_before root.node words index) reads
-      (completes.visible none);
+      (completes.visible no_alias);
 }
 
 -- the tree after both calls is the one after the first

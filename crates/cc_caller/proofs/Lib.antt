@@ -1,3 +1,4 @@
+mod Finishing
 mod LinesRead
 mod Offering
 mod PromptAnswer

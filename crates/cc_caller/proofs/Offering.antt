@@ -1,73 +1,34 @@
 -- The candidates for the name of a tool.
-use Rattle.std.proofs.Common.{◌≡◌, ◌∙◌, ap, inl, inr, refl, subst, sym, ℕ, List, [], ◌∷◌, ◌++◌, Bool, true, false, Result, Ok, Err, IfErr, IfOk, OnOk, codes, map, not, None, filter}
+use Rattle.std.proofs.Common.{◌≡◌, ◌∙◌, ap, inl, inr, refl, subst, sym, ℕ, List, [], ◌∷◌, ◌++◌, Bool, true, false, Result, Ok, Err, IfErr, IfOk, OnOk, codes, map}
 use Rattle.std.proofs.lemmas.Bool.{cases_Bool}
 use Rattle.std.proofs.lemmas.List.{append-nil}
-use Rattle.std.specs.Prelude.{◌==◌}
-use Rattle.std.specs.List.{list_any}
-use Rattle.std.proofs.lemmas.Cmp.{nat_cmp_total, tied_itself}
-use Rattle.clap_complete.specs.base.declared.numbers.ArgValueCompleter.{ArgValueCompleter}
-use Rattle.clap_complete.specs.arg.declared.parts.ArgParts.{ArgParts as Arg}
-use Rattle.clap_complete.specs.arg.Printed.{printed, printed_names, printed_values}
-use Rattle.clap_complete.specs.base.Sorting.{in_order, insert}
-use Rattle.clap_complete.specs.base.declared.error.Error.{Error}
-use Rattle.clap_complete.specs.base.declared.error.Error.TheVariants as error
-use Rattle.clap_complete.specs.candidates.Candidate.{new_candidate}
-use Rattle.clap_complete.specs.candidates.declared.candidate.CompletionCandidate.{CompletionCandidate}
-use Rattle.clap_complete.specs.command.Built.{built_tree}
-use Rattle.clap_complete.specs.command.Generated.{help_argument}
-use Rattle.clap_complete.specs.command.Texts.{help_name}
-use Rattle.clap_complete.specs.command.Tree.{Tree}
-use Rattle.clap_complete.specs.engine.Completion.{Completes, Offers, Refuses, is_in_range, match_candidates}
-use Rattle.clap_complete.specs.gather.Children.{in_candidates_order, subcommand_candidates}
-use Rattle.clap_complete.specs.gather.Finished.{finish, comes_before, first_of_ids, group, is_shown, rank_of, share, shown_or_all}
-use Rattle.clap_complete.specs.gather.declared.options.OptionMatch.TheVariants.{Listed}
-use Rattle.clap_complete.specs.gather.OptionMatches.{match_of}
-use Rattle.clap_complete.specs.gather.Parts.{front_length}
-use Rattle.clap_complete.specs.gather.Values.{MayReturn, as_value, gather, question, values}
-use Rattle.clap_complete.specs.walk.Blocks.{Block, Dashes, join, start, state_after}
-use Rattle.clap_complete.specs.walk.declared.state.State.{State}
-use Rattle.clap_complete.specs.walk.Destination.{WordsLeadTo}
-use Rattle.clap_complete.specs.walk.Lookup.{positional_at}
-use Rattle.clap_complete.specs.walk.Reach.{Descend, Reach, Stay}
+use Rattle.std.specs.Prelude.{not, ◌==◌}
+use Rattle.clap_complete.specs.ArgValueCompleter.{ArgValueCompleter}
+use Rattle.clap_complete.specs.ArgParts.{ArgParts as Arg}
+use Rattle.clap_complete.specs.Printed.{printed, printed_names, printed_values}
+use Rattle.clap_complete.specs.Sorting.{in_order}
+use Rattle.clap_complete.specs.Error.{Error}
+use Rattle.clap_complete.specs.Error.TheVariants as error
+use Rattle.clap_complete.specs.Candidate.{new_candidate}
+use Rattle.clap_complete.specs.CompletionCandidate.{CompletionCandidate}
+use Rattle.clap_complete.specs.Built.{built_tree}
+use Rattle.clap_complete.specs.Generated.{help_argument}
+use Rattle.clap_complete.specs.Texts.{help_name}
+use Rattle.clap_complete.specs.Tree.{Tree}
+use Rattle.clap_complete.specs.Completion.{Completes, Offers, Refuses, is_in_range, match_candidates}
+use Rattle.clap_complete.specs.OfferedChildren.{in_candidates_order, subcommand_candidates}
+use Rattle.clap_complete.specs.Finished.{finish}
+use Rattle.clap_complete.specs.OptionMatch.TheVariants.{Listed}
+use Rattle.clap_complete.specs.OptionMatches.{match_of}
+use Rattle.clap_complete.specs.ValueParts.{front_length}
+use Rattle.clap_complete.specs.ArgumentValues.{MayReturn, as_value, gather, question, values}
+use Rattle.clap_complete.specs.WalkBlocks.{Block, Dashes, join, start, state_after}
+use Rattle.clap_complete.specs.WalkState.{State}
+use Rattle.clap_complete.specs.WalkDestination.{WordsLeadTo}
+use Rattle.clap_complete.specs.WalkLookup.{positional_at}
+use Rattle.clap_complete.specs.WalkReach.{Descend, Reach, Stay}
 use Rattle.cc_caller.specs.KnownNames.{OffersTools, is_bare, names_beginning, runner, tool_candidate}
-
--- Finishing does not change candidates that differ only in their values.
-all_shown : (names : List (List ℕ)) → filter is_shown (map tool_candidate names) ≡ map tool_candidate names
-all_shown [] = refl
-all_shown (name ∷ names) = ap (λ cs. tool_candidate name ∷ cs) (all_shown names)
-
-shown_same : (names : List (List ℕ)) → shown_or_all (map tool_candidate names) ≡ map tool_candidate names
-unfolding shown_or_all
-shown_same names = elim (cases_Bool (list_any is_shown (map tool_candidate names))) [ inl t ↦ rw t (all_shown names) | inr f ↦ rw f refl ]
-
-none_shared : (cs : List CompletionCandidate) → filter (λ d. not (share None d.id)) cs ≡ cs
-none_shared [] = refl
-none_shared (c ∷ cs) = ap (λ ds. c ∷ ds) (none_shared cs)
-
-ids_same : (names : List (List ℕ)) → first_of_ids (map tool_candidate names) ≡ map tool_candidate names
-ids_same [] = refl
-ids_same (name ∷ names) =
-    ap (λ cs. tool_candidate name ∷ cs) (none_shared (first_of_ids (map tool_candidate names)) ∙ ids_same names)
-
-alike : (cs : List CompletionCandidate) (one other : List ℕ) → comes_before cs (tool_candidate one) (tool_candidate other) ≡ false
-alike cs one other = rw (tied_itself nat_cmp_total (rank_of cs (tool_candidate one).tag)) refl
-
-order_same : (below : CompletionCandidate → CompletionCandidate → Bool) → ((one other : List ℕ) → below (tool_candidate one) (tool_candidate other) ≡ false)
-    → (names : List (List ℕ)) → in_order below (map tool_candidate names) ≡ map tool_candidate names
-unfolding in_order insert
-order_same below tie [] = refl
-order_same below tie (name ∷ names) = ap (insert below (tool_candidate name)) (order_same below tie names) ∙ first names
-  where
-    first : (later : List (List ℕ)) → insert below (tool_candidate name) (map tool_candidate later) ≡ tool_candidate name ∷ map tool_candidate later
-    first [] = refl
-    first (other ∷ later) = rw (tie other name) refl
-
-pub finished_same : (names : List (List ℕ)) → finish (map tool_candidate names) ≡ map tool_candidate names
-unfolding finish group
-finished_same names =
-    ap (λ cs. group (first_of_ids cs)) (shown_same names)
-    ∙ ap group (ids_same names)
-    ∙ order_same (comes_before (map tool_candidate names)) (alike (map tool_candidate names)) names
+use Rattle.cc_caller.proofs.Finishing.{finished_same}
 
 -- NO WORDS BEFORE
 

@@ -1,12 +1,13 @@
 -- The candidates for the name of a tool, in a program that knows the names.
-use Rattle.std.specs.Prelude.{◌≡◌, ℕ, ◌==◌, List, [], ◌∷◌, Bool, true, false, not, Some, codes, filter, map, nat_eq}
+use Rattle.std.specs.Prelude.{◌≡◌, ℕ, ◌==◌, List, [], ◌∷◌, Bool, true, false, not, Some, codes}
+use Rattle.std.specs.Prelude.{filter, map, nat_eq}
 use Rattle.std.specs.List.{starts_with}
-use Rattle.clap_complete.specs.arg.Arguments.{new_arg}
-use Rattle.clap_complete.specs.base.declared.numbers.ArgValueCompleter.{ArgValueCompleter}
-use Rattle.clap_complete.specs.candidates.Candidate.{new_candidate}
-use Rattle.clap_complete.specs.candidates.declared.candidate.CompletionCandidate.{CompletionCandidate}
-use Rattle.clap_complete.specs.command.Made.{new_tree, with_argument}
-use Rattle.clap_complete.specs.command.Tree.{Tree}
+use Rattle.clap_complete.specs.Arguments.{new_arg}
+use Rattle.clap_complete.specs.ArgValueCompleter.{ArgValueCompleter}
+use Rattle.clap_complete.specs.Candidate.{new_candidate}
+use Rattle.clap_complete.specs.CompletionCandidate.{CompletionCandidate}
+use Rattle.clap_complete.specs.Made.{new_tree, with_argument}
+use Rattle.clap_complete.specs.Tree.{Tree}
 
 -- the names that begin with the text, in their order
 abbrev pub names_beginning : List (List ℕ) → List ℕ → List (List ℕ)

@@ -1,10 +1,11 @@
 -- The script of a generator outside the library, and what it reads back to: a line for each long of
 -- a command.
-use Rattle.std.specs.Prelude.{◌≡◌, ℕ, ◌==◌, if◌then◌else◌, List, [], ◌∷◌, ◌++◌, None, codes, false, flat_map, map}
+use Rattle.std.specs.Prelude.{◌≡◌, ℕ, ◌==◌, if◌then◌else◌, List, [], ◌∷◌, ◌++◌, None, codes, false}
+use Rattle.std.specs.Prelude.{flat_map, map}
 use Rattle.std.specs.List.{AllByRecursion}
-use Rattle.clap_complete.specs.generator.ArgumentNames.{all_longs, long_word}
-use Rattle.clap_complete.specs.generator.Generators.{ShellSpec}
-use Rattle.clap_complete.specs.command.Tree.{Tree}
+use Rattle.clap_complete.specs.ArgumentNames.{all_longs, long_word}
+use Rattle.clap_complete.specs.Generators.{ShellSpec}
+use Rattle.clap_complete.specs.Tree.{Tree}
 
 -- a long as it is typed, and a line feed
 abbrev pub line : List ℕ → List ℕ

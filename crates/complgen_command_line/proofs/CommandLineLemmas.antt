@@ -1,26 +1,33 @@
 -- The results of parsing the command line, and how parsing fails.
-use Rattle.std.proofs.Common.{◌≡◌, ◌⊎◌, ◌||◌, inl, inr, refl, subst, sym, true, false, not, Bool, List, drop, ℕ, [], ◌∷◌, Option, Some, None, is_some, option_map}
+use Rattle.std.proofs.Common.{◌≡◌, ◌⊎◌, ◌||◌, inl, inr, refl, subst, sym, true, false, not, Bool}
+use Rattle.std.proofs.Common.{List, drop, ℕ}
+use Rattle.std.proofs.Common.{[], ◌∷◌, Option, Some, None, is_some, option_map}
 use Rattle.std.specs.Borrow.{Bor}
 use Rattle.std.specs.Prelude.{IsSome, codes, find, if◌then◌else◌}
 use Rattle.std.specs.List.{list_all}
 use Rattle.std.specs.Option.{option_map_or}
-use Rattle.clap.specs.Faults.{check_fault, defaults_fault, entered_fault, level_fault, settle_fault, walk_fault}
+use Rattle.clap.specs.Faults.{check_fault, defaults_fault, entered_fault, level_fault, settle_fault}
+use Rattle.clap.specs.Faults.{walk_fault}
 use Rattle.clap.specs.Kinds.{HasKind, Kinds}
-use Rattle.clap.specs.Simple.{Shape, argument_words, built, entered, label_of, names_of, new_shape, rows_at}
+use Rattle.clap.specs.Simple.{Shape, argument_words, built, entered, label_of, names_of, new_shape}
+use Rattle.clap.specs.Simple.{rows_at}
 use Rattle.clap.specs.Takes.{is_given}
 use Rattle.clap.specs.Values.{kind_of}
-use Rattle.clap.specs.Walk.{Row, Text, answers_to, finished, first_of, nothing_held, rows_after, settled, walk, walk_from}
+use Rattle.clap.specs.Walk.{Row, Text, answers_to, finished, first_of, nothing_held, rows_after}
+use Rattle.clap.specs.Walk.{settled, walk, walk_from}
 use Rattle.clap.specs.Words.{fault_of, is_simple, is_simple_and_free, subcommand_of}
 use Rattle.clap.specs.declared.error.Error.{Error}
 use Rattle.clap.specs.declared.error.kind.ErrorKind.{ErrorKind}
 use Rattle.clap.specs.declared.error.kind.ErrorKind.TheVariants as kind
 use Rattle.clap.proofs.OnLiterals.{clap_on_literals}
 use Rattle.complgen_command_line.specs.CommandLine.{program_line}
-use Rattle.complgen_command_line.specs.Plans.{Enters, EntersOne, GivesDirectory, GivesNames, GivesPage, GivesTree, GivesWords}
+use Rattle.complgen_command_line.specs.Plans.{Enters, EntersOne, GivesDirectory, GivesNames}
+use Rattle.complgen_command_line.specs.Plans.{GivesPage, GivesTree, GivesWords}
 use Rattle.complgen_command_line.specs.Refusals.{Reports, ReportsKind}
 use Rattle.complgen_scripts.specs.Refusals.{IsOutOfMemory}
 use Rattle.complgen_scripts.specs.declared.refusals.Refusal.{Refusal}
-use Rattle.complgen_command_line.proofs.GivenValues.{first_none, given_value, leaves_value, rows_kept, second_none}
+use Rattle.complgen_command_line.proofs.GivenValues.{first_none, given_value, leaves_value, rows_kept}
+use Rattle.complgen_command_line.proofs.GivenValues.{second_none}
 
 -- the specification of clap states the result of a parse
 pub program_line_is_simple : is_simple program_line ≡ true

@@ -1,7 +1,10 @@
 -- An argument that takes at least one value in each use has a value if the words give it: each use
 -- that clap accepts leaves a value in its row.
-use Rattle.std.proofs.Common.{◌≡◌, ◌∙◌, ◌&&◌, ◌||◌, ◌+◌, ◌++◌, ℕ, zero, suc, Bool, true, false, not, List, [], ◌∷◌, Option, Some, None, ◌⊎◌, inl, inr, ap, sym, refl, length, drop, is_some, min}
-use Rattle.std.specs.Prelude.{if◌then◌else◌, encode_utf8, find, fold, nat_lt, option_and_then, slice_get}
+use Rattle.std.proofs.Common.{◌≡◌, ◌∙◌, ◌&&◌, ◌||◌, ◌+◌, ◌++◌, ℕ, zero, suc, Bool, true, false, not}
+use Rattle.std.proofs.Common.{List, [], ◌∷◌, Option, Some, None}
+use Rattle.std.proofs.Common.{◌⊎◌, inl, inr, ap, sym, refl, length, drop, is_some, min}
+use Rattle.std.specs.Prelude.{if◌then◌else◌, encode_utf8, find, fold, nat_lt, option_and_then}
+use Rattle.std.specs.Prelude.{slice_get}
 use Rattle.std.specs.List.{list_all}
 use Rattle.std.specs.Option.{option_map_or}
 use Rattle.std.specs.Str.{bytes_eq, chars}
@@ -9,12 +12,27 @@ use Rattle.std.proofs.Math.Bool.{or-true}
 use Rattle.std.proofs.lemmas.Bool.{and_from}
 use Rattle.std.proofs.lemmas.List.Folds.{list_all-append}
 use Rattle.clap.specs.Facts.{explicit_source, unwrap_or_range}
-use Rattle.clap.specs.Faults.{bundle_fault, bundle_step_fault, flag_word_fault, flags_fault, long_fault, option_fault, other_fault, positional_fault, react_fault, settle_fault, short_fault, step_fault, stray_fault, turn_fault, use_fault, walk_fault, word_fault}
+use Rattle.clap.specs.Faults.{bundle_fault, bundle_step_fault, flag_word_fault, flags_fault}
+use Rattle.clap.specs.Faults.{long_fault, option_fault, other_fault, positional_fault, react_fault}
+use Rattle.clap.specs.Faults.{settle_fault, short_fault, step_fault, stray_fault, turn_fault}
+use Rattle.clap.specs.Faults.{use_fault, walk_fault, word_fault}
 use Rattle.clap.specs.Kinds.{Kinds, or_else, range_kinds}
 use Rattle.clap.specs.Lexer.{long_of, short_of}
 use Rattle.clap.specs.Simple.{Shape}
 use Rattle.clap.specs.Takes.{is_given}
-use Rattle.clap.specs.Walk.{Held, Names, Outcome, Row, Rule, Step, Text, Waiting, Walk, action_of, after_flag, after_step, arg_by_id, arg_by_index, arg_by_long, arg_by_short, at_row, attached_value, bundle, bundle_met, bundle_step, count_of, default_rows, first_of, flag_met, has_long, has_row, has_short, is_pending, long_met, long_or_other, more_values, most_values, new_count, nothing_held, option_met, option_word, plain_word, positional_held, reacted, reading_by, rows_after, settled, settled_rows, short_met, short_or_plain, subcommand_met, subcommand_or_other, takes_several, takes_values, to_positional, used, used_as, used_by_id, values_or_missing, walk, walk_from, walked, walked_from, with_count, with_default, with_values, without, word_met, done, waits, plain, idle, option, positional, next, trailing, subcommand, value}
+use Rattle.clap.specs.Walk.{Held, Names, Outcome, Row, Rule, Step, Text, Waiting, Walk, action_of}
+use Rattle.clap.specs.Walk.{after_flag, after_step, arg_by_id, arg_by_index, arg_by_long}
+use Rattle.clap.specs.Walk.{arg_by_short, at_row, attached_value, bundle, bundle_met, bundle_step}
+use Rattle.clap.specs.Walk.{count_of, default_rows, first_of, flag_met, has_long, has_row}
+use Rattle.clap.specs.Walk.{has_short, is_pending, long_met, long_or_other, more_values}
+use Rattle.clap.specs.Walk.{most_values, new_count, nothing_held, option_met, option_word}
+use Rattle.clap.specs.Walk.{plain_word, positional_held, reacted, reading_by, rows_after, settled}
+use Rattle.clap.specs.Walk.{settled_rows, short_met, short_or_plain, subcommand_met}
+use Rattle.clap.specs.Walk.{subcommand_or_other, takes_several, takes_values, to_positional, used}
+use Rattle.clap.specs.Walk.{used_as, used_by_id, values_or_missing, walk, walk_from, walked}
+use Rattle.clap.specs.Walk.{walked_from, with_count, with_default, with_values, without, word_met}
+use Rattle.clap.specs.Walk.{done, waits, plain, idle, option, positional, next, trailing}
+use Rattle.clap.specs.Walk.{subcommand, value}
 use Rattle.clap.specs.declared.builder.action.ArgAction.{ArgAction}
 use Rattle.clap.specs.declared.builder.action.ArgAction.TheVariants as act
 use Rattle.clap.specs.declared.builder.value_parser.Reading.{Reading}

@@ -1,4 +1,4 @@
 mod CommandLineLemmas
 mod Examples
 mod GivenValues
-mod LineParts
+mod Untaken

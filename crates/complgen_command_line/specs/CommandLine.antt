@@ -1,21 +1,9 @@
 -- The command line: the words that the program accepts.
-use Rattle.std.specs.Prelude.{◌≡◌, Some, true, false, codes}
+use Rattle.std.specs.Prelude.{Some, true, codes}
 use Rattle.clap.specs.Lexer.{usize_max}
 use Rattle.clap.specs.Simple.{on_top}
-use Rattle.clap.specs.Words.{App, Rule, Text, app_of, fields_of, new_app, new_rule, rule_of, with_rule, with_subcommand}
-use Rattle.clap.specs.declared.builder.arg.Arg.{Arg}
-use Rattle.clap.specs.declared.builder.command.Command.{Command}
+use Rattle.clap.specs.Words.{App, Rule, Text, new_app, new_rule, with_rule, with_subcommand}
 use Rattle.clap.specs.declared.builder.action.ArgAction.TheVariants.{SetTrue}
-
--- the argument is read by this rule, and is not global
-pub record IsRule (rule : Rule) (arg : Arg) : Type 0 where
-  pub reads : rule_of arg ≡ rule
-  pub local : arg.global ≡ false
-
--- the command is this one, and has no global argument
-pub record IsLine (line : App) (command : Command) : Type 0 where
-  pub shape : app_of command ≡ line
-  pub local : (fields_of command).has_globals ≡ false
 
 -- `--NAME VALUE`, which is required
 abbrev pub option_rule : Text → Rule

@@ -1,9 +1,9 @@
 //! The command line: the words that `complgen` accepts.
 
-ghost use Rattle.std.specs.Prelude.{◌≡◌, IfOk, codes};
+ghost use Rattle.std.specs.Prelude.{◌≡◌, IfOk, codes, false};
 ghost use Rattle.clap.specs.Words.{app_of};
-ghost use Rattle.complgen_command_line.specs.CommandLine.{IsLine, asking_line, candidates_line};
-ghost use Rattle.complgen_command_line.specs.CommandLine.{check_line, checking_line};
+ghost use Rattle.clap.specs.declared.builder.command.Command.TheViews.{out-Command};
+ghost use Rattle.complgen_command_line.specs.CommandLine.{asking_line, candidates_line, check_line, checking_line};
 ghost use Rattle.complgen_command_line.specs.CommandLine.{man_line, program_line, scripts_line, shell_line};
 ghost use Rattle.complgen_command_line.specs.CommandLine.{top_line, wanted_line, writing_line};
 
@@ -24,7 +24,8 @@ fn for_shell<'a>(
     about: &'static str,
     shells: &'static str,
 ) -> Result<Command<'a>, AllocError>
-    ensures { IfOk result (IsLine (shell_line name.entry.now)) }
+    ensures shape { IfOk result (λ command. app_of command ≡ shell_line name.entry.now) }
+    ensures local { IfOk result (λ command. (out-Command command).has_globals ≡ false) }
 {
     Command::new(alloc, name)
         .about(about)
@@ -35,7 +36,8 @@ fn for_shell<'a>(
 
 // Returns the subcommand `script --shell S --bin N TREE`.
 fn script<'a>(alloc: Global) -> Result<Command<'a>, AllocError>
-    ensures { IfOk result (IsLine (shell_line (codes "script"))) }
+    ensures shape { IfOk result (λ command. app_of command ≡ shell_line (codes "script")) }
+    ensures local { IfOk result (λ command. (out-Command command).has_globals ≡ false) }
 {
     let command = for_shell(alloc, "script", SCRIPT_ABOUT, SCRIPT_SHELL_HELP)?;
     Ok(command.after_long_help(SCRIPT_FILES))
@@ -43,7 +45,8 @@ fn script<'a>(alloc: Global) -> Result<Command<'a>, AllocError>
 
 // Returns the subcommand `scripts --bin N --out-dir DIR TREE`.
 fn scripts<'a>(alloc: Global) -> Result<Command<'a>, AllocError>
-    ensures { IfOk result (IsLine scripts_line) }
+    ensures shape { IfOk result (λ command. app_of command ≡ scripts_line) }
+    ensures local { IfOk result (λ command. (out-Command command).has_globals ≡ false) }
 {
     Command::new(alloc, "scripts")
         .about(SCRIPTS_ABOUT)
@@ -55,7 +58,8 @@ fn scripts<'a>(alloc: Global) -> Result<Command<'a>, AllocError>
 
 // Returns the subcommand `candidates --index I [--values FILE] TREE WORDS..`.
 fn candidates<'a>(alloc: Global) -> Result<Command<'a>, AllocError>
-    ensures { IfOk result (IsLine candidates_line) }
+    ensures shape { IfOk result (λ command. app_of command ≡ candidates_line) }
+    ensures local { IfOk result (λ command. (out-Command command).has_globals ≡ false) }
 {
     Command::new(alloc, "candidates")
         .about(CANDIDATES_ABOUT)
@@ -67,7 +71,8 @@ fn candidates<'a>(alloc: Global) -> Result<Command<'a>, AllocError>
 
 // Returns the subcommand `wanted --index I TREE WORDS..`.
 fn wanted<'a>(alloc: Global) -> Result<Command<'a>, AllocError>
-    ensures { IfOk result (IsLine wanted_line) }
+    ensures shape { IfOk result (λ command. app_of command ≡ wanted_line) }
+    ensures local { IfOk result (λ command. (out-Command command).has_globals ≡ false) }
 {
     Command::new(alloc, "wanted")
         .about(WANTED_ABOUT)
@@ -78,7 +83,8 @@ fn wanted<'a>(alloc: Global) -> Result<Command<'a>, AllocError>
 
 // Returns the subcommand `check [--bin N] [--json] TREE`.
 fn check<'a>(alloc: Global) -> Result<Command<'a>, AllocError>
-    ensures { IfOk result (IsLine check_line) }
+    ensures shape { IfOk result (λ command. app_of command ≡ check_line) }
+    ensures local { IfOk result (λ command. (out-Command command).has_globals ≡ false) }
 {
     Command::new(alloc, "check")
         .about(CHECK_ABOUT)
@@ -90,7 +96,8 @@ fn check<'a>(alloc: Global) -> Result<Command<'a>, AllocError>
 
 // Returns the subcommand `man --bin N TREE`.
 fn man<'a>(alloc: Global) -> Result<Command<'a>, AllocError>
-    ensures { IfOk result (IsLine man_line) }
+    ensures shape { IfOk result (λ command. app_of command ≡ man_line) }
+    ensures local { IfOk result (λ command. (out-Command command).has_globals ≡ false) }
 {
     Command::new(alloc, "man")
         .about(MAN_ABOUT)

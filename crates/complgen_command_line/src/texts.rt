@@ -37,12 +37,12 @@ pub const SCRIPT_ABOUT: &str = "Writes the completion script for one shell";
 pub const SCRIPTS_ABOUT: &str = "Writes the completion scripts for all shells to files";
 
 pub const REGISTER_ABOUT: &str =
-    "Writes shell code that makes the shell ask your program for completions";
+    "Writes a registration, which makes the shell ask the program itself for candidates";
 
 pub const CANDIDATES_ABOUT: &str = "Writes the candidates for one word of a command line";
 
 pub const WANTED_ABOUT: &str =
-    "Writes the command that lists the values for a word, as a JSON array";
+    "Writes the words of the command that lists the values for one word, as JSON";
 
 pub const CHECK_ABOUT: &str = "Reports what is wrong with a tree file, and where";
 
@@ -61,7 +61,7 @@ pub const OUT_DIR_HELP: &str = "The directory for the scripts, which must exist"
 
 pub const INDEX_HELP: &str = "The index of the word to complete, where 0 is the program's name";
 
-pub const VALUES_HELP: &str = "A file whose lines are the values to offer";
+pub const VALUES_HELP: &str = "The file with the values that the word asks for, one on each line";
 
 pub const JSON_HELP: &str = "Prints JSON for editors and scripts, with one object on each line";
 

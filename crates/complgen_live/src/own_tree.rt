@@ -75,7 +75,7 @@ pub const OWN_TREE: &str = r#"{
     },
     {
       "name": "register",
-      "about": "Writes shell code that makes the shell ask your program for completions",
+      "about": "Writes a registration, which makes the shell ask the program itself for candidates",
       "args": [
         {
           "id": "shell",
@@ -123,7 +123,7 @@ pub const OWN_TREE: &str = r#"{
           "id": "values",
           "long": "values",
           "value_names": ["FILE"],
-          "help": "A file whose lines are the values to offer",
+          "help": "The file with the values that the word asks for, one on each line",
           "value_hint": "FilePath"
         },
         {
@@ -143,7 +143,7 @@ pub const OWN_TREE: &str = r#"{
     },
     {
       "name": "wanted",
-      "about": "Writes the command that lists the values for a word, as a JSON array",
+      "about": "Writes the words of the command that lists the values for one word, as JSON",
       "args": [
         {
           "id": "index",

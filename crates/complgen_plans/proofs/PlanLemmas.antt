@@ -1,5 +1,6 @@
 -- The outcomes of carrying out a plan.
-use Rattle.std.proofs.Common.{◌≡◌, ℕ, List, Option, None, Some, Result, Ok, Err, refl, subst, sym, Global, String, Vec, map, string_bytes}
+use Rattle.std.proofs.Common.{◌≡◌, ℕ, List, Option, None, Some, Result, Ok, Err, refl, subst, sym}
+use Rattle.std.proofs.Common.{Global, String, Vec, map, string_bytes}
 use Rattle.std.specs.Result.{result_and}
 use Rattle.cc_base.specs.declared.failures.Failures.{Failures}
 use Rattle.complgen_scripts.proofs.WritingLemmas.{same}

@@ -13,7 +13,9 @@ use Rattle.complgen_scripts.specs.Scripts.{ScriptReads}
 use Rattle.complgen_commands.specs.Wanted.{EndsWanted}
 use Rattle.complgen_scripts.specs.Writing.{Untouched}
 use Rattle.complgen_commands.specs.declared.plans.Plan.{Plan}
-use Rattle.complgen_commands.specs.declared.plans.Plan.TheVariants.{Candidates, CandidatesWith, Check, Man, Register, Script, Scripts, Wanted}
+use Rattle.complgen_commands.specs.declared.plans.Plan.TheVariants.{Candidates, CandidatesWith}
+use Rattle.complgen_commands.specs.declared.plans.Plan.TheVariants.{Check, Man, Register, Script}
+use Rattle.complgen_commands.specs.declared.plans.Plan.TheVariants.{Scripts, Wanted}
 use Rattle.complgen_scripts.specs.declared.refusals.Refusal.{Refusal}
 use Rattle.complgen_plans.specs.Checks.{EndsFindings}
 use Rattle.complgen_plans.specs.Pages.{EndsPage}

@@ -1,45 +1,7 @@
-use Rattle.std.proofs.Common.{◌∙◌, codes, map, string_bytes, sym, ◌≡◌, refl, subst, Bool, true, false, ℕ, List, [], ◌∷◌, Option}
-use Rattle.std.specs.Prelude.{◌&&◌}
-use Rattle.std.proofs.lemmas.Slice.Eq.{bytes_eq-Decides}
-use Rattle.std.proofs.Math.Bool.{and-false}
+use Rattle.std.proofs.Common.{◌∙◌, codes, map, string_bytes, sym}
 use Rattle.cc_replies.specs.Environment.{value_of}
-use Rattle.clap.specs.Words.{Text, takes}
-use Rattle.clap.proofs.OnLiterals.{clap_on_literals}
-use Rattle.complgen_live.specs.Requests.{begins_request, is_request, names_shell}
-use Rattle.complgen_command_line.specs.CommandLine.{program_line}
+use Rattle.complgen_command_line.proofs.Untaken.{untaken_request}
 use Rattle.complgen_command_line.proofs.requests.is_shell_request.Goals as goal
-
--- The command line accepts no request of a shell.
-untaken_none : takes program_line [] ≡ false
-unfolding clap_on_literals
-untaken_none = refl
-
-untaken_alone : (program : Text) → takes program_line (program ∷ []) ≡ false
-unfolding clap_on_literals
-untaken_alone program = refl
-
-untaken_dashes : (program : Text) (words : List Text)
-    → takes program_line (program ∷ codes "--" ∷ words) ≡ false
-unfolding clap_on_literals
-untaken_dashes program [] = refl
-untaken_dashes program (word ∷ words) = and-false _
-
-untaken_words : (words : List Text) → begins_request words ≡ true
-    → takes program_line words ≡ false
-untaken_words [] begins = untaken_none
-untaken_words (program ∷ []) begins = untaken_alone program
-untaken_words (program ∷ (word ∷ words)) begins =
-    subst (λ w. takes program_line (program ∷ (w ∷ words)) ≡ false)
-    (sym ((bytes_eq-Decides word (codes "--")).0 begins)) (untaken_dashes program words)
-
-second : (one other : Bool) → (one && other) ≡ true → other ≡ true
-second true other both = both
-second false other both = cc
-
-untaken_request : (value : Option (List ℕ)) (words : List Text)
-    → is_request value words ≡ true → takes program_line words ≡ false
-untaken_request value words is =
-    untaken_words words (second (names_shell value) (begins_request words) is)
 
 pub returns-clause-untaken : goal.returns-clause-untaken
 returns-clause-untaken c = λ requested.

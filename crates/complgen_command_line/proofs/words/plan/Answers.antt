@@ -1,11 +1,14 @@
-use Rattle.std.proofs.Common.{◌∙◌, ◌≡◌, List, Option, ap, inl, map, string_bytes, subst, sym, []}
+use Rattle.std.proofs.Common.{◌∙◌, ◌≡◌, [], List, Option, ap, inl, map, string_bytes, subst, sym}
 use Rattle.std.proofs.lemmas.Result.{IfErr-weaker, IfOk-weaker}
 use Rattle.clap.specs.Kinds.{HasKind, Kinds}
-use Rattle.clap.specs.Words.{App, Row, Text, fault_of, is_simple, is_simple_and_free, subcommand_of, takes}
+use Rattle.clap.specs.Words.{App, Row, Text, fault_of, is_simple, is_simple_and_free, subcommand_of}
+use Rattle.clap.specs.Words.{takes}
 use Rattle.complgen_command_line.specs.CommandLine.{program_line}
 use Rattle.complgen_command_line.specs.Plans.{AsksFor, EntersOne}
 use Rattle.complgen_command_line.specs.Refusals.{Reports}
-use Rattle.complgen_command_line.proofs.CommandLineLemmas.{enters_one, program_line_is_free, program_line_is_simple, reports_memory, reports_words}
+use Rattle.complgen_command_line.proofs.CommandLineLemmas.{enters_one, program_line_is_free}
+use Rattle.complgen_command_line.proofs.CommandLineLemmas.{program_line_is_simple, reports_memory}
+use Rattle.complgen_command_line.proofs.CommandLineLemmas.{reports_words}
 use Rattle.complgen_command_line.proofs.words.plan.Goals as goal
 
 pub plan_of-planned-requires : goal.plan_of-planned-requires

@@ -1,4 +1,5 @@
-use Rattle.std.proofs.Common.{◌∙◌, List, Option, ap, codes, map, option_map, string_bytes, sym, unwrap_or, []}
+use Rattle.std.proofs.Common.{◌∙◌, List, Option, [], ap, codes, map, option_map, string_bytes}
+use Rattle.std.proofs.Common.{sym, unwrap_or}
 use Rattle.std.proofs.lemmas.Result.{IfOk-weaker}
 use Rattle.std.specs.Borrow.{Bor}
 use Rattle.clap.proofs.WalkLemmas.{raw_values-rows}

@@ -1,7 +1,8 @@
 use Rattle.std.proofs.Common.{ap}
 use Rattle.std.proofs.lemmas.Result.{err_from_is_err_and}
 use Rattle.std.specs.Option.{option_copied}
-use Rattle.complgen_plans.proofs.FindingLemmas.{findings_failed, findings_sound, findings_told, findings_unread}
+use Rattle.complgen_plans.proofs.FindingLemmas.{findings_failed, findings_sound, findings_told}
+use Rattle.complgen_plans.proofs.FindingLemmas.{findings_unread}
 use Rattle.complgen_plans.proofs.checks.write_findings.Goals as goal
 
 pub returns-in_default-clause-ends : goal.returns-in_default-clause-ends
