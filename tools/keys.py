@@ -145,7 +145,7 @@ def keys_read(file):
 
 def spelled(kind):
     """Returns the names of the variants of a type that a tree file spells."""
-    form = rf'^            "(\w+)" => Ok\({kind}::\1\),$'
+    form = rf'^        "(\w+)" => Some\({kind}::\1\),$'
     return re.findall(form, (SOURCES / "values.rt").read_text(encoding="utf-8"), re.M)
 
 

@@ -1,4 +1,3 @@
-mod BuiltAgain
 mod CheckLemmas
 mod LineLemmas
 mod NoWarnings

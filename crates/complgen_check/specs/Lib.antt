@@ -3,5 +3,4 @@ pub mod Lines
 pub mod Objects
 pub mod Promises
 pub mod Report
-pub mod SafeScripts
 pub mod TreeWarnings

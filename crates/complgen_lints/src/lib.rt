@@ -22,4 +22,4 @@ mod warning;
 
 pub use crate::place::{Key, Place};
 pub use crate::premises::command_warnings;
-pub use crate::warning::{Kind, Warning, are_notes};
+pub use crate::warning::{Kind, Warning};

@@ -1,7 +1,7 @@
 //! Warnings, and what they are about.
 
 ghost use Rattle.std.specs.Prelude.{◌≡◌};
-ghost use Rattle.complgen_lints.specs.Notes.{are_notes, is_note};
+ghost use Rattle.complgen_lints.specs.Notes.{is_note};
 
 use crate::place::Place;
 use cc_base::Text;
@@ -106,11 +106,4 @@ impl Warning {
             Kind::HiddenCommand | Kind::HiddenArgument | Kind::RunsCommand(_)
         )
     }
-}
-
-/// Returns whether all of `warnings` are notes.
-pub fn are_notes(warnings: &[Warning]) -> bool
-    ensures { result ≡ are_notes warnings.now }
-{
-    warnings.iter().all(Warning::is_note)
 }

@@ -1,5 +1,5 @@
 -- A check of a value is a check of the bytes that spell it.
-use Rattle.std.proofs.Common.{◌≡◌, ◌∙◌, ℕ, List, [], ◌∷◌, Some, None, ap, length, refl, subst, sym}
+use Rattle.std.proofs.Common.{◌≡◌, ◌∙◌, ℕ, Bool, true, false, List, Some, None, ap, is_some, subst, sym}
 use Rattle.std.specs.Str.{IsUtf8}
 use Rattle.cc_base.specs.Shown.{HoldsNoControl}
 use Rattle.json.specs.Json.{Json}
@@ -7,8 +7,9 @@ use Rattle.serde_json.specs.Data.{Data}
 use Rattle.serde_json.specs.Read.{read}
 use Rattle.complgen_json.specs.Reads.{SpellsJson}
 use Rattle.complgen_json.specs.Seen.{data_of}
-use Rattle.complgen_tree_file.specs.CommandForm.{command_of}
-use Rattle.complgen_tree_file.specs.Faults.{is_nil}
+use Rattle.cc_command.specs.Tree.{Tree}
+use Rattle.complgen_tree_file.specs.CommandForm.{command_fits, command_in, command_of}
+use Rattle.complgen_tree_file.proofs.ChildrenLemmas.{described, described_where, not_described}
 use Rattle.complgen_tree_file.specs.TreeFile.{Spells}
 use Rattle.complgen_tree_errors.specs.Checks.{Checks, ChecksValue, DescribesNone}
 use Rattle.complgen_tree_errors.specs.Findings.{IsError, Shown, says}
@@ -16,13 +17,6 @@ use Rattle.complgen_tree_errors.specs.Places.{ShownStep}
 use Rattle.complgen_tree_errors.specs.declared.checking.Checked.{Checked}
 use Rattle.complgen_tree_errors.specs.declared.checking.Checked.TheVariants.{Errors, Tree as Reads}
 use Rattle.complgen_tree_errors.specs.declared.finding.Level.TheVariants.{Error}
-
-pub nil_by_length : {A B : Type 0} (xs : List A) (ys : List B) → length xs ≡ length ys
-    → is_nil xs ≡ is_nil ys
-nil_by_length [] [] same = refl
-nil_by_length [] (y ∷ ys) same = absurd (cc same)
-nil_by_length (x ∷ xs) [] same = absurd (cc same)
-nil_by_length (x ∷ xs) (y ∷ ys) same = refl
 
 -- bytes spell one value at most
 same_value : (bytes : List ℕ) (d e : Data) → read bytes ≡ Some d → read bytes ≡ Some e → d ≡ e
@@ -52,7 +46,30 @@ checks_bytes bytes j (Reads command doubles source) spelled json is =
 checks_bytes bytes j (Errors errors) spelled json is =
     (is.0, no_command bytes (data_of j) spelled is.1)
 
--- what says an error is one, if its text is on one line
+-- what says an error is one, if its path and its text are on one line
 pub said_error : (error : Shown) (path : List ShownStep) (text : List ℕ) → error ≡ says Error path text
-    → HoldsNoControl text → IsError error
-said_error error path text is line = subst IsError (sym is) (record { level = refl; line = line })
+    → HoldsNoControl error.path → HoldsNoControl text → IsError error
+said_error error path text is place line = record {
+  level = ap (λ e. e.level) is;
+  path = place;
+  line = subst HoldsNoControl (sym (ap (λ e. e.text) is)) line;
+}
+
+-- ---- what the faults of a value say of it
+
+-- a command without faults is described
+pub is_read : (d : Data) (command : Tree) (before after : Bool) → command ≡ command_in d
+    → after ≡ command_fits d before → before ≡ true → after ≡ true → command_of d ≡ Some command
+is_read d command before after made is first none =
+    described d (ap (command_fits d) (sym first) ∙ sym is ∙ none) ∙ ap Some (sym made)
+
+-- a value with faults describes no command
+pub is_not_read : (d : Data) (before after : Bool) → after ≡ command_fits d before
+    → before ≡ true → after ≡ false → command_of d ≡ None
+is_not_read d before after is first none =
+    not_described d (ap (command_fits d) (sym first) ∙ sym is ∙ none)
+
+pub nil_where : (d : Data) (nil before after : Bool) → nil ≡ after → after ≡ command_fits d before
+    → before ≡ true → nil ≡ is_some (command_of d)
+nil_where d nil before after same is first =
+    same ∙ is ∙ ap (command_fits d) first ∙ sym (described_where d)

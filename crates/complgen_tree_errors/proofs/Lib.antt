@@ -2,4 +2,3 @@ pub mod CheckLemmas
 pub mod DoubleLemmas
 pub mod MarkLemmas
 pub mod ShownLemmas
-pub mod WalkLemmas

@@ -44,9 +44,10 @@ double_text path = (codes "duplicate key `" ++ shown_text (last_key path))
 abbrev pub shown_double : List ShownStep → Shown
 shown_double path = says Warning path (double_text path)
 
--- what is shown of an error; its text is on one line
+-- what is shown of an error; its path and its text are on one line
 pub record IsError (error : Shown) : Type 0 where
   pub level : error.level ≡ Error
+  pub path : HoldsNoControl error.path
   pub line : HoldsNoControl error.text
 
 -- errors, at least one

@@ -1,6 +1,7 @@
 -- The line and the column of a place in a text, and a path as it is shown.
 use Rattle.std.specs.Prelude.{ℕ, ◌+◌, ◌==◌, ◌||◌, Bool, List, [], ◌∷◌, ◌++◌, codes, count_by, decimal, nat_le, nat_lt, not, reverse, take_while}
 use Rattle.std.specs.List.{flat_map}
+use Rattle.cc_base.specs.Shown.{on_one_line}
 use Rattle.complgen_tree_errors.specs.Shown.{shown_text}
 use Rattle.complgen_tree_file.specs.declared.faults.Step.{Step}
 use Rattle.complgen_tree_file.specs.declared.faults.Step.TheVariants.{Item, Key, Member}
@@ -41,7 +42,11 @@ abbrev pub step_text : List ℕ → ShownStep → List ℕ
 step_text before (key name) = before ++ shown_text name
 step_text before (index place) = (codes "[" ++ decimal place) ++ codes "]"
 
--- the text of a path, as `subcommands[0].args`: a key after a dot, but for the first step
+-- the texts of the steps of a path, as `subcommands[0].args`: a key after a dot, but for the first
+abbrev pub joined : List ShownStep → List ℕ
+joined [] = codes "the file"
+joined (first ∷ rest) = step_text [] first ++ flat_map (step_text (codes ".")) rest
+
+-- the text of a path, on one line
 abbrev pub path_text : List ShownStep → List ℕ
-path_text [] = codes "the file"
-path_text (first ∷ rest) = step_text [] first ++ flat_map (step_text (codes ".")) rest
+path_text path = on_one_line (joined path)

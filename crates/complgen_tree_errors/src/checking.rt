@@ -6,7 +6,7 @@ ghost use Rattle.json.specs.Value.{value_view};
 ghost use Rattle.std.specs.String.{string_bytes};
 ghost use Rattle.complgen_json.specs.Seen.{view};
 ghost use Rattle.complgen_tree_file.specs.CommandForm.{command_of};
-ghost use Rattle.complgen_tree_file.specs.Faults.{is_nil};
+ghost use Rattle.complgen_tree_file.specs.Faults.{has_none, is_nil};
 ghost use Rattle.complgen_tree_errors.specs.Checks.{Checks, ChecksValue};
 ghost use Rattle.complgen_tree_errors.specs.Findings.{IsError, shown};
 
@@ -14,11 +14,10 @@ use crate::doubles::hidden_members;
 use crate::finding::{Finding, Level, Source};
 use crate::not_json::{json_errors, one_error};
 use crate::texts::fault_text;
-use crate::walk::tree_errors;
 use cc_base::on_one_line;
 use cc_command::Command;
 use complgen_json::{JsonError, Scratch, Value, read_value};
-use complgen_tree_file::{Fault, FaultKind, TreeError, tree_of};
+use complgen_tree_file::{Fault, FaultKind, Faults, read_command};
 use std::alloc::{AllocError, Global};
 
 /// The result of checking a tree file.
@@ -75,14 +74,13 @@ fn check_text<'t>(
 fn check_value<'t>(alloc: Global, mut source: Source<'t>) -> Result<Checked<'t>, AllocError>
     ensures { IfOk result (λ checked. ChecksValue (value_view source.entry.value) checked) }
 {
-    match tree_of(alloc, &source.value) {
-        Ok(command) => {
-            let doubles = hidden_members(alloc, &mut source)?;
-            Ok(Checked::Tree(command, doubles, source))
-        }
-        Err(TreeError::BadForm) => Ok(Checked::Errors(placed_errors(alloc, &mut source)?)),
-        Err(_) => Err(AllocError),
+    let mut faults = Faults::new(alloc);
+    let command = read_command(&mut faults, &source.value)?;
+    if !faults.is_empty() {
+        return Ok(Checked::Errors(placed(alloc, &mut source, faults)?));
     }
+    let doubles = hidden_members(alloc, &mut source)?;
+    Ok(Checked::Tree(command, doubles, source))
 }
 
 /// Returns the errors in the value of `source`, in the order of its text. There are none exactly if
@@ -99,8 +97,21 @@ pub(crate) fn placed_errors(
         ≡ is_some (command_of (view source.old.value))) }
     ensures errors { IfOk result (λ errors. All IsError (map shown errors.items)) }
 {
-    let faults = tree_errors(alloc, &source.value)?;
-    in_order(errors(alloc, source, faults)?)
+    let mut faults = Faults::new(alloc);
+    let _ = read_command(&mut faults, &source.value)?;
+    placed(alloc, source, faults)
+}
+
+// Makes an error of each fault in the value of `source`, in the order of the text.
+fn placed(
+    alloc: Global,
+    source: &mut Source<'_>,
+    faults: Faults<'_>,
+) -> Result<Vec<Finding>, AllocError>
+    ensures none { IfOk result (λ errors. is_nil errors.items ≡ has_none faults.entry) }
+    ensures errors { IfOk result (λ errors. All IsError (map shown errors.items)) }
+{
+    in_order(errors(alloc, source, faults.into_vec())?)
 }
 
 // Sorts errors by their places.

@@ -2,6 +2,7 @@
 
 ghost use Rattle.std.specs.Prelude.{◌≡◌, IfOk, map};
 ghost use Rattle.std.specs.String.{string_bytes};
+ghost use Rattle.cc_base.specs.Shown.{HoldsNoControl};
 ghost use Rattle.complgen_tree_errors.specs.Findings.{says, shown};
 ghost use Rattle.complgen_tree_errors.specs.Places.{shown_step};
 
@@ -56,8 +57,9 @@ impl<'t> Source<'t> {
         at_key: bool,
         text: String,
     ) -> Result<Finding, AllocError>
-        ensures { IfOk result (λ finding. shown finding
+        ensures shown { IfOk result (λ finding. shown finding
             ≡ says level (map shown_step path.now) (string_bytes text)) }
+        ensures line { IfOk result (λ finding. HoldsNoControl (string_bytes finding.path)) }
     {
         let offset = self.offset(alloc, path, at_key)?;
         let path = show_path(alloc, path)?;

@@ -12,7 +12,6 @@ mod shown;
 mod source_texts;
 mod spots;
 mod texts;
-mod walk;
 
 pub use crate::checking::{Checked, check_file};
 pub use crate::finding::{Finding, Level, Source};

@@ -5,6 +5,7 @@ ghost use Rattle.complgen_tree_errors.specs.Findings.{AreErrors, IsError, shown}
 
 use crate::checking::placed_errors;
 use crate::finding::{Finding, Level, Source};
+use crate::places::show_path;
 use cc_base::on_one_line;
 use complgen_json::{Scratch, Value};
 use complgen_tree_file::Step;
@@ -22,7 +23,7 @@ const MOST_OPEN: usize = 127;
 pub fn one_error(alloc: Global, offset: usize, text: &str) -> Result<Vec<Finding>, AllocError>
     ensures { IfOk result (λ found. AreErrors found.items) }
 {
-    let path = String::from_str(alloc, "the file")?;
+    let path = show_path(alloc, &[])?;
     let text = on_one_line(alloc, text)?;
     let mut found = Vec::new(alloc);
     found.push(Finding {

@@ -3,9 +3,11 @@
 ghost use Rattle.std.specs.Prelude.{◌≡◌, ◌++◌, IfOk, OnOk, codes, map};
 ghost use Rattle.std.specs.List.{flat_map};
 ghost use Rattle.std.specs.String.{string_bytes};
-ghost use Rattle.complgen_tree_errors.specs.Places.{path_text, shown_step, step_text};
+ghost use Rattle.cc_base.specs.Shown.{HoldsNoControl};
+ghost use Rattle.complgen_tree_errors.specs.Places.{joined, path_text, shown_step, step_text};
 
 use crate::shown::push_shown;
+use cc_base::on_one_line;
 use complgen_json::Value;
 use complgen_tree_file::Step;
 use std::alloc::{AllocError, Global};
@@ -75,15 +77,23 @@ fn last_member<'v, 't>(
 ///
 /// `AllocError` if an allocation fails.
 pub(crate) fn show_path(alloc: Global, path: &[Step<'_>]) -> Result<String, AllocError>
-    ensures { IfOk result (λ shown. string_bytes shown ≡ path_text (map shown_step path.now)) }
+    ensures path { IfOk result (λ shown. string_bytes shown ≡ path_text (map shown_step path.now)) }
+    ensures line { IfOk result (λ shown. HoldsNoControl (string_bytes shown)) }
+{
+    let joined = join(alloc, path)?;
+    on_one_line(alloc, joined.as_str())
+}
+
+fn join(alloc: Global, path: &[Step<'_>]) -> Result<String, AllocError>
+    ensures { IfOk result (λ text. string_bytes text ≡ joined (map shown_step path.now)) }
 {
     let Some((first, rest)) = path.split_first() else {
         return String::from_str(alloc, "the file");
     };
-    let mut shown = String::new(alloc);
-    push_step(alloc, &mut shown, "", *first)?;
-    push_steps(alloc, &mut shown, rest)?;
-    Ok(shown)
+    let mut joined = String::new(alloc);
+    push_step(alloc, &mut joined, "", *first)?;
+    push_steps(alloc, &mut joined, rest)?;
+    Ok(joined)
 }
 
 // Appends the steps after the first.

@@ -1,7 +1,7 @@
 -- The children of a command are found at their key.
-use Rattle.std.proofs.Common.{◌≡◌, ◌∙◌, List, [], Option, Some, None, Ordering, Less}
+use Rattle.std.proofs.Common.{◌≡◌, ◌∙◌, Bool, true, false, [], Option, Some, None, is_some, Ordering, Less}
 use Rattle.std.proofs.Common.{ap, codes, fold, if◌then◌else◌, nat_cmp, refl, sym}
-use Rattle.std.specs.Prelude.{option_map}
+use Rattle.std.specs.Option.{option_map_or}
 use Rattle.std.specs.Ordering.{is_eq, match_ordering}
 use Rattle.std.specs.Cmp.Lexicographic.{slice_cmp}
 use Rattle.std.specs.Str.{bytes_eq}
@@ -10,67 +10,80 @@ use Rattle.serde_json.specs.Data.{Data, null, boolean, number, string, array, ob
 use Rattle.serde_json.specs.Data.{Members, member, no_members}
 use Rattle.serde_json.specs.Find.{get, get_member}
 use Rattle.cc_command.specs.Made.{of_node, with_child}
-use Rattle.cc_command.specs.Tree.{Tree}
-use Rattle.cc_command.specs.declared.node.Node.{Node}
-use Rattle.complgen_tree_file.specs.CommandForm.{children_in, command_of, commands_of, own_of}
-use Rattle.complgen_tree_file.specs.TreeForm.{◌>>=◌, with_key, with_value}
+use Rattle.complgen_tree_file.specs.CommandForm.{children_fit, children_in, command_fits, command_in, command_of}
+use Rattle.complgen_tree_file.specs.CommandForm.{commands_fit, commands_in, own_fits, own_in}
 
--- the children at the key, if it is there
-abbrev found_children : Option Data → Option (List Tree)
-found_children None = Some []
-found_children (Some d) = commands_of d
+either : {X : Type 0} (f : Data → X) (none : X) (o : Ordering) (found : Option Data) (d : Data)
+    → (if is_eq o then f d else option_map_or f found none)
+    ≡ option_map_or f (match_ordering o found (Some d) found) none
+either f none Less found d = refl
+either f none o found d = refl
 
-either_children : (o : Ordering) (found : Option Data) (d : Data)
-    → (if is_eq o then commands_of d else found_children found)
-    ≡ found_children (match_ordering o found (Some d) found)
-either_children Less found d = refl
-either_children o found d = refl
+-- the value at the key of the children is at the first member with that key, or in the others
+here_or_there : {X : Type 0} (f : Data → X) (none : X) (key : _) (d : Data) (ms : Members)
+    → (if bytes_eq (codes "subcommands") key then f d
+    else option_map_or f (get_member (codes "subcommands") ms) none)
+    ≡ option_map_or f (get_member (codes "subcommands") (member key d ms)) none
+here_or_there f none key d ms =
+    ap (λ here. if here then f d else option_map_or f (get_member (codes "subcommands") ms) none)
+    (sym (is_eq-slice_cmp (codes "subcommands") key))
+    ∙ either f none (slice_cmp nat_cmp (codes "subcommands") key)
+    (get_member (codes "subcommands") ms) d
 
 children_found : (ms : Members)
-    → children_in ms ≡ found_children (get_member (codes "subcommands") ms)
+    → children_in ms ≡ option_map_or commands_in (get_member (codes "subcommands") ms) []
 children_found no_members = refl
 children_found (member key d ms) =
-    let key_of_children = codes "subcommands" in
-    ap (λ rest. if bytes_eq key_of_children key then commands_of d else rest) (children_found ms)
-    ∙ ap (λ here. if here then commands_of d else found_children (get_member key_of_children ms))
-    (sym (is_eq-slice_cmp key_of_children key))
-    ∙ either_children (slice_cmp nat_cmp key_of_children key) (get_member key_of_children ms) d
+    ap (λ rest. if bytes_eq (codes "subcommands") key then commands_in d else rest)
+    (children_found ms)
+    ∙ here_or_there commands_in [] key d ms
 
-children_added : (found : Option Data) (own : Tree)
-    → option_map (fold with_child own) (found_children found)
-    ≡ with_value commands_of (fold with_child) own found
-children_added None own = refl
-children_added (Some d) own = refl
-
-same_next : {A B : Type 0} (o : Option A) (f g : A → Option B) → ((a : A) → f a ≡ g a)
-    → (o >>= f) ≡ (o >>= g)
-same_next None f g same = refl
-same_next (Some a) f g same = same a
+children_fitting : (ms : Members) (before : Bool) → children_fit ms before
+    ≡ option_map_or (λ list. commands_fit list before) (get_member (codes "subcommands") ms) before
+children_fitting no_members before = refl
+children_fitting (member key d ms) before =
+    ap (λ rest. if bytes_eq (codes "subcommands") key then commands_fit d before else rest)
+    (children_fitting ms before)
+    ∙ here_or_there (λ list. commands_fit list before) before key d ms
 
 -- a command is its own, with the children at their key
-pub command_with_children : (d : Data)
-    → command_of d
-    ≡ (own_of d >>= (λ own. with_key (codes "subcommands") commands_of (fold with_child) d (of_node own)))
+pub command_with_children : (d : Data) → command_in d
+    ≡ fold with_child (of_node (own_in d))
+    (option_map_or commands_in (get (codes "subcommands") d) [])
 command_with_children null = refl
 command_with_children (boolean b) = refl
 command_with_children (number n) = refl
 command_with_children (string s) = refl
 command_with_children (array ds) = refl
-command_with_children (object ms) = same_next (own_of (object ms)) _ _ (λ own.
-    ap (option_map (fold with_child (of_node own))) (children_found ms)
-    ∙ children_added (get_member (codes "subcommands") ms) (of_node own))
+command_with_children (object ms) =
+    ap (fold with_child (of_node (own_in (object ms)))) (children_found ms)
 
--- a command whose object has no key for children is its own alone
-pub own_alone : (d : Data) (own : Node) → own_of d ≡ Some own
-    → get (codes "subcommands") d ≡ None → command_of d ≡ Some (of_node own)
-own_alone d own is missing = command_with_children d
-    ∙ ap (λ o. o >>= (λ n. with_key (codes "subcommands") commands_of (fold with_child) d (of_node n))) is
-    ∙ ap (with_value commands_of (fold with_child) (of_node own)) missing
+-- it fits if it does by itself, and the children do
+pub command_fits_with_children : (d : Data) (before : Bool) → command_fits d before
+    ≡ option_map_or (λ list. commands_fit list (own_fits d before)) (get (codes "subcommands") d)
+    (own_fits d before)
+command_fits_with_children null before = refl
+command_fits_with_children (boolean b) before = refl
+command_fits_with_children (number n) before = refl
+command_fits_with_children (string s) before = refl
+command_fits_with_children (array ds) before = refl
+command_fits_with_children (object ms) before =
+    children_fitting ms (own_fits (object ms) before)
 
--- a command whose object has that key is its own with the children there
-pub own_with_children : (d list : Data) (own : Node) → own_of d ≡ Some own
-    → get (codes "subcommands") d ≡ Some list
-    → command_of d ≡ option_map (fold with_child (of_node own)) (commands_of list)
-own_with_children d list own is there = command_with_children d
-    ∙ ap (λ o. o >>= (λ n. with_key (codes "subcommands") commands_of (fold with_child) d (of_node n))) is
-    ∙ ap (with_value commands_of (fold with_child) (of_node own)) there
+-- ---- whether a value describes a command
+
+is_there : {A : Type 0} (fits : Bool) (a : A) → is_some (if fits then Some a else None) ≡ fits
+is_there true a = refl
+is_there false a = refl
+
+pub described_where : (d : Data) → is_some (command_of d) ≡ command_fits d true
+unfolding command_of
+described_where d = is_there (command_fits d true) (command_in d)
+
+pub described : (d : Data) → command_fits d true ≡ true → command_of d ≡ Some (command_in d)
+unfolding command_of
+described d fits = ap (λ b. if b then Some (command_in d) else None) fits
+
+pub not_described : (d : Data) → command_fits d true ≡ false → command_of d ≡ None
+unfolding command_of
+not_described d fits = ap (λ b. if b then Some (command_in d) else None) fits

@@ -16,15 +16,16 @@ use Rattle.complgen_tree_file.specs.TreeForm.{Setting}
 abbrev pub Slot : Type 0
 Slot = Option (Bor (Value Global))
 
-held_at : (slots : List Slot) (keys : List (List ℕ)) (d : Data) (k : ℕ) → Hold slots (values_at keys d)
-    → nat_lt k (length keys) ≡ true → held (get_or slots k None) ≡ get (get_or keys k []) d
-held_at slots keys d k holds is_key =
+held_at : (slots : List Slot) (keys : List (List ℕ)) (d : Data) (k : ℕ) (other : Slot)
+    → Hold slots (values_at keys d) → nat_lt k (length keys) ≡ true
+    → held (get_or slots k other) ≡ get (get_or keys k []) d
+held_at slots keys d k other holds is_key =
     let inside : k < length keys = grind (arith, is_key) in
     let keyed : k < length (values_at keys d) = omega (arith, inside, length-map keys (λ key. get key d)) in
     let long = length-append (values_at keys d) holds.0 in
     let within : k < length slots =
     omega (arith, keyed, long, ap length holds.1, length-map slots held) in
-    sym (get_or-map held slots k None None within)
+    sym (get_or-map held slots k other None within)
     ∙ ap (λ os. get_or os k None) holds.1
     ∙ get_or_append_left (values_at keys d) holds.0 None k keyed
     ∙ get_or-map (λ key. get key d) keys k [] None inside
@@ -46,27 +47,27 @@ held_from k [] keys slots d holds e = tt
 held_from k (one ∷ settings) keys slots d holds e =
     let both = and_true _ _ e in
     let here = and_true _ _ both.0 in (
-      held_at slots keys d k holds here.0
+      held_at slots keys d k None holds here.0
           ∙ ap (λ key. get key d) ((bytes_eq-Decides (get_or keys k []) one.key).0 here.1),
       held_from (k + 1) settings keys slots d holds both.1,
     )
 
-pub id_held : (slots : List Slot) (d : Data) → Hold slots (values_at argument_keys d)
-    → held (get_or slots 0 None) ≡ get (codes "id") d
+pub id_held : (slots : List Slot) (d : Data) (other : Slot) → Hold slots (values_at argument_keys d)
+    → held (get_or slots 0 other) ≡ get (codes "id") d
 unfolding argument_keys
-id_held slots d holds = held_at slots argument_keys d 0 holds refl
+id_held slots d other holds = held_at slots argument_keys d 0 other holds refl
 
-pub name_held : (slots : List Slot) (d : Data) → Hold slots (values_at command_keys d)
-    → held (get_or slots 0 None) ≡ get (codes "name") d
+pub name_held : (slots : List Slot) (d : Data) (other : Slot) → Hold slots (values_at command_keys d)
+    → held (get_or slots 0 other) ≡ get (codes "name") d
 unfolding command_keys
-name_held slots d holds = held_at slots command_keys d 0 holds refl
+name_held slots d other holds = held_at slots command_keys d 0 other holds refl
 
 pub arguments_held : (slots : List Slot) (d : Data) → Hold slots (values_at command_keys d)
     → held (get_or slots 18 None) ≡ get (codes "args") d
 unfolding command_keys
-arguments_held slots d holds = held_at slots command_keys d 18 holds refl
+arguments_held slots d holds = held_at slots command_keys d 18 None holds refl
 
 pub children_held : (slots : List Slot) (d : Data) → Hold slots (values_at command_keys d)
     → held (get_or slots 19 None) ≡ get (codes "subcommands") d
 unfolding command_keys
-children_held slots d holds = held_at slots command_keys d 19 holds refl
+children_held slots d holds = held_at slots command_keys d 19 None holds refl

@@ -1,5 +1,5 @@
 -- Files and the commands that they describe.
-use Rattle.std.proofs.Common.{◌≡◌, ℕ, List, [], ◌∷◌, None, Option, Some, codes, is_some, refl, true}
+use Rattle.std.proofs.Common.{◌≡◌, ℕ, List, [], ◌∷◌, None, Option, Some, codes, if◌then◌else◌, is_some, refl, true}
 use Rattle.std.specs.Str.{chars}
 use Rattle.serde_json.specs.Data.{Data, null, array, boolean, number, unsigned, object, string, item, no_items}
 use Rattle.serde_json.specs.Data.{Members, member, no_members}
@@ -12,10 +12,14 @@ use Rattle.cc_arg.specs.PossibleValues.{new_possible_value}
 use Rattle.cc_arg.specs.declared.value_hint.ValueHint.TheVariants.{Other}
 use Rattle.cc_command.specs.Made.{new_node, new_tree}
 use Rattle.cc_command.specs.Tree.{more, none}
-use Rattle.complgen_tree_file.specs.ArgumentForm.{argument_keys, argument_of}
-use Rattle.complgen_tree_file.specs.CommandForm.{command_keys, command_of}
+use Rattle.complgen_tree_file.specs.ArgumentForm.{argument_fits, argument_in, argument_keys}
+use Rattle.complgen_tree_file.specs.CommandForm.{command_keys, command_of, own_fits, own_in}
 use Rattle.complgen_tree_file.specs.PossibleValueForm.{possible_value_of, value_keys}
-use Rattle.complgen_tree_file.specs.TreeForm.{field_from, given, list_of}
+use Rattle.complgen_tree_file.specs.TreeForm.{field_from, fits_at, given, list_of}
+
+-- the argument that a value describes
+abbrev argument_of : Data → Option Arg
+argument_of d = if argument_fits d true then Some (argument_in d) else None
 
 -- `{"id":"v","short":"v","long":"verbose","action":"SetTrue","help":"Be loud"}`, by its keys in order
 abbrev verbose : Data
@@ -48,7 +52,7 @@ with_an_argument : command_of app ≡ Some (record (new_tree (codes "app")) {
     next_order = 1;
   };
 })
-unfolding argument_keys argument_of chars command_keys field_from given list_of
+unfolding argument_keys argument_fits argument_in chars command_keys command_of field_from fits_at given list_of own_fits own_in
 with_an_argument = refl
 
 -- `{"name":"run","visible_aliases":["r","go"]}`
@@ -77,20 +81,20 @@ with_children : command_of parent ≡ Some (record {
     display_order = Some 0;
   }) none (more (record (new_node (codes "stop")) { display_order = Some 1 }) none none);
 })
-unfolding argument_keys command_keys field_from given list_of
+unfolding argument_keys command_keys command_of field_from fits_at given list_of own_fits own_in
 with_children = refl
 
 -- `{"name":"app","nickname":"a"}`: no key of a command
 unknown_key : command_of (object (member (codes "name") (string (codes "app"))
     (member (codes "nickname") (string (codes "a")) no_members))) ≡ None
-unfolding argument_keys command_keys field_from given list_of
+unfolding argument_keys command_keys command_of field_from fits_at given list_of own_fits own_in
 unknown_key = refl
 
 -- the same of a child: there is no command then, not one without the child
 unknown_key_below : command_of (object (member (codes "name") (string (codes "app"))
     (member (codes "subcommands") (array (item (object (member (codes "name") (string (codes "run"))
     (member (codes "nickname") (string (codes "r")) no_members))) no_items)) no_members))) ≡ None
-unfolding argument_keys command_keys field_from given list_of
+unfolding argument_keys command_keys command_of field_from fits_at given list_of own_fits own_in
 unknown_key_below = refl
 
 -- `{"id":"c","possible_values":[{"name":"on"},{"hide":true,"name":"off"}],"value_hint":"Other"}`:
@@ -106,7 +110,7 @@ with_values : argument_of (object (member (codes "id") (string (codes "c"))
           ∷ record (new_possible_value (codes "off")) { hide = true } ∷ []);
       value_hint = Other;
     })
-unfolding argument_keys argument_of field_from given list_of value_keys
+unfolding argument_keys argument_fits argument_in field_from fits_at given list_of value_keys
 with_values = refl
 
 -- a possible value is an object, and has a name
@@ -114,13 +118,13 @@ no_object : possible_value_of (string (codes "on")) ≡ None
 no_object = refl
 
 no_name : possible_value_of (object (member (codes "hide") (boolean true) no_members)) ≡ None
-unfolding value_keys
+unfolding fits_at value_keys
 no_name = refl
 
 -- `{"id":"v","help":null}`: another kind
 other_kind : argument_of (object (member (codes "help") null
     (member (codes "id") (string (codes "v")) no_members))) ≡ None
-unfolding argument_keys argument_of field_from given list_of
+unfolding argument_keys argument_fits argument_in field_from fits_at given list_of
 other_kind = refl
 
 -- `{"conflicts_with":["c","b"],"global":true,"id":"a","index":2,"last":true,"required":true,
@@ -139,13 +143,13 @@ with_surroundings : argument_of (object (member (codes "conflicts_with")
       last = true;
       global = true;
     })
-unfolding argument_keys argument_of field_from given list_of
+unfolding argument_keys argument_fits argument_in field_from fits_at given list_of
 with_surroundings = refl
 
 -- `{"conflicts_with":"b","id":"a"}`: another kind
 no_list : argument_of (object (member (codes "conflicts_with") (string (codes "b"))
     (member (codes "id") (string (codes "a")) no_members))) ≡ None
-unfolding argument_keys argument_of field_from given list_of
+unfolding argument_keys argument_fits argument_in field_from fits_at given list_of
 no_list = refl
 
 -- `{"allow_external_subcommands":true,"name":"app"}`
@@ -155,7 +159,7 @@ with_external_subcommands : command_of (object
     ≡ Some (record (new_tree (codes "app")) {
       node = record (new_node (codes "app")) { allow_external_subcommands = true };
     })
-unfolding command_keys field_from given list_of
+unfolding command_keys command_of field_from fits_at given list_of own_fits own_in
 with_external_subcommands = refl
 
 -- `{"id":"b","long":"branch","values_from":["git","branch"],"values_split":":"}`: a command, and what
@@ -170,7 +174,7 @@ with_command : argument_of (object (member (codes "id") (string (codes "b"))
       values_from = Some (codes "git" ∷ codes "branch" ∷ []);
       values_split = Some (codes ":");
     })
-unfolding argument_keys argument_of field_from given list_of
+unfolding argument_keys argument_fits argument_in field_from fits_at given list_of
 with_command = refl
 
 -- an argument with its id and only these members
@@ -183,66 +187,66 @@ words_of program = member (codes "values_from") (array (item (string program) no
 -- a file below the current directory
 with_file : with_members (member (codes "values_file") (string (codes "hosts")) no_members)
     ≡ Some (record (new_arg (codes "x")) { values_file = Some (codes "hosts") })
-unfolding argument_keys argument_of field_from given list_of
+unfolding argument_keys argument_fits argument_in field_from fits_at given list_of
 with_file = refl
 
 -- an absolute path is a program; a relative path, an empty word and `a=b` are none
 absolute_program : is_some (with_members (words_of (codes "/bin/ls"))) ≡ true
-unfolding argument_keys argument_of field_from given list_of
+unfolding argument_keys argument_fits argument_in field_from fits_at given list_of
 absolute_program = refl
 
 relative_program : with_members (words_of (codes "./ls")) ≡ None
-unfolding argument_keys argument_of field_from given list_of
+unfolding argument_keys argument_fits argument_in field_from fits_at given list_of
 relative_program = refl
 
 program_without_name : with_members (words_of []) ≡ None
-unfolding argument_keys argument_of field_from given list_of
+unfolding argument_keys argument_fits argument_in field_from fits_at given list_of
 program_without_name = refl
 
 program_with_equals : with_members (words_of (codes "a=b")) ≡ None
-unfolding argument_keys argument_of field_from given list_of
+unfolding argument_keys argument_fits argument_in field_from fits_at given list_of
 program_with_equals = refl
 
 -- no words, a word with a NUL, and a word with a vertical tab
 no_words : with_members (member (codes "values_from") (array no_items) no_members) ≡ None
-unfolding argument_keys argument_of field_from given list_of
+unfolding argument_keys argument_fits argument_in field_from fits_at given list_of
 no_words = refl
 
 word_with_nul : with_members (member (codes "values_from") (array (item (string (codes "ls"))
     (item (string (97 ∷ 0 ∷ [])) no_items))) no_members) ≡ None
-unfolding argument_keys argument_of field_from given list_of
+unfolding argument_keys argument_fits argument_in field_from fits_at given list_of
 word_with_nul = refl
 
 word_with_tab : with_members (member (codes "values_from") (array (item (string (codes "ls"))
     (item (string (97 ∷ 11 ∷ [])) no_items))) no_members) ≡ None
-unfolding argument_keys argument_of field_from given list_of
+unfolding argument_keys argument_fits argument_in field_from fits_at given list_of
 word_with_tab = refl
 
 -- an empty path, a path with a NUL, and an empty separator
 empty_path : with_members (member (codes "values_file") (string []) no_members) ≡ None
-unfolding argument_keys argument_of field_from given list_of
+unfolding argument_keys argument_fits argument_in field_from fits_at given list_of
 empty_path = refl
 
 path_with_nul : with_members (member (codes "values_file") (string (97 ∷ 0 ∷ [])) no_members) ≡ None
-unfolding argument_keys argument_of field_from given list_of
+unfolding argument_keys argument_fits argument_in field_from fits_at given list_of
 path_with_nul = refl
 
 empty_separator : with_members (member (codes "values_split") (string []) no_members) ≡ None
-unfolding argument_keys argument_of field_from given list_of
+unfolding argument_keys argument_fits argument_in field_from fits_at given list_of
 empty_separator = refl
 
 -- two sources
 command_and_file : with_members (member (codes "values_file") (string (codes "hosts"))
     (words_of (codes "ls"))) ≡ None
-unfolding argument_keys argument_of field_from given list_of
+unfolding argument_keys argument_fits argument_in field_from fits_at given list_of
 command_and_file = refl
 
 command_and_values : with_members (member (codes "possible_values") (array no_items)
     (words_of (codes "ls"))) ≡ None
-unfolding argument_keys argument_of field_from given list_of
+unfolding argument_keys argument_fits argument_in field_from fits_at given list_of
 command_and_values = refl
 
 file_and_values : with_members (member (codes "possible_values") (array no_items)
     (member (codes "values_file") (string (codes "hosts")) no_members)) ≡ None
-unfolding argument_keys argument_of field_from given list_of
+unfolding argument_keys argument_fits argument_in field_from fits_at given list_of
 file_and_values = refl

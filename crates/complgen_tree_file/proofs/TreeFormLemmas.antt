@@ -1,33 +1,15 @@
 -- The readers of a tree file meet its form.
 use Rattle.std.proofs.Common.{◌≡◌, ◌∙◌, ◌<◌, ◌≤◌, ◌+◌, ◌++◌, ℕ, List, [], ◌∷◌, Option, Some, None, ap, sym, refl}
-use Rattle.std.proofs.Common.{length, take, drop, get_or, option_map, arith}
-use Rattle.std.specs.Prelude.{option_and_then, encode_utf8, Err, suc}
+use Rattle.std.proofs.Common.{length, take, get_or, option_map, arith}
+use Rattle.std.specs.Prelude.{option_and_then, encode_utf8}
 use Rattle.std.specs.declared.alloc.Global.{Global}
 use Rattle.std.specs.Str.{IsUtf8, chars}
-use Rattle.std.proofs.lemmas.List.{take_more, take-append-drop}
+use Rattle.std.proofs.lemmas.List.{take_more}
 use Rattle.std.proofs.lemmas.Str.{IsUtf8-past_char, chars_past_char, chars-nil}
-use Rattle.std.proofs.Math.Seq.{drop-cons}
 use Rattle.serde_json.specs.Data.{Data}
 use Rattle.complgen_json.specs.Seen.{items_view, view}
 use Rattle.json.specs.declared.value.Value.{Value}
-use Rattle.complgen_tree_file.specs.TreeForm.{Gives, Sets, all_of, only, pair_of}
-use Rattle.complgen_tree_file.specs.declared.error.TreeError.{TreeError}
-use Rattle.complgen_tree_file.specs.declared.error.TreeError.TheVariants.{BadForm, Memory, NotJson}
-
--- an error that a reader passes on
-pub passes_on : {X Y Z W : Type 0} (f : X → Y) (g : Z → W) (e : TreeError) (o : Option Y) (p : Option W)
-    → Gives f (Err e) o → (o ≡ None → p ≡ None) → Gives g (Err e) p
-passes_on f g BadForm o p given follows = follows given
-passes_on f g NotJson o p given follows = given
-passes_on f g Memory o p given follows = tt
-
--- an error of a step that is passed on
-pub step_passes_on : {S Z W : Type 0} (g : Z → W) (e : TreeError) (change : S → Option S) (old new : S)
-    (p : Option W) → Sets {R = Unit {0}} (Err e) change old new → (change old ≡ None → p ≡ None)
-    → Gives g (Err e) p
-step_passes_on g BadForm change old new p given follows = follows given
-step_passes_on g NotJson change old new p given follows = given
-step_passes_on g Memory change old new p given follows = tt
+use Rattle.complgen_tree_file.specs.TreeForm.{all_of, only, pair_of, with_item}
 
 -- ---- lists
 
@@ -56,25 +38,21 @@ all_of-append read (v ∷ vs) ws =
     (all_of-append read vs ws)
     ∙ both_step (read (view v)) (all_of read (items_view vs)) (all_of read (items_view ws))
 
--- one more item has the form
-pub all_of_next : {X : Type 0} (read : Data → Option X) (vs : List (Value Global)) (k : ℕ) (d : Value Global)
-    (xs : List X) (x : X) → k < length vs → all_of read (items_view (take k vs)) ≡ Some xs
-    → read (view (get_or vs k d)) ≡ Some x
-    → all_of read (items_view (take (k + 1) vs)) ≡ Some (xs ++ x ∷ [])
-all_of_next read vs k d xs x h before here =
+one_item : {X : Type 0} (list : Option (List X)) (o : Option X)
+    → both list (option_and_then (λ x. Some (x ∷ [])) o) ≡ with_item list o
+one_item None o = refl
+one_item (Some xs) None = refl
+one_item (Some xs) (Some x) = refl
+
+-- one more item
+pub all_of_next : {X : Type 0} (read : Data → Option X) (vs : List (Value Global)) (k : ℕ)
+    (d : Value Global) → k < length vs
+    → all_of read (items_view (take (k + 1) vs))
+    ≡ with_item (all_of read (items_view (take k vs))) (read (view (get_or vs k d)))
+all_of_next read vs k d h =
     ap (λ us. all_of read (items_view us)) (take_more vs k d h)
     ∙ all_of-append read (take k vs) (get_or vs k d ∷ [])
-    ∙ rw (before, here) refl
-
--- an item that hasn't the form leaves the list without it
-pub all_of_stops : {X : Type 0} (read : Data → Option X) (vs : List (Value Global)) (k : ℕ) (d : Value Global)
-    (xs : List X) → k < length vs → all_of read (items_view (take k vs)) ≡ Some xs
-    → read (view (get_or vs k d)) ≡ None → all_of read (items_view vs) ≡ None
-all_of_stops read vs k d xs h before here =
-    ap (λ us. all_of read (items_view us))
-    (sym (take-append-drop k vs) ∙ ap (λ us. take k vs ++ us) (drop-cons vs k d h))
-    ∙ all_of-append read (take k vs) (get_or vs k d ∷ drop (suc k) vs)
-    ∙ rw (before, here) refl
+    ∙ one_item (all_of read (items_view (take k vs))) (read (view (get_or vs k d)))
 
 -- a list that isn't of two items is no range
 pub no_pair_below : (vs : List (Value Global)) → length vs < 2 → pair_of (items_view vs) ≡ None

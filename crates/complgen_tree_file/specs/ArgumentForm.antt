@@ -1,14 +1,14 @@
 -- The form of an argument in a tree file: what each of its keys sets.
-use Rattle.std.specs.Prelude.{ℕ, List, [], ◌∷◌, ◌++◌, Option, Some, None, codes, if◌then◌else◌}
+use Rattle.std.specs.Prelude.{ℕ, List, [], ◌∷◌, ◌++◌, Bool, codes}
 use Rattle.serde_json.specs.Data.{Data}
-use Rattle.serde_json.specs.Find.{as_bool, as_str, get}
+use Rattle.serde_json.specs.Find.{as_bool, as_str}
 use Rattle.cc_arg.specs.Arguments.{new_arg}
 use Rattle.cc_arg.specs.declared.parts.ArgParts.{ArgParts as Arg}
-use Rattle.complgen_json.specs.Keys.{has_only}
 use Rattle.complgen_tree_file.specs.PossibleValueForm.{possible_value_of}
 use Rattle.complgen_tree_file.specs.SourceForm.{is_well_sourced}
-use Rattle.complgen_tree_file.specs.TreeForm.{◌>>=◌, Setting, action_of, character_of, given, hint_of}
-use Rattle.complgen_tree_file.specs.TreeForm.{keys_of, list_of, number_of, range_of, set_all, setting}
+use Rattle.complgen_tree_file.specs.TreeForm.{◌>>=◌, Setting, action_of, all_fit, character_of, given}
+use Rattle.complgen_tree_file.specs.TreeForm.{hint_of, is_object_of, keys_of, list_of, number_of}
+use Rattle.complgen_tree_file.specs.TreeForm.{range_of, set_all, setting, text_at}
 
 -- the names
 abbrev pub names : List (Setting Arg)
@@ -100,24 +100,31 @@ argument_keys = codes "id" ∷ ((((((keys_of names ++ keys_of texts) ++ keys_of 
     ++ keys_of sources) ++ keys_of surroundings) ++ keys_of flags) ++ keys_of hidden_aliases)
     ++ keys_of shown_aliases
 
--- the id, of an object with no other keys than an argument's
-abbrev pub id_of : Data → Option (List ℕ)
-id_of d = if has_only argument_keys d then get (codes "id") d >>= as_str else None
+-- whether the values at the keys for the source fit, the source is of good form in an argument with
+-- what they set, and `before` holds
+abbrev pub sources_fit : Data → Arg → Bool → Bool
+sources_fit d argument before =
+    is_well_sourced (set_all sources d argument) (all_fit sources d before)
 
--- an argument, if the source of its values is of good form
-abbrev pub well_sourced : Arg → Option Arg
-well_sourced argument = if is_well_sourced argument then Some argument else None
+-- an argument with what the keys set, other than the id and those of the sources
+abbrev pub with_rest : Data → Arg → Arg
+with_rest d argument = set_all shown_aliases d (set_all hidden_aliases d (set_all flags d
+    (set_all surroundings d (set_all values d (set_all texts d (set_all names d argument))))))
 
--- the fields of the keys for the source of the values
-abbrev pub with_sources : Data → Arg → Option Arg
-with_sources d argument = set_all sources d argument >>= well_sourced
+-- whether the values at these keys fit, and `before` holds
+abbrev pub rest_fits : Data → Bool → Bool
+rest_fits d before = all_fit shown_aliases d (all_fit hidden_aliases d (all_fit flags d
+    (all_fit surroundings d (all_fit values d (all_fit texts d (all_fit names d before))))))
 
--- the fields of the keys other than the id and those of the sources
-abbrev pub with_rest : Data → Arg → Option Arg
-with_rest d argument = set_all names d argument >>= set_all texts d >>= set_all values d
-    >>= set_all surroundings d >>= set_all flags d >>= set_all hidden_aliases d
-    >>= set_all shown_aliases d
+-- a new argument with the id
+abbrev pub with_id : Data → Arg
+with_id d = new_arg (text_at (codes "id") d)
 
--- the argument that an object describes
-unfoldable pub argument_of : Data → Option Arg
-argument_of d = id_of d >>= (λ id. with_sources d (new_arg id) >>= with_rest d)
+-- the argument that an object describes, if it fits
+unfoldable pub argument_in : Data → Arg
+argument_in d = with_rest d (set_all sources d (with_id d))
+
+-- whether a value describes an argument, and `before` holds
+unfoldable pub argument_fits : Data → Bool → Bool
+argument_fits d before = rest_fits d (sources_fit d (with_id d)
+    (is_object_of argument_keys (codes "id") d before))

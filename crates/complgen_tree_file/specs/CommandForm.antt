@@ -1,18 +1,18 @@
 -- The form of a tree file: what each key of a command sets, and its children.
-use Rattle.std.specs.Prelude.{ℕ, List, [], ◌∷◌, ◌++◌, Option, Some, None}
-use Rattle.std.specs.Prelude.{codes, fold, if◌then◌else◌, option_map}
+use Rattle.std.specs.Prelude.{ℕ, List, [], ◌∷◌, ◌++◌, Bool, false, true, Option, Some, None}
+use Rattle.std.specs.Prelude.{codes, fold, if◌then◌else◌}
+use Rattle.std.specs.Option.{option_map_or}
 use Rattle.std.specs.Str.{bytes_eq}
 use Rattle.serde_json.specs.Data.{Data, array, object}
 use Rattle.serde_json.specs.Data.{Items, item, no_items, Members, member, no_members}
-use Rattle.serde_json.specs.Find.{as_bool, as_str, get}
+use Rattle.serde_json.specs.Find.{as_array, as_bool, as_str, get}
 use Rattle.cc_arg.specs.declared.parts.ArgParts.{ArgParts as Arg}
 use Rattle.cc_command.specs.Made.{new_node, of_node, with_argument, with_child}
 use Rattle.cc_command.specs.Tree.{Tree}
 use Rattle.cc_command.specs.declared.node.Node.{Node}
-use Rattle.complgen_json.specs.Keys.{has_only}
-use Rattle.complgen_tree_file.specs.ArgumentForm.{argument_of}
-use Rattle.complgen_tree_file.specs.TreeForm.{◌>>=◌, Setting, given, keys_of, list_of, number_of, set_all}
-use Rattle.complgen_tree_file.specs.TreeForm.{setting, with_key}
+use Rattle.complgen_tree_file.specs.ArgumentForm.{argument_fits, argument_in}
+use Rattle.complgen_tree_file.specs.TreeForm.{Setting, all_fit, each_fits, each_in, given, is_object_of}
+use Rattle.complgen_tree_file.specs.TreeForm.{keys_of, list_of, number_of, set_all, setting, text_at}
 
 -- the texts of the command that help texts show
 abbrev pub texts : List (Setting Node)
@@ -77,47 +77,82 @@ unfoldable pub command_keys : List (List ℕ)
 command_keys = codes "name" ∷ ((((keys_of texts ++ keys_of names) ++ keys_of surroundings)
     ++ keys_of flags) ++ keys_of rules) ++ codes "args" ∷ codes "subcommands" ∷ []
 
--- a list of arguments
-abbrev pub arguments_of : Data → Option (List Arg)
-arguments_of = list_of argument_of
+-- the arguments that a list describes, if it fits
+abbrev pub arguments_in : Data → List Arg
+arguments_in d = option_map_or (each_in argument_in) (as_array d) []
 
--- the node with the arguments at their key added
-abbrev pub with_args : Data → Node → Option Node
-with_args = with_key (codes "args") arguments_of (fold with_argument)
+-- whether a value is a list of arguments, and `before` holds
+abbrev pub arguments_fit : Data → Bool → Bool
+arguments_fit d before = option_map_or (λ ds. each_fits argument_fits ds before) (as_array d) false
 
--- the name, of an object with no other keys than a command's
-abbrev pub name_of : Data → Option (List ℕ)
-name_of d = if has_only command_keys d then get (codes "name") d >>= as_str else None
+-- a node with the arguments at their key added
+abbrev pub with_args : Data → Node → Node
+with_args d node = fold with_argument node (option_map_or arguments_in (get (codes "args") d) [])
 
--- the fields of the keys other than the name and the children
-abbrev pub with_rest : Data → Node → Option Node
-with_rest d node = set_all texts d node >>= set_all names d >>= set_all surroundings d
-    >>= set_all flags d >>= set_all rules d >>= with_args d
+-- whether the value at that key fits, if there is one, and `before` holds
+abbrev pub args_fit : Data → Bool → Bool
+args_fit d before =
+    option_map_or (λ list. arguments_fit list before) (get (codes "args") d) before
 
--- the node of the command that an object describes
-abbrev pub own_of : Data → Option Node
-own_of d = name_of d >>= (λ name. with_rest d (new_node name))
+-- a node with what the keys set, other than the name, the arguments and the children
+abbrev pub with_rest : Data → Node → Node
+with_rest d node = set_all rules d (set_all flags d (set_all surroundings d
+    (set_all names d (set_all texts d node))))
+
+-- whether the values at these keys fit, and `before` holds
+abbrev pub rest_fits : Data → Bool → Bool
+rest_fits d before = all_fit rules d (all_fit flags d (all_fit surroundings d
+    (all_fit names d (all_fit texts d before))))
+
+-- the node of the command that an object describes, if it fits
+unfoldable pub own_in : Data → Node
+own_in d = with_args d (with_rest d (new_node (text_at (codes "name") d)))
+
+-- whether a value without its children describes a command, and `before` holds
+unfoldable pub own_fits : Data → Bool → Bool
+own_fits d before = args_fit d (rest_fits d (is_object_of command_keys (codes "name") d before))
 
 abbrev mutual
-  -- the command that an object describes: its own, with each of the children added
-  pub command_of : Data → Option Tree
-  command_of (object ms) =
-      own_of (object ms) >>= (λ own. option_map (fold with_child (of_node own)) (children_in ms))
-  command_of _ = None
+  -- the command that a value describes, if it fits: its own, with each of the children added
+  pub command_in : Data → Tree
+  command_in (object ms) = fold with_child (of_node (own_in (object ms))) (children_in ms)
+  command_in d = of_node (own_in d)
 
-  -- the commands that the children of an object describe; an object without the key has none
-  pub children_in : Members → Option (List Tree)
-  children_in no_members = Some []
+  -- the children of an object; one without the key has none
+  pub children_in : Members → List Tree
+  children_in no_members = []
   children_in (member key d ms) =
-      if bytes_eq (codes "subcommands") key then commands_of d else children_in ms
+      if bytes_eq (codes "subcommands") key then commands_in d else children_in ms
 
-  -- a list of commands
-  pub commands_of : Data → Option (List Tree)
-  commands_of (array ds) = each_command ds
-  commands_of _ = None
+  -- the commands of a list
+  pub commands_in : Data → List Tree
+  commands_in (array ds) = each_command ds
+  commands_in _ = []
 
-  -- the command that each item describes
-  pub each_command : Items → Option (List Tree)
-  each_command no_items = Some []
-  each_command (item d ds) =
-      command_of d >>= (λ command. option_map (λ commands. command ∷ commands) (each_command ds))
+  pub each_command : Items → List Tree
+  each_command no_items = []
+  each_command (item d ds) = command_in d ∷ each_command ds
+
+abbrev mutual
+  -- whether a value and its children describe commands, and `before` holds
+  pub command_fits : Data → Bool → Bool
+  command_fits (object ms) before = children_fit ms (own_fits (object ms) before)
+  command_fits d before = own_fits d before
+
+  pub children_fit : Members → Bool → Bool
+  children_fit no_members before = before
+  children_fit (member key d ms) before =
+      if bytes_eq (codes "subcommands") key then commands_fit d before else children_fit ms before
+
+  -- whether a value is a list of commands, and `before` holds
+  pub commands_fit : Data → Bool → Bool
+  commands_fit (array ds) before = each_command_fits ds before
+  commands_fit _ before = false
+
+  pub each_command_fits : Items → Bool → Bool
+  each_command_fits no_items before = before
+  each_command_fits (item d ds) before = each_command_fits ds (command_fits d before)
+
+-- the command that a value describes
+unfoldable pub command_of : Data → Option Tree
+command_of d = if command_fits d true then Some (command_in d) else None

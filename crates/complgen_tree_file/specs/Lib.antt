@@ -1,6 +1,7 @@
 pub mod ArgumentForm
 pub mod CommandForm
 pub mod Faults
+pub mod Kinds
 pub mod PossibleValueForm
 pub mod SourceForm
 pub mod Slots

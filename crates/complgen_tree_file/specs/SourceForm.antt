@@ -30,11 +30,11 @@ abbrev pub has_one_source : Arg → Bool
 has_one_source argument = at_most_one
     (is_some argument.values_from) (is_some argument.values_file) (is_some argument.possible_values)
 
--- The argument names at most one source of its values. A command can be run, a path is not empty
--- and has no NUL, and a separator is not empty.
-abbrev pub is_well_sourced : Arg → Bool
-is_well_sourced argument =
-    ((passes_if_there is_runnable argument.values_from
+-- The argument names at most one source of its values, and `before` holds. A command can be run, a
+-- path is not empty and has no NUL, and a separator is not empty.
+abbrev pub is_well_sourced : Arg → Bool → Bool
+is_well_sourced argument before =
+    (((before && passes_if_there is_runnable argument.values_from)
     && passes_if_there is_path argument.values_file)
     && passes_if_there is_separator argument.values_split)
     && has_one_source argument

@@ -1,11 +1,12 @@
 -- The form of a tree file: what each kind of value is read as.
-use Rattle.std.specs.Prelude.{◌≡◌, ◌&&◌, ⊤, ◌-◌, ◌^◌, ℕ, List, [], ◌∷◌, Option, Some, None}
-use Rattle.std.specs.Prelude.{Result, Ok, Err, if◌then◌else◌, nat_le, codes}
-use Rattle.std.specs.Prelude.{Bool, true, is_some, map, option_and_then, option_map}
+use Rattle.std.specs.Prelude.{◌&&◌, ◌-◌, ◌^◌, ℕ, List, [], ◌∷◌, ◌++◌, Option, Some, None}
+use Rattle.std.specs.Prelude.{if◌then◌else◌, nat_le, codes}
+use Rattle.std.specs.Prelude.{Bool, true, is_some, map, option_and_then, option_map, unwrap_or}
 use Rattle.std.specs.Str.{bytes_eq, chars}
 use Rattle.serde_json.specs.Data.{Data, null, boolean, number, string, array, object, Items, item}
 use Rattle.serde_json.specs.Data.{no_items}
 use Rattle.serde_json.specs.Find.{as_array, as_number, as_str, as_u64, get}
+use Rattle.complgen_json.specs.Keys.{has_only}
 use Rattle.cc_arg.specs.declared.action.ArgAction.{ArgAction}
 use Rattle.cc_arg.specs.declared.action.ArgAction.TheVariants.{Set, Append, SetTrue, SetFalse}
 use Rattle.cc_arg.specs.declared.action.ArgAction.TheVariants.{Count, Help, HelpShort, HelpLong}
@@ -17,28 +18,6 @@ use Rattle.cc_arg.specs.declared.value_hint.ValueHint.TheVariants.{FilePath, Dir
 use Rattle.cc_arg.specs.declared.value_hint.ValueHint.TheVariants.{CommandName, CommandString}
 use Rattle.cc_arg.specs.declared.value_hint.ValueHint.TheVariants.{CommandWithArguments, Username}
 use Rattle.cc_arg.specs.declared.value_hint.ValueHint.TheVariants.{Hostname, Url, EmailAddress}
-use Rattle.complgen_tree_file.specs.declared.error.TreeError.{TreeError}
-use Rattle.complgen_tree_file.specs.declared.error.TreeError.TheVariants.{BadForm, Memory, NotJson}
-
--- a reader returns what is defined, as seen by the view, and fails with bad form exactly where
--- nothing is defined; it may be out of memory
-abbrev pub Gives : {X Y : Type 0} → (X → Y) → Result X TreeError → Option Y → Type 0
-Gives view (Ok x) defined = defined ≡ Some (view x)
-Gives view (Err BadForm) defined = defined ≡ None
-Gives view (Err NotJson) defined = ⊥
-Gives view (Err Memory) defined = ⊤
-
--- the same for a reader whose result is seen as it is
-abbrev pub GivesSame : {X : Type 0} → Result X TreeError → Option X → Type 0
-GivesSame = Gives (λ x. x)
-
--- a step changes its subject as `change` defines, and fails with bad form exactly if that defines
--- nothing; it may be out of memory
-abbrev pub Sets : {R S : Type 0} → Result R TreeError → (S → Option S) → S → S → Type 0
-Sets (Ok done) change old new = change old ≡ Some new
-Sets (Err BadForm) change old new = change old ≡ None
-Sets (Err NotJson) change old new = ⊥
-Sets (Err Memory) change old new = ⊤
 
 -- the next step, if there is a value
 infixl 10 ◌>>=◌
@@ -64,6 +43,10 @@ abbrev pub all_of : {X : Type 0} → (Data → Option X) → Items → Option (L
 all_of read no_items = Some []
 all_of read (item d ds) =
     option_and_then (λ x. option_map (λ xs. x ∷ xs) (all_of read ds)) (read d)
+
+-- a list with one more item, if both are there
+abbrev pub with_item : {X : Type 0} → Option (List X) → Option X → Option (List X)
+with_item list o = option_and_then (λ xs. option_map (λ x. xs ++ x ∷ []) o) list
 
 -- a list whose items are each of the kind
 unfoldable pub list_of : {X : Type 0} → (Data → Option X) → Data → Option (List X)
@@ -131,15 +114,10 @@ hint_of name = if bytes_eq name (codes "Unknown") then Some Unknown
     else if bytes_eq name (codes "EmailAddress") then Some EmailAddress
     else None
 
--- a field after a value was read into it; it stays if there is no value, and nothing is defined if
--- the value is of another kind
-abbrev pub value_or : {X : Type 0} → (Data → Option X) → X → Option Data → Option X
-value_or read held None = Some held
-value_or read held (Some d) = read d
-
--- a field after the value at a key was read into it
-unfoldable pub field_from : {X : Type 0} → List ℕ → (Data → Option X) → Data → X → Option X
-field_from key read d held = value_or read held (get key d)
+-- a field after the value at a key was read into it; it stays if there is no value, or one of
+-- another kind
+unfoldable pub field_from : {X : Type 0} → List ℕ → (Data → Option X) → Data → X → X
+field_from key read d held = unwrap_or (get key d >>= read) held
 
 -- whether there is no value, or one of the kind
 abbrev pub fits_if_there : {X : Type 0} → (Data → Option X) → Option Data → Bool
@@ -154,38 +132,49 @@ fits_at key read d = fits_if_there read (get key d)
 pub record Setting (S : Type 0) : Type 0 where
   pub key : List ℕ
   pub fits : Data → Bool
-  pub change : Data → S → Option S
+  pub change : Data → S → S
 
 -- the value at a key, read into a field
 abbrev pub setting : {S X : Type 0} → List ℕ → (Data → Option X) → (S → X) → (S → X → S) → Setting S
 setting key read field with_field = record {
   key = key;
   fits = fits_at key read;
-  change = λ d subject. option_map (with_field subject) (field_from key read d (field subject));
+  change = λ d subject. with_field subject (field_from key read d (field subject));
 }
 
 -- the keys of some settings
 abbrev pub keys_of : {S : Type 0} → List (Setting S) → List (List ℕ)
 keys_of settings = map (λ one. one.key) settings
 
--- whether each of some settings fits, and what is known before holds
+-- whether each of some settings fits, and `before` holds
 abbrev pub all_fit : {S : Type 0} → List (Setting S) → Data → Bool → Bool
 all_fit [] d before = before
 all_fit (one ∷ settings) d before = all_fit settings d (before && one.fits d)
 
 -- a subject changed by each of some settings
-abbrev pub set_all : {S : Type 0} → List (Setting S) → Data → S → Option S
-set_all [] d subject = Some subject
-set_all (one ∷ settings) d subject = one.change d subject >>= set_all settings d
+abbrev pub set_all : {S : Type 0} → List (Setting S) → Data → S → S
+set_all [] d subject = subject
+set_all (one ∷ settings) d subject = set_all settings d (one.change d subject)
 
--- a subject after a value was added; it stays if there is no value, and nothing is defined if the
--- value is of another kind
-abbrev pub with_value : {S X : Type 0} → (Data → Option X) → (S → X → S) → S → Option Data
-    → Option S
-with_value kind set subject None = Some subject
-with_value kind set subject (Some d) = option_map (set subject) (kind d)
+-- the text at a key; empty if there is none
+abbrev pub text_at : List ℕ → Data → List ℕ
+text_at key d = unwrap_or (get key d >>= as_str) []
 
--- what the value at a key adds to a subject
-abbrev pub with_key : {S X : Type 0} → List ℕ → (Data → Option X) → (S → X → S) → Data → S
-    → Option S
-with_key key kind set d subject = with_value kind set subject (get key d)
+-- whether there is a text at a key
+abbrev pub has_text_at : List ℕ → Data → Bool
+has_text_at key d = is_some (get key d >>= as_str)
+
+-- whether a value is an object with no other keys than these and with a text at one of them, and
+-- `before` holds
+abbrev pub is_object_of : List (List ℕ) → List ℕ → Data → Bool → Bool
+is_object_of keys needed d before = (before && has_only keys d) && has_text_at needed d
+
+-- what is made of each item
+abbrev pub each_in : {X : Type 0} → (Data → X) → Items → List X
+each_in make no_items = []
+each_in make (item d ds) = make d ∷ each_in make ds
+
+-- whether each item fits, and `before` holds
+abbrev pub each_fits : (Data → Bool → Bool) → Items → Bool → Bool
+each_fits fits no_items before = before
+each_fits fits (item d ds) before = each_fits fits ds (fits d before)

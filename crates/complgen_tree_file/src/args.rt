@@ -1,22 +1,24 @@
 //! Reads the arguments of a tree file.
 
-ghost use Rattle.std.specs.Prelude.{◌≡◌, None, codes, get_or, replicate};
-ghost use Rattle.serde_json.specs.Find.{get};
+ghost use Rattle.std.specs.Prelude.{◌≡◌, IfOk, None, codes, replicate};
 ghost use Rattle.complgen_json.specs.Seen.{view};
 ghost use Rattle.complgen_json.specs.Keys.{has_only};
-ghost use Rattle.complgen_json.specs.Slots.{Hold, held, values_at};
+ghost use Rattle.complgen_json.specs.Slots.{Hold, values_at};
 ghost use Rattle.complgen_tree_file.specs.ArgumentForm as form;
+ghost use Rattle.complgen_tree_file.specs.Faults.{Makes};
 ghost use Rattle.complgen_tree_file.specs.Slots.{AreHeldFrom};
-ghost use Rattle.complgen_tree_file.specs.TreeForm.{Gives, GivesSame, Sets, set_all};
+ghost use Rattle.complgen_tree_file.specs.TreeForm.{all_fit, is_object_of, set_all, text_at};
 
-use crate::error::TreeError;
+use crate::faults::Faults;
 use crate::keys::{all_keys, only_in, set_group};
+use crate::kinds::ObjectKind;
+use crate::objects::needed_text;
 use crate::sources::set_sources;
-use crate::values::{FromValue, MOST_KEYS, set};
+use crate::values::{MOST_KEYS, set};
 use cc_arg::{Arg, ArgParts};
 use cc_base::Text;
 use complgen_json::{Value, find_keys};
-use std::alloc::Global;
+use std::alloc::AllocError;
 
 // One line for each key: its index, the key, its group, and the field that it sets. The id is read
 // first.
@@ -60,30 +62,29 @@ pub(crate) use each_key;
 
 pub(crate) const KEYS: &[&str] = each_key!(all_keys!);
 
-/// Returns the argument that `tree` describes.
+/// Reads an argument. Notes what is wrong with `tree`; the result then does not count.
 ///
 /// # Errors
 ///
-/// `BadForm` if `tree` describes no argument, `Memory` if an allocation fails.
-#[tactic(auto, unfolding(crate::specs::ArgumentForm::argument_of))]
-pub fn arg(alloc: Global, tree: &Value<'_>) -> Result<Arg, TreeError>
-    ensures { GivesSame result (form.argument_of (view tree.now)) }
+/// `AllocError` if an allocation fails.
+#[tactic(auto, unfolding(crate::specs::ArgumentForm::argument_in, crate::specs::ArgumentForm::argument_fits))]
+pub fn arg<'t>(faults: &mut Faults<'t>, tree: &Value<'t>) -> Result<Arg, AllocError>
+    ensures { IfOk result (λ arg. Makes (form.argument_in (view tree.now))
+        (form.argument_fits (view tree.now)) arg faults.old faults.new) }
 {
     let mut slots = [None; MOST_KEYS];
     let has_only_keys = find_values(&mut slots, tree);
-    let mut parts = ArgParts::new(alloc, id(alloc, tree, &slots, has_only_keys)?);
-    set_sources(&mut parts, alloc, tree, &slots)?;
-    set_rest(&mut parts, alloc, tree, &slots)?;
+    let id = read_id(faults, tree, &slots, has_only_keys)?;
+    let mut parts = ArgParts::new(faults.allocator(), id);
+    set_sources(&mut parts, faults, tree, &slots)?;
+    set_rest(&mut parts, faults, tree, &slots)?;
     Ok(Arg::from(parts))
 }
 
-/// Puts the values at the keys of an argument into their slots. Returns whether `tree` is an object
-/// that has no other keys.
+// Puts the values at the keys of an argument into their slots. Returns whether `tree` is an object
+// that has no other keys.
 #[tactic(auto, unfolding(crate::specs::ArgumentForm::argument_keys))]
-pub(crate) fn find_values<'v, 't>(
-    slots: &mut [Option<&'v Value<'t>>; MOST_KEYS],
-    tree: &'v Value<'t>,
-) -> bool
+fn find_values<'v, 't>(slots: &mut [Option<&'v Value<'t>>; MOST_KEYS], tree: &'v Value<'t>) -> bool
     requires { slots.old ≡ replicate 28 None }
     ensures known { result ≡ has_only form.argument_keys (view tree.now) }
     ensures found { Hold slots.new (values_at form.argument_keys (view tree.now)) }
@@ -91,129 +92,135 @@ pub(crate) fn find_values<'v, 't>(
     find_keys(slots, tree, KEYS)
 }
 
-// Returns the id of an object that has only keys of an argument.
-fn id(
-    alloc: Global,
-    _tree: &Value<'_>,
-    slots: &[Option<&Value<'_>>; MOST_KEYS],
+fn read_id<'t>(
+    faults: &mut Faults<'t>,
+    tree: &Value<'t>,
+    slots: &[Option<&Value<'t>>; MOST_KEYS],
     has_only_keys: bool,
-) -> Result<Text, TreeError>
-    requires known { has_only_keys ≡ has_only form.argument_keys (view _tree.now) }
-    requires found { held (get_or slots.now 0 None) ≡ get (codes "id") (view _tree.now) }
-    ensures { GivesSame result (form.id_of (view _tree.now)) }
+) -> Result<Text, AllocError>
+    requires known { has_only_keys ≡ has_only form.argument_keys (view tree.now) }
+    requires found { Hold slots.now (values_at form.argument_keys (view tree.now)) }
+    ensures { IfOk result (λ id. Makes (text_at (codes "id") (view tree.now))
+        (is_object_of form.argument_keys (codes "id") (view tree.now)) id
+        faults.old faults.new) }
 {
-    if !has_only_keys {
-        return Err(TreeError::BadForm);
-    }
-    Text::from_value(alloc, slots[0].ok_or(TreeError::BadForm)?)
+    needed_text(faults, tree, slots[0], has_only_keys, ObjectKind::Argument)
 }
 
 // Sets the fields of the keys other than the id and those of the sources.
-fn set_rest(
+fn set_rest<'t>(
     parts: &mut ArgParts,
-    alloc: Global,
-    tree: &Value<'_>,
-    slots: &[Option<&Value<'_>>; MOST_KEYS],
-) -> Result<(), TreeError>
+    faults: &mut Faults<'t>,
+    tree: &Value<'t>,
+    slots: &[Option<&Value<'t>>; MOST_KEYS],
+) -> Result<(), AllocError>
     requires { Hold slots.now (values_at form.argument_keys (view tree.now)) }
-    ensures { Sets result (form.with_rest (view tree.now)) parts.old parts.new }
+    ensures { IfOk result (λ _. Makes (form.with_rest (view tree.now) parts.old)
+        (form.rest_fits (view tree.now)) parts.new faults.old faults.new) }
 {
-    set_names(parts, alloc, tree, slots)?;
-    set_texts(parts, alloc, tree, slots)?;
-    set_values(parts, alloc, tree, slots)?;
-    set_surroundings(parts, alloc, tree, slots)?;
-    set_flags(parts, alloc, tree, slots)?;
-    set_hidden_aliases(parts, alloc, tree, slots)?;
-    set_shown_aliases(parts, alloc, tree, slots)
+    set_names(parts, faults, tree, slots)?;
+    set_texts(parts, faults, tree, slots)?;
+    set_values(parts, faults, tree, slots)?;
+    set_surroundings(parts, faults, tree, slots)?;
+    set_flags(parts, faults, tree, slots)?;
+    set_hidden_aliases(parts, faults, tree, slots)?;
+    set_shown_aliases(parts, faults, tree, slots)
 }
 
-fn set_names(
+fn set_names<'t>(
     parts: &mut ArgParts,
-    alloc: Global,
-    tree: &Value<'_>,
-    slots: &[Option<&Value<'_>>; MOST_KEYS],
-) -> Result<(), TreeError>
+    faults: &mut Faults<'t>,
+    tree: &Value<'t>,
+    slots: &[Option<&Value<'t>>; MOST_KEYS],
+) -> Result<(), AllocError>
     requires { AreHeldFrom 1 form.names slots.now (view tree.now) }
-    ensures { Sets result (set_all form.names (view tree.now)) parts.old parts.new }
+    ensures { IfOk result (λ _. Makes (set_all form.names (view tree.now) parts.old)
+        (all_fit form.names (view tree.now)) parts.new faults.old faults.new) }
 {
-    each_key!(set_group! names, parts, alloc, tree, slots);
+    each_key!(set_group! names, parts, faults, tree, slots);
     Ok(())
 }
 
-fn set_texts(
+fn set_texts<'t>(
     parts: &mut ArgParts,
-    alloc: Global,
-    tree: &Value<'_>,
-    slots: &[Option<&Value<'_>>; MOST_KEYS],
-) -> Result<(), TreeError>
+    faults: &mut Faults<'t>,
+    tree: &Value<'t>,
+    slots: &[Option<&Value<'t>>; MOST_KEYS],
+) -> Result<(), AllocError>
     requires { AreHeldFrom 3 form.texts slots.now (view tree.now) }
-    ensures { Sets result (set_all form.texts (view tree.now)) parts.old parts.new }
+    ensures { IfOk result (λ _. Makes (set_all form.texts (view tree.now) parts.old)
+        (all_fit form.texts (view tree.now)) parts.new faults.old faults.new) }
 {
-    each_key!(set_group! texts, parts, alloc, tree, slots);
+    each_key!(set_group! texts, parts, faults, tree, slots);
     Ok(())
 }
 
-fn set_values(
+fn set_values<'t>(
     parts: &mut ArgParts,
-    alloc: Global,
-    tree: &Value<'_>,
-    slots: &[Option<&Value<'_>>; MOST_KEYS],
-) -> Result<(), TreeError>
+    faults: &mut Faults<'t>,
+    tree: &Value<'t>,
+    slots: &[Option<&Value<'t>>; MOST_KEYS],
+) -> Result<(), AllocError>
     requires { AreHeldFrom 5 form.values slots.now (view tree.now) }
-    ensures { Sets result (set_all form.values (view tree.now)) parts.old parts.new }
+    ensures { IfOk result (λ _. Makes (set_all form.values (view tree.now) parts.old)
+        (all_fit form.values (view tree.now)) parts.new faults.old faults.new) }
 {
-    each_key!(set_group! values, parts, alloc, tree, slots);
+    each_key!(set_group! values, parts, faults, tree, slots);
     Ok(())
 }
 
-fn set_surroundings(
+fn set_surroundings<'t>(
     parts: &mut ArgParts,
-    alloc: Global,
-    tree: &Value<'_>,
-    slots: &[Option<&Value<'_>>; MOST_KEYS],
-) -> Result<(), TreeError>
+    faults: &mut Faults<'t>,
+    tree: &Value<'t>,
+    slots: &[Option<&Value<'t>>; MOST_KEYS],
+) -> Result<(), AllocError>
     requires { AreHeldFrom 15 form.surroundings slots.now (view tree.now) }
-    ensures { Sets result (set_all form.surroundings (view tree.now)) parts.old parts.new }
+    ensures { IfOk result (λ _. Makes (set_all form.surroundings (view tree.now) parts.old)
+        (all_fit form.surroundings (view tree.now)) parts.new faults.old faults.new) }
 {
-    each_key!(set_group! surroundings, parts, alloc, tree, slots);
+    each_key!(set_group! surroundings, parts, faults, tree, slots);
     Ok(())
 }
 
-fn set_flags(
+fn set_flags<'t>(
     parts: &mut ArgParts,
-    alloc: Global,
-    tree: &Value<'_>,
-    slots: &[Option<&Value<'_>>; MOST_KEYS],
-) -> Result<(), TreeError>
+    faults: &mut Faults<'t>,
+    tree: &Value<'t>,
+    slots: &[Option<&Value<'t>>; MOST_KEYS],
+) -> Result<(), AllocError>
     requires { AreHeldFrom 19 form.flags slots.now (view tree.now) }
-    ensures { Sets result (set_all form.flags (view tree.now)) parts.old parts.new }
+    ensures { IfOk result (λ _. Makes (set_all form.flags (view tree.now) parts.old)
+        (all_fit form.flags (view tree.now)) parts.new faults.old faults.new) }
 {
-    each_key!(set_group! flags, parts, alloc, tree, slots);
+    each_key!(set_group! flags, parts, faults, tree, slots);
     Ok(())
 }
 
-fn set_hidden_aliases(
+fn set_hidden_aliases<'t>(
     parts: &mut ArgParts,
-    alloc: Global,
-    tree: &Value<'_>,
-    slots: &[Option<&Value<'_>>; MOST_KEYS],
-) -> Result<(), TreeError>
+    faults: &mut Faults<'t>,
+    tree: &Value<'t>,
+    slots: &[Option<&Value<'t>>; MOST_KEYS],
+) -> Result<(), AllocError>
     requires { AreHeldFrom 24 form.hidden_aliases slots.now (view tree.now) }
-    ensures { Sets result (set_all form.hidden_aliases (view tree.now)) parts.old parts.new }
+    ensures { IfOk result (λ _. Makes (set_all form.hidden_aliases (view tree.now) parts.old)
+        (all_fit form.hidden_aliases (view tree.now)) parts.new faults.old faults.new) }
 {
-    each_key!(set_group! hidden_aliases, parts, alloc, tree, slots);
+    each_key!(set_group! hidden_aliases, parts, faults, tree, slots);
     Ok(())
 }
 
-fn set_shown_aliases(
+fn set_shown_aliases<'t>(
     parts: &mut ArgParts,
-    alloc: Global,
-    tree: &Value<'_>,
-    slots: &[Option<&Value<'_>>; MOST_KEYS],
-) -> Result<(), TreeError>
+    faults: &mut Faults<'t>,
+    tree: &Value<'t>,
+    slots: &[Option<&Value<'t>>; MOST_KEYS],
+) -> Result<(), AllocError>
     requires { AreHeldFrom 26 form.shown_aliases slots.now (view tree.now) }
-    ensures { Sets result (set_all form.shown_aliases (view tree.now)) parts.old parts.new }
+    ensures { IfOk result (λ _. Makes (set_all form.shown_aliases (view tree.now) parts.old)
+        (all_fit form.shown_aliases (view tree.now)) parts.new faults.old faults.new) }
 {
-    each_key!(set_group! shown_aliases, parts, alloc, tree, slots);
+    each_key!(set_group! shown_aliases, parts, faults, tree, slots);
     Ok(())
 }

@@ -1,25 +1,27 @@
 //! Reads the command of a tree file.
 
-ghost use Rattle.std.specs.Prelude.{◌≡◌, None, codes, fold, get_or, option_map, replicate};
+ghost use Rattle.std.specs.Prelude.{◌≡◌, IfOk, None, codes, fold, get_or, replicate};
 ghost use Rattle.serde_json.specs.Find.{get};
 ghost use Rattle.complgen_json.specs.Seen.{view};
 ghost use Rattle.complgen_json.specs.Keys.{has_only};
 ghost use Rattle.complgen_json.specs.Slots.{Hold, held, values_at};
 ghost use Rattle.cc_command.specs.Made.{with_argument, with_child};
 ghost use Rattle.complgen_tree_file.specs.CommandForm as form;
+ghost use Rattle.complgen_tree_file.specs.Faults.{Makes};
 ghost use Rattle.complgen_tree_file.specs.Slots.{AreHeldFrom};
-ghost use Rattle.complgen_tree_file.specs.TreeForm.{Gives, GivesSame, Sets, set_all};
+ghost use Rattle.complgen_tree_file.specs.TreeForm.{all_fit, set_all};
 
 use crate::args::arg;
-use crate::error::TreeError;
+use crate::faults::{FaultKind, Faults, Step};
 use crate::keys::{all_keys, only_in, set_group};
-use crate::values::{FromValue, MOST_KEYS, set};
-use cc_base::Text;
+use crate::kinds::{ObjectKind, ValueKind};
+use crate::objects::needed_text;
+use crate::values::{MOST_KEYS, set};
 use cc_command::{
     Command, Node, add_argument, add_child, from_node, reserve_arguments, reserve_children,
 };
 use complgen_json::{Value, find_keys};
-use std::alloc::Global;
+use std::alloc::AllocError;
 
 // One line for each key: its index, the key, its group, and the field that it sets. The name, the
 // arguments and the children are read by functions of their own.
@@ -51,26 +53,29 @@ macro_rules! each_key {
     };
 }
 
-pub(crate) use each_key;
-
 pub(crate) const KEYS: &[&str] = each_key!(all_keys!);
 
-/// Returns the command that `tree` describes, with its children.
+/// Reads a command with its children. Notes what is wrong with `tree`; the result then does not
+/// count.
 ///
 /// # Errors
 ///
-/// `BadForm` if `tree` describes no command, `Memory` if an allocation fails.
+/// `AllocError` if an allocation fails.
 #[cycle(commands)]
-pub fn command(alloc: Global, tree: &Value<'_>) -> Result<Command, TreeError>
-    ensures { GivesSame result (form.command_of (view tree.now)) }
+pub fn read_command<'t>(faults: &mut Faults<'t>, tree: &Value<'t>) -> Result<Command, AllocError>
+    ensures { IfOk result (λ command. Makes (form.command_in (view tree.now))
+        (form.command_fits (view tree.now)) command faults.old faults.new) }
 {
     let mut slots = [None; MOST_KEYS];
     let has_only_keys = find_values(&mut slots, tree);
-    let mut command = from_node(alloc, own(alloc, tree, &slots, has_only_keys)?);
+    let node = own(faults, tree, &slots, has_only_keys)?;
+    let mut command = from_node(faults.allocator(), node);
     let Some(value) = children(tree, &slots) else {
         return Ok(command);
     };
-    add_children(&mut command, alloc, value)?;
+    let before = faults.count();
+    add_children(&mut command, faults, value)?;
+    faults.put_before(before, Step::Key("subcommands"))?;
     Ok(command)
 }
 
@@ -87,15 +92,24 @@ fn children<'v, 't>(
 
 // Adds the children that a list describes, each as it is read.
 #[cycle(commands)]
-fn add_children(parent: &mut Command, alloc: Global, value: &Value<'_>) -> Result<(), TreeError>
-    ensures { Sets result (λ parent. option_map (fold with_child parent)
-        (form.commands_of (view value.now))) parent.old parent.new }
+fn add_children<'t>(
+    parent: &mut Command,
+    faults: &mut Faults<'t>,
+    value: &Value<'t>,
+) -> Result<(), AllocError>
+    ensures { IfOk result (λ _. Makes
+        (fold with_child parent.old (form.commands_in (view value.now)))
+        (form.commands_fit (view value.now)) parent.new faults.old faults.new) }
 {
-    let items = complgen_json::items(value).ok_or(TreeError::BadForm)?;
+    let Some(items) = complgen_json::items(value) else {
+        return faults.note(FaultKind::NoList(ValueKind::Object(ObjectKind::Command)));
+    };
     // Building may add the child `help`.
     reserve_children(parent, items.len().saturating_add(1))?;
-    for item in items {
-        add_child(parent, command(alloc, item)?)?;
+    for (index, item) in items.iter().enumerate() {
+        let before = faults.count();
+        add_child(parent, read_command(faults, item)?)?;
+        faults.put_before(before, Step::Item(index))?;
     }
     Ok(())
 }
@@ -111,148 +125,151 @@ fn find_values<'v, 't>(slots: &mut [Option<&'v Value<'t>>; MOST_KEYS], tree: &'v
     find_keys(slots, tree, KEYS)
 }
 
-// Returns the node of the command that an object describes.
-fn own(
-    alloc: Global,
-    tree: &Value<'_>,
-    slots: &[Option<&Value<'_>>; MOST_KEYS],
+// Reads the node of a command.
+#[tactic(auto, unfolding(crate::specs::CommandForm::own_in, crate::specs::CommandForm::own_fits))]
+fn own<'t>(
+    faults: &mut Faults<'t>,
+    tree: &Value<'t>,
+    slots: &[Option<&Value<'t>>; MOST_KEYS],
     has_only_keys: bool,
-) -> Result<Node, TreeError>
+) -> Result<Node, AllocError>
     requires known { has_only_keys ≡ has_only form.command_keys (view tree.now) }
     requires found { Hold slots.now (values_at form.command_keys (view tree.now)) }
-    ensures { GivesSame result (form.own_of (view tree.now)) }
+    ensures { IfOk result (λ node. Makes (form.own_in (view tree.now))
+        (form.own_fits (view tree.now)) node faults.old faults.new) }
 {
-    let mut node = Node::new(alloc, name(alloc, tree, slots, has_only_keys)?);
-    set_rest(&mut node, alloc, tree, slots)?;
+    let name = needed_text(faults, tree, slots[0], has_only_keys, ObjectKind::Command)?;
+    let mut node = Node::new(faults.allocator(), name);
+    set_rest(&mut node, faults, tree, slots)?;
+    add_args(&mut node, faults, tree, slots)?;
     Ok(node)
 }
 
-// Returns the name of an object that has only keys of a command.
-fn name(
-    alloc: Global,
-    _tree: &Value<'_>,
-    slots: &[Option<&Value<'_>>; MOST_KEYS],
-    has_only_keys: bool,
-) -> Result<Text, TreeError>
-    requires known { has_only_keys ≡ has_only form.command_keys (view _tree.now) }
-    requires found { held (get_or slots.now 0 None) ≡ get (codes "name") (view _tree.now) }
-    ensures { GivesSame result (form.name_of (view _tree.now)) }
-{
-    if !has_only_keys {
-        return Err(TreeError::BadForm);
-    }
-    Text::from_value(alloc, slots[0].ok_or(TreeError::BadForm)?)
-}
-
-// Sets the fields of the keys other than the name and the children.
-fn set_rest(
+// Sets the fields of the keys other than the name, the arguments and the children.
+fn set_rest<'t>(
     node: &mut Node,
-    alloc: Global,
-    tree: &Value<'_>,
-    slots: &[Option<&Value<'_>>; MOST_KEYS],
-) -> Result<(), TreeError>
+    faults: &mut Faults<'t>,
+    tree: &Value<'t>,
+    slots: &[Option<&Value<'t>>; MOST_KEYS],
+) -> Result<(), AllocError>
     requires { Hold slots.now (values_at form.command_keys (view tree.now)) }
-    ensures { Sets result (form.with_rest (view tree.now)) node.old node.new }
+    ensures { IfOk result (λ _. Makes (form.with_rest (view tree.now) node.old)
+        (form.rest_fits (view tree.now)) node.new faults.old faults.new) }
 {
-    set_texts(node, alloc, tree, slots)?;
-    set_names(node, alloc, tree, slots)?;
-    set_surroundings(node, alloc, tree, slots)?;
-    set_flags(node, alloc, tree, slots)?;
-    set_rules(node, alloc, tree, slots)?;
-    add_args(node, alloc, tree, slots)
+    set_texts(node, faults, tree, slots)?;
+    set_names(node, faults, tree, slots)?;
+    set_surroundings(node, faults, tree, slots)?;
+    set_flags(node, faults, tree, slots)?;
+    set_rules(node, faults, tree, slots)
 }
 
-fn set_texts(
+fn set_texts<'t>(
     node: &mut Node,
-    alloc: Global,
-    tree: &Value<'_>,
-    slots: &[Option<&Value<'_>>; MOST_KEYS],
-) -> Result<(), TreeError>
+    faults: &mut Faults<'t>,
+    tree: &Value<'t>,
+    slots: &[Option<&Value<'t>>; MOST_KEYS],
+) -> Result<(), AllocError>
     requires { AreHeldFrom 1 form.texts slots.now (view tree.now) }
-    ensures { Sets result (set_all form.texts (view tree.now)) node.old node.new }
+    ensures { IfOk result (λ _. Makes (set_all form.texts (view tree.now) node.old)
+        (all_fit form.texts (view tree.now)) node.new faults.old faults.new) }
 {
-    each_key!(set_group! texts, node, alloc, tree, slots);
+    each_key!(set_group! texts, node, faults, tree, slots);
     Ok(())
 }
 
-fn set_names(
+fn set_names<'t>(
     node: &mut Node,
-    alloc: Global,
-    tree: &Value<'_>,
-    slots: &[Option<&Value<'_>>; MOST_KEYS],
-) -> Result<(), TreeError>
+    faults: &mut Faults<'t>,
+    tree: &Value<'t>,
+    slots: &[Option<&Value<'t>>; MOST_KEYS],
+) -> Result<(), AllocError>
     requires { AreHeldFrom 5 form.names slots.now (view tree.now) }
-    ensures { Sets result (set_all form.names (view tree.now)) node.old node.new }
+    ensures { IfOk result (λ _. Makes (set_all form.names (view tree.now) node.old)
+        (all_fit form.names (view tree.now)) node.new faults.old faults.new) }
 {
-    each_key!(set_group! names, node, alloc, tree, slots);
+    each_key!(set_group! names, node, faults, tree, slots);
     Ok(())
 }
 
-fn set_surroundings(
+fn set_surroundings<'t>(
     node: &mut Node,
-    alloc: Global,
-    tree: &Value<'_>,
-    slots: &[Option<&Value<'_>>; MOST_KEYS],
-) -> Result<(), TreeError>
+    faults: &mut Faults<'t>,
+    tree: &Value<'t>,
+    slots: &[Option<&Value<'t>>; MOST_KEYS],
+) -> Result<(), AllocError>
     requires { AreHeldFrom 8 form.surroundings slots.now (view tree.now) }
-    ensures { Sets result (set_all form.surroundings (view tree.now)) node.old node.new }
+    ensures { IfOk result (λ _. Makes (set_all form.surroundings (view tree.now) node.old)
+        (all_fit form.surroundings (view tree.now)) node.new faults.old faults.new) }
 {
-    each_key!(set_group! surroundings, node, alloc, tree, slots);
+    each_key!(set_group! surroundings, node, faults, tree, slots);
     Ok(())
 }
 
-fn set_flags(
+fn set_flags<'t>(
     node: &mut Node,
-    alloc: Global,
-    tree: &Value<'_>,
-    slots: &[Option<&Value<'_>>; MOST_KEYS],
-) -> Result<(), TreeError>
+    faults: &mut Faults<'t>,
+    tree: &Value<'t>,
+    slots: &[Option<&Value<'t>>; MOST_KEYS],
+) -> Result<(), AllocError>
     requires { AreHeldFrom 10 form.flags slots.now (view tree.now) }
-    ensures { Sets result (set_all form.flags (view tree.now)) node.old node.new }
+    ensures { IfOk result (λ _. Makes (set_all form.flags (view tree.now) node.old)
+        (all_fit form.flags (view tree.now)) node.new faults.old faults.new) }
 {
-    each_key!(set_group! flags, node, alloc, tree, slots);
+    each_key!(set_group! flags, node, faults, tree, slots);
     Ok(())
 }
 
-fn set_rules(
+fn set_rules<'t>(
     node: &mut Node,
-    alloc: Global,
-    tree: &Value<'_>,
-    slots: &[Option<&Value<'_>>; MOST_KEYS],
-) -> Result<(), TreeError>
+    faults: &mut Faults<'t>,
+    tree: &Value<'t>,
+    slots: &[Option<&Value<'t>>; MOST_KEYS],
+) -> Result<(), AllocError>
     requires { AreHeldFrom 14 form.rules slots.now (view tree.now) }
-    ensures { Sets result (set_all form.rules (view tree.now)) node.old node.new }
+    ensures { IfOk result (λ _. Makes (set_all form.rules (view tree.now) node.old)
+        (all_fit form.rules (view tree.now)) node.new faults.old faults.new) }
 {
-    each_key!(set_group! rules, node, alloc, tree, slots);
+    each_key!(set_group! rules, node, faults, tree, slots);
     Ok(())
 }
 
-fn add_args(
+fn add_args<'t>(
     node: &mut Node,
-    alloc: Global,
-    _tree: &Value<'_>,
-    slots: &[Option<&Value<'_>>; MOST_KEYS],
-) -> Result<(), TreeError>
+    faults: &mut Faults<'t>,
+    _tree: &Value<'t>,
+    slots: &[Option<&Value<'t>>; MOST_KEYS],
+) -> Result<(), AllocError>
     requires { held (get_or slots.now 18 None) ≡ get (codes "args") (view _tree.now) }
-    ensures { Sets result (form.with_args (view _tree.now)) node.old node.new }
+    ensures { IfOk result (λ _. Makes (form.with_args (view _tree.now) node.old)
+        (form.args_fit (view _tree.now)) node.new faults.old faults.new) }
 {
-    match slots[18] {
-        Some(value) => add_each(node, alloc, value),
-        None => Ok(()),
-    }
+    let Some(value) = slots[18] else {
+        return Ok(());
+    };
+    let before = faults.count();
+    add_each(node, faults, value)?;
+    faults.put_before(before, Step::Key("args"))
 }
 
 // Adds the arguments that a list describes, each as it is read.
-#[tactic(auto, unfolding(crate::specs::TreeForm::list_of))]
-fn add_each(node: &mut Node, alloc: Global, value: &Value<'_>) -> Result<(), TreeError>
-    ensures { Sets result (λ node. option_map (fold with_argument node)
-        (form.arguments_of (view value.now))) node.old node.new }
+fn add_each<'t>(
+    node: &mut Node,
+    faults: &mut Faults<'t>,
+    value: &Value<'t>,
+) -> Result<(), AllocError>
+    ensures { IfOk result (λ _. Makes
+        (fold with_argument node.old (form.arguments_in (view value.now)))
+        (form.arguments_fit (view value.now)) node.new faults.old faults.new) }
 {
-    let items = complgen_json::items(value).ok_or(TreeError::BadForm)?;
+    let Some(items) = complgen_json::items(value) else {
+        return faults.note(FaultKind::NoList(ValueKind::Object(ObjectKind::Argument)));
+    };
     // Building may add the flags `--help` and `--version`.
-    reserve_arguments(node, alloc, items.len().saturating_add(2))?;
-    for item in items {
-        add_argument(node, arg(alloc, item)?)?;
+    reserve_arguments(node, faults.allocator(), items.len().saturating_add(2))?;
+    for (index, item) in items.iter().enumerate() {
+        let before = faults.count();
+        add_argument(node, arg(faults, item)?)?;
+        faults.put_before(before, Step::Item(index))?;
     }
     Ok(())
 }

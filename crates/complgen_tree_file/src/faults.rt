@@ -1,6 +1,6 @@
 //! Collects what is wrong with the values of a tree file, each with the path to it.
 
-ghost use Rattle.std.specs.Prelude.{◌≡◌, IfOk, false, true};
+ghost use Rattle.std.specs.Prelude.{◌≡◌, ◌&&◌, IfOk, false, true};
 ghost use Rattle.complgen_tree_file.specs.Faults.{has_none, is_nil};
 
 use crate::kinds::{ObjectKind, ValueKind};
@@ -56,51 +56,43 @@ pub struct Fault<'t> {
     pub kind: FaultKind,
 }
 
-/// A walk through a value, with its current path and the faults that it has found.
+/// The faults that are found while values are read. A path leads from the value that is being read;
+/// its reader's caller puts the step to that value before it.
 #[derive(Drop)]
 pub struct Faults<'t> {
     alloc: Global,
-    path: Vec<Step<'t>>,
     list: Vec<Fault<'t>>,
 }
 
 impl<'t> Faults<'t> {
-    /// Starts a walk at the whole file, without faults.
+    /// Makes an empty list, without allocating.
     pub fn new(alloc: Global) -> Faults<'t>
         ensures { has_none result ≡ true }
     {
         Faults {
             alloc,
-            path: Vec::new(alloc),
             list: Vec::new(alloc),
         }
     }
 
-    /// Returns the allocator of the lists.
+    /// Returns the allocator of the list, which is also that of what is read.
     pub fn allocator(&self) -> Global {
         self.alloc
     }
 
-    /// Goes on to a value inside.
-    ///
-    /// # Errors
-    ///
-    /// `AllocError` if an allocation fails.
-    pub fn enter(&mut self, step: Step<'t>) -> Result<(), AllocError>
-        ensures { IfOk result (λ _. has_none self.new ≡ has_none self.old) }
+    /// Returns whether nothing is wrong.
+    pub fn is_empty(&self) -> bool
+        ensures { result ≡ has_none self.now }
     {
-        self.path.push(step)?;
-        Ok(())
+        self.list.is_empty()
     }
 
-    /// Goes back to the value around.
-    pub fn leave(&mut self)
-        ensures { has_none self.new ≡ has_none self.old }
-    {
-        let _ = self.path.pop();
+    /// Returns the number of faults.
+    pub fn count(&self) -> usize {
+        self.list.len()
     }
 
-    /// Notes that something is wrong here.
+    /// Notes that something is wrong with the value that is being read.
     ///
     /// # Errors
     ///
@@ -108,8 +100,52 @@ impl<'t> Faults<'t> {
     pub fn note(&mut self, kind: FaultKind) -> Result<(), AllocError>
         ensures { IfOk result (λ _. has_none self.new ≡ false) }
     {
-        let path = self.path.clone()?;
+        let path = Vec::new(self.alloc);
         self.list.push(Fault { path, kind })?;
+        Ok(())
+    }
+
+    /// Notes that something is wrong with the value inside to which `step` leads.
+    ///
+    /// # Errors
+    ///
+    /// `AllocError` if an allocation fails.
+    pub fn note_at(&mut self, step: Step<'t>, kind: FaultKind) -> Result<(), AllocError>
+        ensures { IfOk result (λ _. has_none self.new ≡ false) }
+    {
+        let mut path = Vec::new(self.alloc);
+        path.push(step)?;
+        self.list.push(Fault { path, kind })?;
+        Ok(())
+    }
+
+    /// Puts `step` before the path of each fault but the first `before`: those that were found in
+    /// the value to which it leads.
+    ///
+    /// # Errors
+    ///
+    /// `AllocError` if an allocation fails.
+    pub fn put_before(&mut self, before: usize, step: Step<'t>) -> Result<(), AllocError>
+        ensures { IfOk result (λ _. has_none self.new ≡ has_none self.old) }
+    {
+        let mut index = before;
+        while index < self.list.len() {
+            self.list[index].path.insert(0, step)?;
+            index += 1;
+        }
+        Ok(())
+    }
+
+    /// Appends the faults of `other`, found in the same value.
+    ///
+    /// # Errors
+    ///
+    /// `AllocError` if an allocation fails.
+    #[tactic(auto, using(crate::proofs::FaultLemmas::nil_append))]
+    pub fn append(&mut self, mut other: Faults<'t>) -> Result<(), AllocError>
+        ensures { IfOk result (λ _. has_none self.new ≡ (has_none self.old && has_none other.entry)) }
+    {
+        self.list.append(&mut other.list)?;
         Ok(())
     }
 

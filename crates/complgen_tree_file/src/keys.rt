@@ -10,17 +10,9 @@ macro_rules! all_keys {
 
 // Sets the field of each key of a group.
 macro_rules! set_group {
-    ([$asked:ident, $parts:ident, $alloc:ident, $tree:ident, $slots:ident]
+    ([$asked:ident, $parts:ident, $faults:ident, $tree:ident, $slots:ident]
         $($index:literal $key:literal $group:ident $field:ident,)*) => {
-        $(only_in!($asked $group set(&mut $parts.$field, $alloc, $tree, $key, $slots, $index)?);)*
-    };
-}
-
-// Checks the value at the key of each line of a group.
-macro_rules! check_group {
-    ([$asked:ident, $blank:ident, $faults:ident, $tree:ident]
-        $($index:literal $key:literal $group:ident $field:ident,)*) => {
-        $(only_in!($asked $group check_field(&$blank.$field, $faults, $tree, $key)?);)*
+        $(only_in!($asked $group set(&mut $parts.$field, $faults, $tree, $key, $slots, $index)?);)*
     };
 }
 
@@ -39,6 +31,5 @@ macro_rules! only_in {
 }
 
 pub(crate) use all_keys;
-pub(crate) use check_group;
 pub(crate) use only_in;
 pub(crate) use set_group;

@@ -1,5 +1,8 @@
 //! The kinds of value in a tree file.
 
+ghost use Rattle.std.specs.Prelude.{◌≡◌, map};
+ghost use Rattle.complgen_tree_file.specs.Kinds.{kind_keys, needed_key};
+
 use crate::{args, commands, possible_values};
 
 /// A kind of object in a tree file.
@@ -21,11 +24,24 @@ impl ObjectKind {
     }
 
     /// Returns the keys that an object of the kind may have.
-    pub fn keys(self) -> &'static [&'static str] {
+    #[tactic(auto, unfolding(crate::specs::ArgumentForm::argument_keys, crate::specs::CommandForm::command_keys, crate::specs::PossibleValueForm::value_keys))]
+    pub fn keys(self) -> &'static [&'static str]
+        ensures { map (λ key. key.now) result.now ≡ kind_keys self }
+    {
         match self {
             ObjectKind::Command => commands::KEYS,
             ObjectKind::Argument => args::KEYS,
             ObjectKind::PossibleValue => possible_values::KEYS,
+        }
+    }
+
+    /// Returns the key that an object of the kind needs.
+    pub fn needed(self) -> &'static str
+        ensures { result.now ≡ needed_key self }
+    {
+        match self {
+            ObjectKind::Command | ObjectKind::PossibleValue => "name",
+            ObjectKind::Argument => "id",
         }
     }
 }

@@ -2,29 +2,22 @@
 #![tactic(auto)]
 
 mod args;
-mod argument_check;
-mod check;
-mod command_check;
 mod commands;
 mod error;
 mod faults;
 mod keys;
 mod kinds;
+mod objects;
 mod possible_values;
 mod sources;
 mod values;
 
-ghost use Rattle.complgen_json.specs.Seen.{view};
-ghost use Rattle.complgen_tree_file.specs.CommandForm.{command_of};
 ghost use Rattle.complgen_tree_file.specs.TreeFile.{ReadsTree, ReadsValue};
-ghost use Rattle.complgen_tree_file.specs.TreeForm.{GivesSame};
 
-pub use crate::argument_check::argument_faults;
-pub use crate::command_check::command_faults;
+pub use crate::commands::read_command;
 pub use crate::error::TreeError;
 pub use crate::faults::{Fault, FaultKind, Faults, SourceFault, Step};
 pub use crate::kinds::{ObjectKind, ValueKind};
-pub use crate::possible_values::possible_value_faults;
 use cc_command::Command;
 use complgen_json::{JsonError, Scratch, Value, read_value};
 use std::alloc::Global;
@@ -47,23 +40,19 @@ pub fn read_tree(alloc: Global, bytes: &[u8]) -> Result<Command, TreeError>
 }
 
 // Returns the command that a text describes.
+#[tactic(auto, unfolding(crate::specs::CommandForm::command_of))]
 fn read_text(alloc: Global, text: &str) -> Result<Command, TreeError>
     ensures { ReadsTree text.now result }
 {
     let mut scratch = Scratch::new(alloc);
     let tree = value(alloc, text, &mut scratch)?;
-    commands::command(alloc, &tree)
-}
-
-/// Returns the command that the value `tree` describes.
-///
-/// # Errors
-///
-/// `BadForm` if `tree` describes no command, `Memory` if an allocation fails.
-pub fn tree_of(alloc: Global, tree: &Value<'_>) -> Result<Command, TreeError>
-    ensures { GivesSame result (command_of (view tree.now)) }
-{
-    commands::command(alloc, tree)
+    let mut faults = Faults::new(alloc);
+    let command = read_command(&mut faults, &tree)?;
+    if faults.is_empty() {
+        Ok(command)
+    } else {
+        Err(TreeError::BadForm)
+    }
 }
 
 // Returns the value that a text spells. It borrows from the text and, if there are escapes, from

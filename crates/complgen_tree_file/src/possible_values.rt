@@ -1,85 +1,69 @@
-//! Reads and checks the possible values of an argument of a tree file.
+//! Reads the possible values of an argument of a tree file.
 
-ghost use Rattle.std.specs.Prelude.{◌≡◌, IfOk, is_some, map, string_bytes};
-ghost use Rattle.complgen_json.specs.Seen.{view};
-ghost use Rattle.complgen_tree_file.specs.PossibleValueForm as form;
+ghost use Rattle.std.specs.Prelude.{◌≡◌, ◌&&◌, IfOk, codes};
+ghost use Rattle.serde_json.specs.Find.{as_bool, as_str};
 ghost use Rattle.complgen_json.specs.Keys.{has_only};
-ghost use Rattle.complgen_tree_file.specs.Faults.{FindsUnless};
-ghost use Rattle.complgen_tree_file.specs.TreeForm.{Gives, GivesSame};
+ghost use Rattle.complgen_json.specs.Seen.{view};
+ghost use Rattle.complgen_tree_file.specs.Faults.{Makes};
+ghost use Rattle.complgen_tree_file.specs.PossibleValueForm as form;
+ghost use Rattle.complgen_tree_file.specs.TreeForm.{fits_at};
 
-use crate::check::{check_at, check_keys, check_needed, is_object};
-use crate::error::TreeError;
 use crate::faults::Faults;
 use crate::kinds::{ObjectKind, ValueKind};
-use crate::values::{FromValue, text};
+use crate::objects::{at, needed_text};
+use crate::values::FromValue;
 use cc_arg::PossibleValue;
 use cc_base::Text;
 use complgen_json::{Value, has_only_keys, member};
-use std::alloc::{AllocError, Global};
+use std::alloc::AllocError;
 
 pub(crate) const KEYS: &[&str] = &["name", "help", "hide"];
 
 impl FromValue for PossibleValue {
     ghost form = { form.possible_value_of };
 
-    fn from_value(alloc: Global, value: &Value<'_>) -> Result<PossibleValue, TreeError> {
-        possible_value(alloc, value)
+    fn read<'t>(
+        faults: &mut Faults<'t>,
+        value: &Value<'t>,
+    ) -> Result<Option<PossibleValue>, AllocError> {
+        let mut own = Faults::new(faults.allocator());
+        let found = possible_value(&mut own, value)?;
+        if own.is_empty() {
+            return Ok(Some(found));
+        }
+        faults.append(own)?;
+        Ok(None)
     }
 
     fn kind() -> ValueKind {
         ValueKind::Object(ObjectKind::PossibleValue)
     }
-
-    fn check<'t>(faults: &mut Faults<'t>, value: &Value<'t>) -> Result<(), AllocError> {
-        possible_value_faults(faults, value)
-    }
 }
 
-/// Notes what is wrong with the possible value `tree`; nothing exactly if the value describes one.
-///
-/// # Errors
-///
-/// `AllocError` if an allocation fails.
-pub fn possible_value_faults<'t>(
+fn possible_value<'t>(
     faults: &mut Faults<'t>,
     tree: &Value<'t>,
-) -> Result<(), AllocError>
-    ensures { IfOk result (λ _. FindsUnless (is_some (form.possible_value_of (view tree.now)))
-        faults.old faults.new) }
+) -> Result<PossibleValue, AllocError>
+    ensures { IfOk result (λ value. Makes (form.value_in (view tree.now))
+        (form.value_fits (view tree.now)) value faults.old faults.new) }
 {
-    check_value_keys(faults, tree)?;
-    if !is_object(tree) {
-        return Ok(());
-    }
-    check_needed::<Text>(faults, tree, "name", ObjectKind::PossibleValue)?;
-    check_at::<Text>(faults, tree, "help")?;
-    check_at::<bool>(faults, tree, "hide")
+    let name = name(faults, tree)?;
+    let value = with_help(faults, PossibleValue::new(name.into_string()), tree)?;
+    with_hide(faults, value, tree)
 }
 
-#[tactic(auto, unfolding(crate::specs::PossibleValueForm::value_keys))]
-fn check_value_keys<'t>(faults: &mut Faults<'t>, tree: &Value<'t>) -> Result<(), AllocError>
-    ensures { IfOk result (λ _. FindsUnless (has_only form.value_keys (view tree.now))
-        faults.old faults.new) }
+fn name<'t>(faults: &mut Faults<'t>, tree: &Value<'t>) -> Result<Text, AllocError>
+    ensures { IfOk result (λ name. Makes (form.name_in (view tree.now))
+        (form.name_fits (view tree.now)) name faults.old faults.new) }
 {
-    check_keys(faults, tree, KEYS, ObjectKind::PossibleValue)
-}
-
-fn possible_value(alloc: Global, tree: &Value<'_>) -> Result<PossibleValue, TreeError>
-    ensures { GivesSame result (form.possible_value_of (view tree.now)) }
-{
-    let name = name(alloc, tree)?;
-    let value = with_help(alloc, PossibleValue::new(name), tree)?;
-    with_hide(alloc, value, tree)
-}
-
-// Returns the name of an object that has only keys of a possible value.
-fn name(alloc: Global, tree: &Value<'_>) -> Result<String, TreeError>
-    ensures { Gives string_bytes result (form.name_of (view tree.now)) }
-{
-    if !has_value_keys(tree) {
-        return Err(TreeError::BadForm);
-    }
-    text(alloc, member(tree, "name").ok_or(TreeError::BadForm)?)
+    let name = member(tree, "name");
+    needed_text(
+        faults,
+        tree,
+        name,
+        has_value_keys(tree),
+        ObjectKind::PossibleValue,
+    )
 }
 
 #[tactic(auto, unfolding(crate::specs::PossibleValueForm::value_keys))]
@@ -89,28 +73,32 @@ fn has_value_keys(tree: &Value<'_>) -> bool
     has_only_keys(tree, KEYS)
 }
 
-fn with_help(
-    alloc: Global,
+fn with_help<'t>(
+    faults: &mut Faults<'t>,
     value: PossibleValue,
-    tree: &Value<'_>,
-) -> Result<PossibleValue, TreeError>
-    ensures { GivesSame result (form.with_help (view tree.now) value) }
+    tree: &Value<'t>,
+) -> Result<PossibleValue, AllocError>
+    ensures { IfOk result (λ shown. Makes (form.with_help (view tree.now) value)
+        (λ before. before && fits_at (codes "help") as_str (view tree.now)) shown
+        faults.old faults.new) }
 {
-    match member(tree, "help") {
-        Some(help) => Ok(value.help(text(alloc, help)?)),
+    match at::<Text>(faults, tree, "help")? {
+        Some(help) => Ok(value.help(help.into_string())),
         None => Ok(value),
     }
 }
 
-fn with_hide(
-    alloc: Global,
+fn with_hide<'t>(
+    faults: &mut Faults<'t>,
     value: PossibleValue,
-    tree: &Value<'_>,
-) -> Result<PossibleValue, TreeError>
-    ensures { GivesSame result (form.with_hide (view tree.now) value) }
+    tree: &Value<'t>,
+) -> Result<PossibleValue, AllocError>
+    ensures { IfOk result (λ shown. Makes (form.with_hide (view tree.now) value)
+        (λ before. before && fits_at (codes "hide") as_bool (view tree.now)) shown
+        faults.old faults.new) }
 {
-    match member(tree, "hide") {
-        Some(hide) => Ok(value.hide(bool::from_value(alloc, hide)?)),
+    match at::<bool>(faults, tree, "hide")? {
+        Some(hide) => Ok(value.hide(hide)),
         None => Ok(value),
     }
 }

@@ -1,101 +1,98 @@
 //! Reads the values of a tree file, each kind by a type of its own.
 
-ghost use Rattle.std.specs.Prelude.{◌≡◌, ◌<◌, None, get_or, string_bytes};
+ghost use Rattle.std.specs.Prelude.{◌≡◌, ◌<◌, ◌&&◌, IfOk, None, get_or, option_and_then};
 ghost use Rattle.std.specs.Str.{chars};
 ghost use Rattle.serde_json.specs.Find.{as_str, get};
 ghost use Rattle.complgen_json.specs.Seen.{view};
 ghost use Rattle.complgen_json.specs.Slots.{held};
-ghost use Rattle.complgen_tree_file.specs.TreeForm.{Gives, GivesSame, Sets, bound_of, field_from, number_of};
-ghost use Rattle.complgen_tree_file.specs.TreeForm.{only};
+ghost use Rattle.complgen_tree_file.specs.Faults.{Makes, Reads};
+ghost use Rattle.complgen_tree_file.specs.TreeForm.{action_of, bound_of, character_of};
+ghost use Rattle.complgen_tree_file.specs.TreeForm.{field_from, fits_at, hint_of, number_of, only};
+ghost use Rattle.complgen_tree_file.specs.TreeForm.{range_of, with_item};
 
-use crate::check::check_inside;
-use crate::error::TreeError;
 use crate::faults::{FaultKind, Faults, Step};
 use crate::kinds::ValueKind;
+use crate::objects::inside;
 use cc_arg::{ArgAction, ValueHint, ValueRange};
 use cc_base::{Items, Text};
 use complgen_json::{Value, is_null};
-use std::alloc::{AllocError, Global};
+use std::alloc::AllocError;
 
 /// A type that a value of a tree file is read into.
 pub trait FromValue: Drop {
-    ghost use Rattle.std.specs.Prelude.{Option, IfOk, is_some};
+    ghost use Rattle.std.specs.Prelude.{Option, IfOk};
     ghost use Rattle.serde_json.specs.Data.{Data};
     ghost use Rattle.complgen_json.specs.Seen.{view};
-    ghost use Rattle.complgen_tree_file.specs.Faults.{FindsUnless};
-    ghost use Rattle.complgen_tree_file.specs.TreeForm.{GivesSame};
+    ghost use Rattle.complgen_tree_file.specs.Faults.{Reads};
 
     // The result of reading a value; `None` if the value is of another kind.
     ghost form: { Data → Option Self };
 
-    /// Reads `value`.
-    ///
-    /// # Errors
-    ///
-    /// `BadForm` if `value` is of another kind, `Memory` if an allocation fails.
-    fn from_value(alloc: Global, value: &Value<'_>) -> Result<Self, TreeError>
-        ensures { GivesSame result (form (view value.now)) };
-
-    /// Returns the kind of the values; for a list, the kind of its items.
-    fn kind() -> ValueKind;
-
-    /// Notes what is wrong with `value`; nothing exactly if it can be read.
+    /// Reads `value`. If it is of another kind, notes what is wrong, and returns `None`.
     ///
     /// # Errors
     ///
     /// `AllocError` if an allocation fails.
-    fn check<'t>(faults: &mut Faults<'t>, value: &Value<'t>) -> Result<(), AllocError>
-        ensures { IfOk result (λ _. FindsUnless (is_some (form (view value.now)))
-            faults.old faults.new) }
-    {
-        match Self::from_value(faults.allocator(), value) {
-            Ok(_) => Ok(()),
-            Err(TreeError::BadForm) => faults.note(FaultKind::OtherKind(Self::kind())),
-            Err(_) => Err(AllocError),
-        }
-    }
+    fn read<'t>(faults: &mut Faults<'t>, value: &Value<'t>) -> Result<Option<Self>, AllocError>
+        ensures { IfOk result (λ found. Reads (form (view value.now)) found
+            faults.old faults.new) };
+
+    /// Returns the kind of the values; for a list, the kind of its items.
+    fn kind() -> ValueKind;
 }
 
 /// The most keys that an object may have.
 pub const MOST_KEYS: usize = 28;
 
 /// Sets `field` to the value at `key` of the object `tree`, which is in the slot `index`. Leaves it
-/// unchanged if the object lacks the key.
+/// unchanged if the object lacks the key, or if something is wrong with the value, which it notes.
 ///
 /// # Errors
 ///
-/// `BadForm` if the value is of another kind, `Memory` if an allocation fails.
+/// `AllocError` if an allocation fails.
 #[inline(always)]
-#[tactic(auto, unfolding(crate::specs::TreeForm::field_from))]
-pub fn set<T: FromValue>(
+#[tactic(auto, unfolding(crate::specs::TreeForm::field_from, crate::specs::TreeForm::fits_at))]
+pub fn set<'t, T: FromValue>(
     field: &mut T,
-    alloc: Global,
-    _tree: &Value<'_>,
-    _key: &str,
-    slots: &[Option<&Value<'_>>; MOST_KEYS],
+    faults: &mut Faults<'t>,
+    _tree: &Value<'t>,
+    key: &'static str,
+    slots: &[Option<&Value<'t>>; MOST_KEYS],
     index: usize,
-) -> Result<(), TreeError>
+) -> Result<(), AllocError>
     requires inside { index < 28 }
-    requires found { held (get_or slots.now index None) ≡ get _key.now (view _tree.now) }
-    ensures { Sets result (field_from _key.now T.form (view _tree.now)) field.old field.new }
+    requires found { held (get_or slots.now index None) ≡ get key.now (view _tree.now) }
+    ensures { IfOk result (λ _. Makes (field_from key.now T.form (view _tree.now) field.old)
+        (λ before. before && fits_at key.now T.form (view _tree.now)) field.new
+        faults.old faults.new) }
 {
     let Some(value) = slots[index] else {
         return Ok(());
     };
-    *field = T::from_value(alloc, value)?;
-    Ok(())
+    match inside::<T>(faults, Step::Key(key), value)? {
+        Some(found) => {
+            *field = found;
+            Ok(())
+        }
+        None => Ok(()),
+    }
 }
 
-/// Returns a text.
-///
-/// # Errors
-///
-/// `BadForm` if `value` is not a text, `Memory` if an allocation fails.
-pub fn text(alloc: Global, value: &Value<'_>) -> Result<String, TreeError>
-    ensures { Gives string_bytes result (as_str (view value.now)) }
+// Returns `found`. If it is `None`, notes that a value of `kind` was expected.
+fn expected<T: Drop>(
+    faults: &mut Faults<'_>,
+    found: Option<T>,
+    kind: ValueKind,
+) -> Result<Option<T>, AllocError>
+    ensures { IfOk result (λ same. Reads found same faults.old faults.new) }
 {
-    let text = complgen_json::text(value).ok_or(TreeError::BadForm)?;
-    Ok(String::from_str(alloc, text)?)
+    match found {
+        Some(found) => Ok(Some(found)),
+        None => {
+            faults.note(FaultKind::OtherKind(kind))?;
+            Ok(None)
+        }
+    }
 }
 
 /// Reads a text.
@@ -104,9 +101,11 @@ impl FromValue for Text {
 
     ghost form = { as_str };
 
-    fn from_value(alloc: Global, value: &Value<'_>) -> Result<Text, TreeError> {
-        let text = complgen_json::text(value).ok_or(TreeError::BadForm)?;
-        Ok(Text::copy_of(alloc, text)?)
+    fn read<'t>(faults: &mut Faults<'t>, value: &Value<'t>) -> Result<Option<Text>, AllocError> {
+        match complgen_json::text(value) {
+            Some(text) => Ok(Some(Text::copy_of(faults.allocator(), text)?)),
+            None => expected(faults, None, ValueKind::Text),
+        }
     }
 
     fn kind() -> ValueKind {
@@ -120,8 +119,8 @@ impl FromValue for bool {
 
     ghost form = { as_bool };
 
-    fn from_value(_alloc: Global, value: &Value<'_>) -> Result<bool, TreeError> {
-        complgen_json::boolean(value).ok_or(TreeError::BadForm)
+    fn read<'t>(faults: &mut Faults<'t>, value: &Value<'t>) -> Result<Option<bool>, AllocError> {
+        expected(faults, complgen_json::boolean(value), ValueKind::Boolean)
     }
 
     fn kind() -> ValueKind {
@@ -135,8 +134,8 @@ impl FromValue for usize {
 
     ghost form = { number_of };
 
-    fn from_value(_alloc: Global, value: &Value<'_>) -> Result<usize, TreeError> {
-        number(value)
+    fn read<'t>(faults: &mut Faults<'t>, value: &Value<'t>) -> Result<Option<usize>, AllocError> {
+        expected(faults, number(value), ValueKind::WholeNumber)
     }
 
     fn kind() -> ValueKind {
@@ -144,11 +143,11 @@ impl FromValue for usize {
     }
 }
 
-fn number(value: &Value<'_>) -> Result<usize, TreeError>
-    ensures { GivesSame result (number_of (view value.now)) }
+fn number(value: &Value<'_>) -> Option<usize>
+    ensures { result ≡ number_of (view value.now) }
 {
-    let number = complgen_json::whole_number(value).ok_or(TreeError::BadForm)?;
-    Ok(number as usize)
+    let number = complgen_json::whole_number(value)?;
+    Some(number as usize)
 }
 
 /// Reads a text of one character.
@@ -157,14 +156,19 @@ impl FromValue for char {
 
     ghost form = { character_of };
 
-    fn from_value(_alloc: Global, value: &Value<'_>) -> Result<char, TreeError> {
-        let text = complgen_json::text(value).ok_or(TreeError::BadForm)?;
-        only_character(text).ok_or(TreeError::BadForm)
+    fn read<'t>(faults: &mut Faults<'t>, value: &Value<'t>) -> Result<Option<char>, AllocError> {
+        expected(faults, character(value), ValueKind::Character)
     }
 
     fn kind() -> ValueKind {
         ValueKind::Character
     }
+}
+
+fn character(value: &Value<'_>) -> Option<char>
+    ensures { result ≡ character_of (view value.now) }
+{
+    only_character(complgen_json::text(value)?)
 }
 
 // Returns the character of a text that has one character.
@@ -186,17 +190,18 @@ impl<T: FromValue> FromValue for Option<T> {
     ghost form = { given T.form };
 
     #[tactic(auto, unfolding(crate::specs::TreeForm::given))]
-    fn from_value(alloc: Global, value: &Value<'_>) -> Result<Option<T>, TreeError> {
-        Ok(Some(T::from_value(alloc, value)?))
+    fn read<'t>(
+        faults: &mut Faults<'t>,
+        value: &Value<'t>,
+    ) -> Result<Option<Option<T>>, AllocError> {
+        match T::read(faults, value)? {
+            Some(found) => Ok(Some(Some(found))),
+            None => Ok(None),
+        }
     }
 
     fn kind() -> ValueKind {
         T::kind()
-    }
-
-    #[tactic(auto, using(crate::proofs::FaultLemmas::given_where))]
-    fn check<'t>(faults: &mut Faults<'t>, value: &Value<'t>) -> Result<(), AllocError> {
-        T::check(faults, value)
     }
 }
 
@@ -207,11 +212,18 @@ impl<T: FromValue> FromValue for Items<T> {
     ghost form = { list_of T.form };
 
     #[tactic(auto, unfolding(crate::specs::TreeForm::list_of))]
-    fn from_value(alloc: Global, value: &Value<'_>) -> Result<Items<T>, TreeError> {
-        let items = complgen_json::items(value).ok_or(TreeError::BadForm)?;
-        let mut list = Items::new(alloc);
-        for item in items {
-            list.push(T::from_value(alloc, item)?)?;
+    fn read<'t>(
+        faults: &mut Faults<'t>,
+        value: &Value<'t>,
+    ) -> Result<Option<Items<T>>, AllocError> {
+        let Some(items) = complgen_json::items(value) else {
+            faults.note(FaultKind::NoList(T::kind()))?;
+            return Ok(None);
+        };
+        let mut list = Some(Items::new(faults.allocator()));
+        for (index, item) in items.iter().enumerate() {
+            let found = inside::<T>(faults, Step::Item(index), item)?;
+            list = longer(list, found)?;
         }
         Ok(list)
     }
@@ -219,36 +231,33 @@ impl<T: FromValue> FromValue for Items<T> {
     fn kind() -> ValueKind {
         T::kind()
     }
+}
 
-    #[tactic(auto, unfolding(crate::specs::TreeForm::list_of))]
-    fn check<'t>(faults: &mut Faults<'t>, value: &Value<'t>) -> Result<(), AllocError> {
-        let Some(items) = complgen_json::items(value) else {
-            return faults.note(FaultKind::NoList(T::kind()));
-        };
-        for (index, item) in items.iter().enumerate() {
-            check_inside::<T>(faults, Step::Item(index), item)?;
-        }
-        Ok(())
-    }
+// Appends an item to a list, if both could be read.
+fn longer<T: Drop>(list: Option<Items<T>>, item: Option<T>) -> Result<Option<Items<T>>, AllocError>
+    ensures { IfOk result (λ longer. longer ≡ with_item list item) }
+{
+    let Some(mut list) = list else {
+        return Ok(None);
+    };
+    let Some(item) = item else {
+        return Ok(None);
+    };
+    list.push(item)?;
+    Ok(Some(list))
 }
 
 /// Reads the least and the greatest number of values; `null` as the greatest is no bound.
 impl FromValue for ValueRange {
-    ghost use Rattle.complgen_tree_file.specs.TreeForm.{range_of};
+    ghost use Rattle.complgen_tree_file.specs.TreeForm.{range_of, with_item};
 
     ghost form = { range_of };
 
-    fn from_value(_alloc: Global, value: &Value<'_>) -> Result<ValueRange, TreeError> {
-        let items = complgen_json::items(value).ok_or(TreeError::BadForm)?;
-        let [least, greatest] = items.as_slice() else {
-            return Err(TreeError::BadForm);
-        };
-        let least = number(least)?;
-        let greatest = bound(greatest)?;
-        if least > greatest || least > 255 {
-            return Err(TreeError::BadForm);
-        }
-        Ok(ValueRange::new(least, greatest))
+    fn read<'t>(
+        faults: &mut Faults<'t>,
+        value: &Value<'t>,
+    ) -> Result<Option<ValueRange>, AllocError> {
+        expected(faults, range(value), ValueKind::ValueRange)
     }
 
     fn kind() -> ValueKind {
@@ -256,12 +265,27 @@ impl FromValue for ValueRange {
     }
 }
 
+fn range(value: &Value<'_>) -> Option<ValueRange>
+    ensures { result ≡ range_of (view value.now) }
+{
+    let items = complgen_json::items(value)?;
+    let [least, greatest] = items.as_slice() else {
+        return None;
+    };
+    let least = number(least)?;
+    let greatest = bound(greatest)?;
+    if least > greatest || least > 255 {
+        return None;
+    }
+    Some(ValueRange::new(least, greatest))
+}
+
 // Returns a number, or the greatest number of all for `null`.
-fn bound(value: &Value<'_>) -> Result<usize, TreeError>
-    ensures { GivesSame result (bound_of (view value.now)) }
+fn bound(value: &Value<'_>) -> Option<usize>
+    ensures { result ≡ bound_of (view value.now) }
 {
     if is_null(value) {
-        return Ok(usize::MAX);
+        return Some(usize::MAX);
     }
     number(value)
 }
@@ -273,23 +297,32 @@ impl FromValue for ArgAction {
 
     ghost form = { λ d. as_str d >>= action_of };
 
-    fn from_value(_alloc: Global, value: &Value<'_>) -> Result<ArgAction, TreeError> {
-        match complgen_json::text(value).ok_or(TreeError::BadForm)? {
-            "Set" => Ok(ArgAction::Set),
-            "Append" => Ok(ArgAction::Append),
-            "SetTrue" => Ok(ArgAction::SetTrue),
-            "SetFalse" => Ok(ArgAction::SetFalse),
-            "Count" => Ok(ArgAction::Count),
-            "Help" => Ok(ArgAction::Help),
-            "HelpShort" => Ok(ArgAction::HelpShort),
-            "HelpLong" => Ok(ArgAction::HelpLong),
-            "Version" => Ok(ArgAction::Version),
-            _ => Err(TreeError::BadForm),
-        }
+    fn read<'t>(
+        faults: &mut Faults<'t>,
+        value: &Value<'t>,
+    ) -> Result<Option<ArgAction>, AllocError> {
+        expected(faults, action(value), ValueKind::Action)
     }
 
     fn kind() -> ValueKind {
         ValueKind::Action
+    }
+}
+
+fn action(value: &Value<'_>) -> Option<ArgAction>
+    ensures { result ≡ option_and_then action_of (as_str (view value.now)) }
+{
+    match complgen_json::text(value)? {
+        "Set" => Some(ArgAction::Set),
+        "Append" => Some(ArgAction::Append),
+        "SetTrue" => Some(ArgAction::SetTrue),
+        "SetFalse" => Some(ArgAction::SetFalse),
+        "Count" => Some(ArgAction::Count),
+        "Help" => Some(ArgAction::Help),
+        "HelpShort" => Some(ArgAction::HelpShort),
+        "HelpLong" => Some(ArgAction::HelpLong),
+        "Version" => Some(ArgAction::Version),
+        _ => None,
     }
 }
 
@@ -300,26 +333,35 @@ impl FromValue for ValueHint {
 
     ghost form = { λ d. as_str d >>= hint_of };
 
-    fn from_value(_alloc: Global, value: &Value<'_>) -> Result<ValueHint, TreeError> {
-        match complgen_json::text(value).ok_or(TreeError::BadForm)? {
-            "Unknown" => Ok(ValueHint::Unknown),
-            "Other" => Ok(ValueHint::Other),
-            "AnyPath" => Ok(ValueHint::AnyPath),
-            "FilePath" => Ok(ValueHint::FilePath),
-            "DirPath" => Ok(ValueHint::DirPath),
-            "ExecutablePath" => Ok(ValueHint::ExecutablePath),
-            "CommandName" => Ok(ValueHint::CommandName),
-            "CommandString" => Ok(ValueHint::CommandString),
-            "CommandWithArguments" => Ok(ValueHint::CommandWithArguments),
-            "Username" => Ok(ValueHint::Username),
-            "Hostname" => Ok(ValueHint::Hostname),
-            "Url" => Ok(ValueHint::Url),
-            "EmailAddress" => Ok(ValueHint::EmailAddress),
-            _ => Err(TreeError::BadForm),
-        }
+    fn read<'t>(
+        faults: &mut Faults<'t>,
+        value: &Value<'t>,
+    ) -> Result<Option<ValueHint>, AllocError> {
+        expected(faults, hint(value), ValueKind::ValueHint)
     }
 
     fn kind() -> ValueKind {
         ValueKind::ValueHint
+    }
+}
+
+fn hint(value: &Value<'_>) -> Option<ValueHint>
+    ensures { result ≡ option_and_then hint_of (as_str (view value.now)) }
+{
+    match complgen_json::text(value)? {
+        "Unknown" => Some(ValueHint::Unknown),
+        "Other" => Some(ValueHint::Other),
+        "AnyPath" => Some(ValueHint::AnyPath),
+        "FilePath" => Some(ValueHint::FilePath),
+        "DirPath" => Some(ValueHint::DirPath),
+        "ExecutablePath" => Some(ValueHint::ExecutablePath),
+        "CommandName" => Some(ValueHint::CommandName),
+        "CommandString" => Some(ValueHint::CommandString),
+        "CommandWithArguments" => Some(ValueHint::CommandWithArguments),
+        "Username" => Some(ValueHint::Username),
+        "Hostname" => Some(ValueHint::Hostname),
+        "Url" => Some(ValueHint::Url),
+        "EmailAddress" => Some(ValueHint::EmailAddress),
+        _ => None,
     }
 }

@@ -1,15 +1,22 @@
-use Rattle.std.proofs.Common.{◌≡◌, ◌∙◌, None, ap, is_some}
+use Rattle.std.proofs.Common.{◌≡◌, ◌∙◌, false, rules, true}
 use Rattle.complgen_json.specs.Seen.{view}
-use Rattle.complgen_tree_file.specs.CommandForm.{command_of}
+use Rattle.complgen_tree_file.specs.Faults.{has_none}
+use Rattle.complgen_tree_errors.proofs.CheckLemmas.{is_not_read, is_read}
 use Rattle.complgen_tree_errors.proofs.checking.check_value.Goals as goal
 
-pub returns-in-Err-BadForm : goal.returns-in-Err-BadForm
-returns-in-Err-BadForm c =
-    let none : command_of (view c.args.source.value) ≡ None =
-    rw c.in-Err-BadForm.field-0-is at c.in-Err-BadForm.ensures in (
+pub returns-then-not-is_empty : goal.returns-then-not-is_empty
+returns-then-not-is_empty c =
+    let found : has_none c.read_command.new.faults ≡ false = search rules in (
       record {
-        some = c.in_ok-placed_errors-in-Err-BadForm.ensures.none ∙ ap is_some none;
-        each = c.in_ok-placed_errors-in-Err-BadForm.ensures.errors;
+        some = c.in_ok-placed.ensures.none ∙ found;
+        each = c.in_ok-placed.ensures.errors;
       },
-      none,
+      is_not_read (view c.args.source.value) (has_none c.new-faults.result) (has_none c.read_command.new.faults) c.in_ok-command.ensures.faults c.new-faults.ensures found,
+    )
+
+pub returns : goal.returns
+returns c =
+    let none : has_none c.read_command.new.faults ≡ true = search rules in (
+      is_read (view c.args.source.value) c.in_ok-command.command (has_none c.new-faults.result) (has_none c.read_command.new.faults) c.in_ok-command.ensures.same c.in_ok-command.ensures.faults c.new-faults.ensures none,
+      c.in_ok-doubles.ensures,
     )

@@ -1,6 +1,6 @@
 use Rattle.std.proofs.Common.{rules}
 use Rattle.std.proofs.lemmas.Map.Views.{All-map-IsPermutation}
-use Rattle.complgen_tree_errors.proofs.CheckLemmas.{nil_by_length}
+use Rattle.complgen_tree_file.proofs.FaultLemmas.{nil_by_length}
 use Rattle.complgen_tree_errors.specs.Findings.{IsError, shown}
 use Rattle.complgen_tree_errors.proofs.checking.in_order.Goals as goal
 

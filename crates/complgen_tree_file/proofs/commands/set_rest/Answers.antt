@@ -2,7 +2,7 @@ use Rattle.std.proofs.Common.{refl}
 use Rattle.complgen_json.specs.Seen.{view}
 use Rattle.complgen_tree_file.specs.CommandForm.{command_keys}
 use Rattle.complgen_tree_file.specs.CommandForm as form
-use Rattle.complgen_tree_file.proofs.SlotLemmas.{arguments_held, held_from}
+use Rattle.complgen_tree_file.proofs.SlotLemmas.{held_from}
 use Rattle.complgen_tree_file.proofs.commands.set_rest.Goals as goal
 
 pub set_texts-requires : goal.set_texts-requires
@@ -24,6 +24,3 @@ set_flags-requires c = held_from 10 form.flags command_keys c.args.slots.now (vi
 pub set_rules-requires : goal.set_rules-requires
 unfolding command_keys
 set_rules-requires c = held_from 14 form.rules command_keys c.args.slots.now (view c.args.tree.now) c.requires refl
-
-pub add_args-requires : goal.add_args-requires
-add_args-requires c = arguments_held c.args.slots.now (view c.args.tree.now) c.requires

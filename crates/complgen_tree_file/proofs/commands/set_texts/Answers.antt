@@ -1,5 +1,0 @@
-use Rattle.std.proofs.Common.{refl}
-use Rattle.complgen_tree_file.proofs.commands.set_texts.Goals as goal
-
-pub returns : goal.returns
-returns c = rw (c.in_ok-set.ensures, c.in_ok-set-2.ensures, c.in_ok-set-3.ensures, c.in_ok-set-4.ensures) refl
