@@ -6,7 +6,7 @@ use Rattle.cc_base.specs.declared.error.Error.{Error}
 use Rattle.cc_base.specs.declared.error.Error.TheVariants.{Memory, NoCompletion}
 use Rattle.cc_candidates.specs.declared.candidate.CompletionCandidate.{CompletionCandidate}
 use Rattle.cc_command.specs.Tree.{Tree}
-use Rattle.cc_engine.specs.Completion.{Completes, Offers, Returned, is_in_range, offered_match, opened_values, positional_values, match_candidates, words_before}
+use Rattle.cc_engine.specs.Completion.{Offers, Returned, is_in_range, offered_match, opened_values, positional_values, match_candidates, words_before}
 use Rattle.cc_engine.specs.OpenLists.{open_lists_by}
 use Rattle.cc_gather.specs.Children.{external}
 use Rattle.cc_gather.specs.declared.options.OptionMatch.{OptionMatch}
