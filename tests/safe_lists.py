@@ -183,7 +183,7 @@ def try_setting(scratch, count, setting):
     with started(scratch, 80, setting.setup) as terminal, \
             started(scratch, 80, setting.setup + "; COMPLGEN_DESCRIPTIONS=0") as plain:
         for text in TYPED + (MORE_TYPED if setting == SETTINGS[0] else ()):
-            for keys in (*setting.keys, FAILED + setting.keys[-1], FAILED + LIST):
+            for keys in (*setting.keys, FAILED + setting.keys[-1], FAILED + (setting.lists or LIST)):
                 expected = listed(plain, text, keys)[0]
                 count.tried(lambda: (listed(terminal, text, keys)[0], marks(scratch)),
                             "the line", f"{setting.name}: {text}{keys!r}", expected)

@@ -65,6 +65,9 @@ module _ {X : Type 0} (test : X → Bool) (size : X → ℕ) where
         least_of : (fewer rest all n : ℕ) → fewer ≡ min least (width - n) → all ≡ max n rest → min fewer (width - rest) ≡ min least (width - all)
         least_of fewer rest all n e f = omega (arith, e, f)
 
+pub least_first : (width longest : ℕ) → min width (width - longest) ≡ width - longest
+least_first width longest = omega arith
+
 -- ---- the whole list
 
 -- a room is the width that is left beside the longest word

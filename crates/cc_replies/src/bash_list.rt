@@ -297,7 +297,7 @@ struct BashList<'a> {
 
 impl BashList<'_> {
     ghost use Rattle.std.specs.Prelude.{filter, flat_map};
-    ghost use Rattle.cc_replies.specs.BashList.{list_line};
+    ghost use Rattle.cc_replies.specs.BashList.{closed_word, described_text, list_line};
     ghost use Rattle.cc_replies.specs.BashWords.{is_bash_insertable};
 
     fn write<W: Sink>(&self, sink: &mut W, candidates: &[CompletionCandidate]) -> Result<(), Error>
@@ -309,6 +309,24 @@ impl BashList<'_> {
         ensures write_only { IfErr result IsWrite }
     {
         Ok(put_each(sink, self, candidates)?)
+    }
+
+    // Writes the word of a value, and a description behind it.
+    fn put_described<W: Sink>(
+        &self,
+        sink: &mut W,
+        value: &str,
+        description: &str,
+    ) -> Result<(), ErrorKind>
+        ensures { Writes W.taken W.failed (as_write result) sink.old sink.new
+            (described_text (closed_word self.now.words.kept self.now.words.quote value.now)
+            self.now.longest (cut_description self.now.room description.now)) }
+    {
+        self.words.put_closed(sink, value)?;
+        put_spaces(sink, self.words.left_beside(self.longest, value))?;
+        put_piece(sink, "  (")?;
+        put_cut(sink, self.room, description)?;
+        put_piece(sink, ")")
     }
 }
 
@@ -335,10 +353,8 @@ impl ReplyLines for BashList<'_> {
         let Some(description) = self.words.description(candidate) else {
             return self.words.put_line(sink, candidate);
         };
-        let value = candidate.get_value();
-        self.words.put_closed(sink, value)?;
-        put_spaces(sink, self.words.left_beside(self.longest, value))?;
-        put_description(sink, self.room, description)
+        self.put_described(sink, candidate.get_value(), description)?;
+        put_piece(sink, "\n")
     }
 }
 
@@ -363,16 +379,7 @@ fn put_spaces<W: Sink>(sink: &mut W, count: usize) -> Result<(), ErrorKind>
     Ok(())
 }
 
-// Writes a description between parentheses, cut to the room.
-fn put_description<W: Sink>(sink: &mut W, room: usize, description: &str) -> Result<(), ErrorKind>
-    ensures { Writes W.taken W.failed (as_write result) sink.old sink.new
-        (codes "  (" ++ cut_description room description.now ++ codes ")\n") }
-{
-    put_piece(sink, "  (")?;
-    put_cut(sink, room, description)?;
-    put_piece(sink, ")\n")
-}
-
+// Writes a description, cut to the room.
 fn put_cut<W: Sink>(sink: &mut W, room: usize, text: &str) -> Result<(), ErrorKind>
     ensures { Writes W.taken W.failed (as_write result) sink.old sink.new
         (cut_description room text.now) }
