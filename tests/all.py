@@ -31,7 +31,8 @@ MOST_SECONDS = 1800
 MOST_LINES = 40
 PROGRAMS = ("complgen", "larder", "library_calls")
 # The parts of these scripts without those that measure times, which need a machine that does nothing else.
-SAFE_PARTS = ("values", "files", "folders", "words", "typed", "random", "places", "settings", "locales")
+SAFE_PARTS = ("values", "files", "folders", "words", "typed", "random", "places", "settings", "locales",
+              "descriptions")
 VALUE_PARTS = ("branches", "words", "many", "ends", "off", "order", "files", "examples", "hints")
 
 

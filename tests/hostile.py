@@ -312,6 +312,7 @@ def asking(chance):
         "_COMPLGEN_ASCII": chance.choice(["", "1", "x"]),
         "_COMPLGEN_KEPT": chance.choice(["", "", "--color=", "a b", "'", "\\", "é", "\n"]),
         "_COMPLGEN_QUOTE": chance.choice(["", "'", '"', "`", "''", "é"]),
+        "_COMPLGEN_WIDTH": chance.choice(["", "0", "40", "80", "65535", "99999", "100000", "-80", "8é", "+80"]),
     }
     asked = {name: value for name, value in values.items() if chance.randrange(5)}
     return asked if chance.randrange(4) else {**asked, **odd_value(chance, [*values, "HOME"])}

@@ -23,6 +23,9 @@ The parts:
 - settings: `set -k`, `histchars`, a function `env`, and beginnings of words that bash keeps and expands;
 - locales: values with letters before signs such as `;`, in GBK, GB18030, BIG5, Shift-JIS, EUC-JP, ISO 8859-1,
   UTF-8 and C. Needs `localedef` and the package locales. --locales keeps the locales in a directory;
+- descriptions: what bash lists at the second Tab and by `possible-completions`, in terminals of three widths, in
+  settings of readline and in the locales. The command line has to be the same as without descriptions: tests/safe_lists.py
+  has the rules and the settings;
 - random: directories with random names made of signs and commands, a file in each, and one to three Tabs.
   --seed makes other names, and --names another number of them;
 - ten-thousand: milliseconds of a Tab with 10,000 candidates, and the same by the original's registration;
@@ -49,13 +52,14 @@ import time
 
 sys.path.append(os.path.join(os.path.dirname(os.path.realpath(__file__)), "..", "tools"))
 import common
+import safe_lists
 import safe_places
 import shells
 from judging import Count, forms, left_out, left_out_at_tabs
 from shells import SHELLS, started, write
 
-PARTS = ("values", "files", "folders", "words", "typed", "random", "places", "settings", "locales", "ten-thousand",
-         "start")
+PARTS = ("values", "files", "folders", "words", "typed", "random", "places", "settings", "locales", "descriptions",
+         "ten-thousand", "start")
 ISSUE = "x$(touch${IFS}hit)"
 VALUES = (
     "plain", "blank one", "two  blanks", "trail ", " lead", "sq'uote", 'dq"uote', "a\"b'c", "'", '"', "it's a", 'end"',
@@ -316,6 +320,14 @@ def try_locales(scratch, shell, verbose):
     return good
 
 
+def try_descriptions(scratch, shell, verbose):
+    """Tries the lists of bash."""
+    count = Count(shell, "descriptions", verbose)
+    if shell == "bash":
+        safe_lists.try_lists(scratch, count)
+    return count.end()
+
+
 def left_out_in(shell, charset):
     """Returns the function that tells why a value that is not ASCII must not be inserted in a locale."""
     wide = charset in ("GBK", "GB18030", "BIG5", "SHIFT_JIS", "EUC-JP")
@@ -379,7 +391,8 @@ def try_start(scratch, shell, verbose):
 TRIES = {"values": try_values, "files": try_files, "folders": try_folders, "words": try_words, "typed": try_typed,
          "random": try_random, "places": safe_places.try_places}
 BEFORE = ("values", "files", "folders", "words")
-APART = {"settings": try_settings, "locales": try_locales, "ten-thousand": try_ten_thousand, "start": try_start}
+APART = {"settings": try_settings, "locales": try_locales, "descriptions": try_descriptions,
+         "ten-thousand": try_ten_thousand, "start": try_start}
 
 
 def try_shell(scratch, shell, options):

@@ -72,6 +72,9 @@ def unlink(path: str) -> None:
 class Scratch:
     """A home, a directory to run in, programs, and an environment. All of it is removed at the end."""
 
+    # The width of the terminals in which shells start.
+    columns = 400
+
     def __init__(self) -> None:
         self.path = tempfile.mkdtemp(prefix="shells.")
         self.home, self.bin, self.here = (os.path.join(self.path, name) for name in ("home", "bin", "here"))
@@ -190,7 +193,7 @@ class Shell:
                 signal.signal(number, signal.SIG_DFL)
             os.chdir(scratch.here)
             os.execvpe(words[0], words, scratch.environment)
-        fcntl.ioctl(self.terminal, termios.TIOCSWINSZ, struct.pack("HHHH", 50, 400, 0, 0))
+        fcntl.ioctl(self.terminal, termios.TIOCSWINSZ, struct.pack("HHHH", 50, scratch.columns, 0, 0))
         if not self.ready() or self.tab("", "")[0] is None:
             raise Ended(f"{self.name}: does not start within {LONGEST} seconds: {self.seen[-300:]!r}")
 

@@ -47,7 +47,7 @@ static const lagvtsune_bytes NOTHING = {(const uint8_t *)"", 0};
 
 /* The variables that registrations set. */
 static const char *const REQUESTS[] = {"COMPLETE", "_COMPLGEN_VALUES", "_COMPLGEN_ASCII", "_COMPLGEN_KEPT",
-    "_COMPLGEN_QUOTE", "_CLAP_COMPLETE_INDEX", "_CLAP_IFS"};
+    "_COMPLGEN_QUOTE", "_COMPLGEN_WIDTH", "_CLAP_COMPLETE_INDEX", "_CLAP_IFS"};
 
 static const char OUT_OF_MEMORY[] = "out of memory\n";
 

@@ -15,7 +15,7 @@ MADE, FAILED, NOT_UTF8, NOT_REQUESTED, WANTS_FOLDER, RUN = range(6)
 # The variables that registrations set.
 REQUESTS = (
     "COMPLETE", "_COMPLGEN_VALUES", "_COMPLGEN_ASCII", "_COMPLGEN_KEPT", "_COMPLGEN_QUOTE",
-    "_CLAP_COMPLETE_INDEX", "_CLAP_IFS",
+    "_COMPLGEN_WIDTH", "_CLAP_COMPLETE_INDEX", "_CLAP_IFS",
 )
 # The exit statuses after an answer. After the second one, the shell runs the command whose words were written.
 EXITS = {MADE: 0, RUN: 3}

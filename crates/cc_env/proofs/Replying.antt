@@ -4,8 +4,6 @@ use Rattle.std.proofs.Common.{Result, Ok, Err, IfErr, IsErrAnd}
 use Rattle.std.proofs.Common.{ap, inl, refl, subst, sym}
 use Rattle.cc_env.specs.WantedWords.{WantsThese}
 use Rattle.cc_env.specs.Replies.{FailsToReply, IsWanted, Replies}
-use Rattle.cc_env.specs.SafeShells.{safe_reply}
-use Rattle.cc_env.specs.declared.builtin.Builtin.{Builtin}
 use Rattle.cc_base.specs.Writes.{IsWrite, Writes}
 use Rattle.cc_base.specs.declared.error.Error.{Error}
 use Rattle.cc_base.specs.declared.error.Error.TheVariants.{Memory, NoCompletion, Write}
@@ -14,7 +12,6 @@ use Rattle.cc_candidates.specs.declared.candidate.CompletionCandidate.{Completio
 use Rattle.cc_command.specs.Built.{built_tree}
 use Rattle.cc_command.specs.Tree.{Tree}
 use Rattle.cc_engine.specs.Completion.{Refuses, is_in_range}
-use Rattle.cc_replies.specs.declared.bash_words.OpenQuote.{OpenQuote}
 
 module _ {S : Type 0} (taken : S → List ℕ) (failed : S → Failures) (before after : Tree)
     (Wants : List (List ℕ) → ℕ → Type 0)
@@ -153,39 +150,16 @@ module _ {S : Type 0} (taken : S → List ℕ) (failed : S → Failures) (before
     errors = these_error words number wants old new error r.errors;
   }
 
--- the same of a reply with a separator that has another name
-pub replied_between : {S : Type 0} (taken : S → List ℕ) (failed : S → Failures)
+-- the same of a reply with another name
+pub replied_named : {S : Type 0} (taken : S → List ℕ) (failed : S → Failures)
     (before after : Tree) (Wants : List (List ℕ) → ℕ → Type 0)
     (Offers : List (List ℕ) → ℕ → List CompletionCandidate → Type 0)
     (result : Result (Unit {0}) Error) (old new : S) (words : List (List ℕ)) (number : ℕ)
-    (reply : List ℕ → List CompletionCandidate → List ℕ) (between separator : List ℕ)
-    → between ≡ separator → Wants words number
-    → Replies taken failed result old new before after (WantsThese words number) Offers (reply between)
-    → Replies taken failed result old new before after Wants Offers (reply separator)
-replied_between taken failed before after Wants Offers result old new words number reply between
-    separator same wants r =
-    replied_as_wanted taken failed before after Wants Offers (reply separator) result old new words
-    number wants
-    (subst (λ b. Replies taken failed result old new before after (WantsThese words number) Offers
-    (reply b)) same r)
-
--- the same of a reply to a safe request, whose locale, kept part and quote have other names
-pub replied_safely : {S : Type 0} (taken : S → List ℕ) (failed : S → Failures)
-    (before after : Tree) (Wants : List (List ℕ) → ℕ → Type 0)
-    (Offers : List (List ℕ) → ℕ → List CompletionCandidate → Type 0)
-    (result : Result (Unit {0}) Error) (old new : S) (words : List (List ℕ)) (number : ℕ)
-    (shell : Builtin) (ascii_only known_only : Bool) (kept known_kept : List ℕ)
-    (quote known_quote : OpenQuote)
-    → ascii_only ≡ known_only → kept ≡ known_kept → quote ≡ known_quote → Wants words number
-    → Replies taken failed result old new before after (WantsThese words number) Offers (safe_reply shell ascii_only kept quote)
-    → Replies taken failed result old new before after Wants Offers (safe_reply shell known_only known_kept known_quote)
-replied_safely taken failed before after Wants Offers result old new words number shell ascii_only
-    known_only kept known_kept quote known_quote same_only same_kept same_quote wants r =
-    replied_as_wanted taken failed before after Wants Offers
-    (safe_reply shell known_only known_kept known_quote) result old new words number wants
-    (subst (λ o. Replies taken failed result old new before after (WantsThese words number) Offers
-    (safe_reply shell o known_kept known_quote)) same_only
-    (subst (λ k. Replies taken failed result old new before after (WantsThese words number) Offers
-    (safe_reply shell ascii_only k known_quote)) same_kept
-    (subst (λ q. Replies taken failed result old new before after (WantsThese words number) Offers
-    (safe_reply shell ascii_only kept q)) same_quote r)))
+    (reply known : List CompletionCandidate → List ℕ) → reply ≡ known → Wants words number
+    → Replies taken failed result old new before after (WantsThese words number) Offers reply
+    → Replies taken failed result old new before after Wants Offers known
+replied_named taken failed before after Wants Offers result old new words number reply known same
+    wants r =
+    replied_as_wanted taken failed before after Wants Offers known result old new words number wants
+    (subst (λ k. Replies taken failed result old new before after (WantsThese words number) Offers k)
+    same r)

@@ -15,7 +15,7 @@ use cc_candidates::CompletionCandidate;
 use cc_command::Command;
 use cc_engine::{Lookup, complete_from};
 use cc_replies::{
-    OpenQuote, write_bash_words, write_lines, write_powershell_words, write_safe_lines,
+    OpenQuote, write_bash_list, write_lines, write_powershell_words, write_safe_lines,
     write_safe_values, write_safe_zsh_items, write_values, write_zsh_items,
 };
 use std::alloc::Global;
@@ -83,16 +83,25 @@ pub(crate) struct SafeReply<'s> {
     pub(crate) kept: &'s str,
     /// The quote that is open there; in PowerShell `"` if a `"` reaches programs.
     pub(crate) quote: OpenQuote,
+    /// The width of the terminal in which bash lists the texts, or 0 if it may insert them.
+    pub(crate) width: usize,
 }
 
 impl ReplyFormat for SafeReply<'_> {
-    ghost text = { λ format found.
-        safe_reply format.shell format.ascii_only format.kept.now format.quote found };
+    ghost text = { λ format found. safe_reply format.shell format.ascii_only format.kept.now
+        format.quote format.width found };
 
     fn write<W: Sink>(&self, found: &[CompletionCandidate], sink: &mut W) -> Result<(), Error> {
         match self.shell {
             Builtin::Bash => {
-                write_bash_words(sink, self.ascii_only, self.kept, self.quote, found)
+                write_bash_list(
+                    sink,
+                    self.ascii_only,
+                    self.kept,
+                    self.quote,
+                    self.width,
+                    found,
+                )
             }
             Builtin::Elvish => write_safe_values(sink, found),
             Builtin::Fish => write_safe_lines(sink, found),

@@ -7,7 +7,7 @@ ghost use Rattle.cc_env.specs.SafeShells.{safe_spec};
 ghost use Rattle.cc_env.specs.WantedWords.{WantsAtLast};
 ghost use Rattle.cc_base.specs.Writes.{Writes};
 ghost use Rattle.cc_engine.specs.Completion.{Completes};
-ghost use Rattle.cc_replies.specs.Environment.{ascii_only_of, kept_of, quote_of};
+ghost use Rattle.cc_replies.specs.Environment.{ascii_only_of, kept_of, quote_of, width_of};
 
 use crate::builtin::Builtin;
 use crate::env_completer::{EnvCompleter, LookupCompleter};
@@ -108,7 +108,7 @@ impl SafeShell {
         ensures { Replies W.taken W.failed result sink.old sink.new command.old command.new
             (WantsAtLast (map string_bytes words.items)) (Completes (L.may_return lookup.now)
             command.new) (safe_reply self.now.shell (ascii_only_of env.now) (kept_of env.now)
-            (quote_of env.now)) }
+            (quote_of env.now) (width_of env.now)) }
     {
         let index = last_index(&words);
         let format = SafeReply {
@@ -116,6 +116,7 @@ impl SafeShell {
             ascii_only: env.ascii_only(),
             kept: env.kept(),
             quote: env.open_quote(),
+            width: env.list_width(),
         };
         reply_at(alloc, command, words, index, lookup, &format, sink)
     }

@@ -15,7 +15,7 @@ const FUNCTION_HEAD: &str = "() {
     # after a line feed, which may begin a here-document.
     [[ $- != *k* && ($- != *H* || ${histchars-!} == !*) && $COMP_LINE != *$'\\n'* ]] || return
     local ascii code home='~/' index keeps kept open plain quote reply run=(:) sign values word words=()
-    local glob=$- IFS=$'\\n' line=${COMP_LINE:0:COMP_POINT}
+    local glob=$- IFS=$'\\n' line=${COMP_LINE:0:COMP_POINT} width=''
     # Only ASCII is safe where two bytes can be a letter that UTF-8 does not have: the second may be
     # the backslash that escapes.
     ascii=$'\\x80\\\\\\x81\\\\\\x82\\\\\\x83\\\\\\x84\\\\\\x85\\\\\\x86\\\\\\x87\\\\\\x88\\\\\\x89\\\\\\x8a\\\\\\x8b\\\\\\x8c\\\\\\x8d\\\\\\x8e\\\\\\x8f\\\\'
@@ -62,6 +62,10 @@ const FUNCTION_HEAD: &str = "() {
         words[index]=$word
     done
     [[ -n $keeps ]] || return
+    # bash inserts nothing when it only lists, so descriptions may follow the words there, unless a
+    # byte of their letters could be a control character.
+    [[ ${COMP_TYPE-} != 63 || ${COMPLGEN_DESCRIPTIONS-} == 0 || $'\\x9b' == [[:cntrl:]] ]] ||
+        width=${COLUMNS-}
     # Asks for candidates, written as the line takes them; where complgen asks back, with what the
     # words that it names print.
     for values in ask stdin; do
@@ -70,6 +74,7 @@ const FUNCTION_HEAD: &str = "() {
 
 const CALL_BEGINS: &str = "=bash \\
             _COMPLGEN_VALUES=$values \\
+            _COMPLGEN_WIDTH=$width \\
             _COMPLGEN_KEPT=$kept \\
             _COMPLGEN_QUOTE=$quote \\
             _COMPLGEN_ASCII=$ascii \\

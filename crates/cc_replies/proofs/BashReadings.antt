@@ -165,10 +165,18 @@ text_without (byte ∷ kept) Bare rest h = marked_without line_feed is_bare_mark
 
 -- ---- the law
 
-word_reads : (ascii_only : Bool) (kept : List ℕ) (quote : OpenQuote) (value : List ℕ) → is_bash_insertable ascii_only kept quote value ≡ true
-    → ReadsLine (IsWithout line_feed) (bash_value_read ascii_only kept quote) (bash_word_line kept quote value) (Some value)
-unfolding bash_word_line bash_value_read
-word_reads ascii_only kept quote value e =
+-- the text of a value that bash can insert
+pub record IsWritten (ascii_only : Bool) (kept : List ℕ) (quote : OpenQuote) (value : List ℕ) : Type 0 where
+  pub rest : List ℕ
+  pub found : after kept value ≡ Some rest
+  pub held : holds quote rest ≡ true
+  pub one_line : IsWithout line_feed (bash_text kept quote rest)
+  pub reads : bash_value_read ascii_only kept quote (bash_text kept quote rest) ≡ Some value
+
+pub is_written : (ascii_only : Bool) (kept : List ℕ) (quote : OpenQuote) (value : List ℕ) → is_bash_insertable ascii_only kept quote value ≡ true
+    → IsWritten ascii_only kept quote value
+unfolding bash_value_read
+is_written ascii_only kept quote value e =
     let both = and_parts (is_safe_text value && is_in_locale ascii_only value) (holds_rest quote (after kept value)) e in
     let safe = and_parts (is_safe_text value) (is_in_locale ascii_only value) both.0 in
     elim (option_cases (after kept value)) [
@@ -176,17 +184,31 @@ word_reads ascii_only kept quote value e =
           let rest : List ℕ = found.0 in
           let whole : value ≡ kept ++ rest = follows kept value rest found.1 in
           let clean : IsUncontrolled rest = all_right (λ byte. is_ascii_control byte ≡ false) kept rest (subst (λ t. IsUncontrolled t) whole (safe_uncontrolled value safe.0)) in
+          let held : holds quote rest ≡ true = sym (ap (holds_rest quote) found.1) ∙ both.1 in
           record {
-            body = bash_text kept quote rest;
-            whole = ap (λ found. elim found [ Some rest ↦ bash_text kept quote rest ++ codes "\n" | None ↦ [] ]) found.1;
+            rest = rest;
+            found = found.1;
+            held = held;
             one_line = text_without kept quote rest clean;
             reads =
-                ap (λ read. option_and_then (read_in_locale ascii_only) (option_map (λ rest. kept ++ rest) read)) (text_reads kept quote rest clean (sym (ap (holds_rest quote) found.1) ∙ both.1))
+                ap (λ read. option_and_then (read_in_locale ascii_only) (option_map (λ rest. kept ++ rest) read)) (text_reads kept quote rest clean held)
                 ∙ ap (read_in_locale ascii_only) (sym whole)
                 ∙ ap (λ b. cond b (Some value) None) safe.1;
           }
       | inr none ↦ let both : false ≡ true = sym (ap (holds_rest quote) none) ∙ both.1 in cc
     ]
+
+word_reads : (ascii_only : Bool) (kept : List ℕ) (quote : OpenQuote) (value : List ℕ) → is_bash_insertable ascii_only kept quote value ≡ true
+    → ReadsLine (IsWithout line_feed) (bash_value_read ascii_only kept quote) (bash_word_line kept quote value) (Some value)
+unfolding bash_word_line
+word_reads ascii_only kept quote value e =
+    let written = is_written ascii_only kept quote value e in
+    record {
+      body = bash_text kept quote written.rest;
+      whole = ap (λ found. elim found [ Some rest ↦ bash_text kept quote rest ++ codes "\n" | None ↦ [] ]) written.found;
+      one_line = written.one_line;
+      reads = written.reads;
+    }
 
 pub words_read_back : (ascii_only : Bool) (kept : List ℕ) (quote : OpenQuote) (candidates : List CompletionCandidate) → BashWordsRead ascii_only kept quote candidates
 unfolding BashWordsRead lines_from

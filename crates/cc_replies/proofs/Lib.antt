@@ -1,5 +1,6 @@
 pub mod BashReadings
 pub mod Beginnings
+pub mod Characters
 pub mod Cutting
 mod EntryExamples
 pub mod EntryReadings
@@ -8,8 +9,12 @@ pub mod FirstLines
 pub mod FirstOfValues
 pub mod GivenEntries
 mod GivenExamples
+mod ListExamples
+pub mod ListReadings
+pub mod ListWidths
 mod Named
 pub mod PowershellReadings
 pub mod ReplyReadings
 mod SafeExamples
 pub mod SafeReadings
+pub mod Widths

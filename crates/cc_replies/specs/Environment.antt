@@ -1,6 +1,9 @@
 -- Environment variables, the index of a word, and the separator of a reply.
 use Rattle.std.specs.Prelude.{◌≡◌, ◌<◌, ◌^◌, ℕ, List, Option, Some, None}
-use Rattle.std.specs.Prelude.{Bool, false, not, ◌==◌, codes, find, is_some, length, option_map, unwrap_or}
+use Rattle.std.specs.Prelude.{Bool, false, not, ◌&&◌, ◌==◌, codes, find, if◌then◌else◌, is_some, length, option_map, unwrap_or}
+use Rattle.std.specs.Char.{is_ascii_digit}
+use Rattle.std.specs.Int.{is_in_range}
+use Rattle.std.specs.List.{list_all}
 use Rattle.std.specs.String.{string_bytes}
 use Rattle.std.specs.Str.{bytes_eq}
 use Rattle.std.specs.Str.Parse.{IsNumeral, digits_value, without_leading_plus}
@@ -60,3 +63,17 @@ kept_of env = unwrap_or (value_of (codes "_COMPLGEN_KEPT") env) (codes "")
 -- the quote that is open in bash's line
 abbrev pub quote_of : EnvValues → OpenQuote
 quote_of env = open_quote (unwrap_or (value_of (codes "_COMPLGEN_QUOTE") env) (codes ""))
+
+-- ---- the width of the terminal in which bash lists candidates
+
+-- one to five digits, and nothing else
+abbrev pub is_width : List ℕ → Bool
+is_width text = is_in_range 1 5 (length text) && list_all is_ascii_digit text
+
+-- the number that such a text spells, or 0
+abbrev pub width_in : Option (List ℕ) → ℕ
+width_in None = 0
+width_in (Some text) = if is_width text then digits_value 10 text else 0
+
+abbrev pub width_of : EnvValues → ℕ
+width_of env = width_in (value_of (codes "_COMPLGEN_WIDTH") env)

@@ -1,3 +1,4 @@
+pub mod BashList
 pub mod BashWords
 pub mod Environment
 pub mod GivenLines

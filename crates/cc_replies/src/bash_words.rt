@@ -84,12 +84,12 @@ pub fn write_bash_words<W: Sink>(
     Ok(put_each(sink, &words, candidates)?)
 }
 
-// The lines of values as bash reads them after the part `kept`, in the open quote.
+/// The lines of values as bash reads them after the part `kept`, in the open quote.
 #[derive(Drop)]
-struct BashWords<'a> {
-    ascii_only: bool,
-    kept: TextRef<'a>,
-    quote: OpenQuote,
+pub(crate) struct BashWords<'a> {
+    pub(crate) ascii_only: bool,
+    pub(crate) kept: TextRef<'a>,
+    pub(crate) quote: OpenQuote,
 }
 
 impl ReplyLines for BashWords<'_> {
@@ -147,15 +147,20 @@ fn is_kept_in_single(text: &[u8]) -> bool
         .all(|byte| !matches!(*byte, b'\'' | b'$' | b'`'))
 }
 
-// Returns the text after `beginning`, or `None` if the text does not begin with it.
-fn rest_after<'a>(beginning: &str, text: &'a str) -> Option<&'a str>
+/// Returns the text after `beginning`, or `None` if the text does not begin with it.
+pub(crate) fn rest_after<'a>(beginning: &str, text: &'a str) -> Option<&'a str>
     ensures { option_copied result ≡ after beginning.now text.now }
 {
     text.strip_prefix(beginning)
 }
 
+/// Writes the text of a word after the part `kept`, in the open `quote`.
+///
+/// # Errors
+///
+/// The kind of the put that failed.
 #[tactic(auto, unfolding(crate::specs::BashWords::bash_text))]
-fn put_bash_text<W: Sink>(
+pub(crate) fn put_bash_text<W: Sink>(
     sink: &mut W,
     kept: &str,
     quote: OpenQuote,
@@ -195,9 +200,9 @@ fn put_word_start<W: Sink>(sink: &mut W, word: &str) -> Result<(), ErrorKind>
     put_escaped(sink, &BashBare, below)
 }
 
-// Puts a backslash before each byte that bash does not read as itself in a bare word. Control
-// characters get none, because no value has them here.
-struct BashBare;
+/// Puts a backslash before each byte that bash does not read as itself in a bare word. Control
+/// characters get none, because no value has them here.
+pub(crate) struct BashBare;
 
 impl ByteEscape for BashBare {
     ghost escapes = { λ _. is_bare_marked };

@@ -1,12 +1,15 @@
 //! Environment variables as the program receives them.
 
-ghost use Rattle.std.specs.Prelude.{◌≡◌};
+ghost use Rattle.std.specs.Prelude.{◌≡◌, Some};
+ghost use Rattle.std.specs.Char.{is_ascii_digit};
+ghost use Rattle.std.specs.List.{list_all};
 ghost use Rattle.std.specs.Option.{option_copied};
 ghost use Rattle.std.specs.Prelude.{option_map, find};
 ghost use Rattle.std.specs.Str.{bytes_eq};
 ghost use Rattle.std.specs.String.{string_bytes};
 ghost use Rattle.cc_replies.specs.Environment.{asks_safely, ascii_only_of, index_name, kept_of};
-ghost use Rattle.cc_replies.specs.Environment.{quote_of, separator_of, value_of};
+ghost use Rattle.cc_replies.specs.Environment.{is_width, quote_of, separator_of, value_of};
+ghost use Rattle.cc_replies.specs.Environment.{width_in, width_of};
 ghost use Rattle.cc_replies.specs.Environment.{IsIndex, IsNumberOf};
 
 use crate::bash_words::OpenQuote;
@@ -100,12 +103,44 @@ impl EnvValues {
     {
         OpenQuote::of(self.get("_COMPLGEN_QUOTE").unwrap_or(""))
     }
+
+    /// Returns the width of the terminal in which bash lists candidates and inserts none: the
+    /// number in `_COMPLGEN_WIDTH`, which has at most five digits. Returns 0 if there is no such
+    /// number, as if bash may insert what the reply contains.
+    pub fn list_width(&self) -> usize
+        ensures { result ≡ width_of self.now }
+    {
+        match self.get("_COMPLGEN_WIDTH") {
+            Some(text) => width(text),
+            None => 0,
+        }
+    }
+}
+
+// Returns the number that one to five digits spell, or 0.
+fn width(text: &str) -> usize
+    ensures { result ≡ width_in (Some text.now) }
+{
+    if is_width(text) { number(text) } else { 0 }
 }
 
 fn is_named(variable: &(String, String), name: &str) -> bool
     ensures { result ≡ bytes_eq (string_bytes variable.now.0) name.now }
 {
     variable.0.as_str() == name
+}
+
+// Returns whether the text has one to five digits, and nothing else.
+fn is_width(text: &str) -> bool
+    ensures { result ≡ is_width text.now }
+{
+    matches!(text.len(), 1..=5) && are_digits(text.as_bytes())
+}
+
+fn are_digits(text: &[u8]) -> bool
+    ensures { result ≡ list_all is_ascii_digit text.now }
+{
+    text.iter().all(|byte| byte.is_ascii_digit())
 }
 
 // Returns the number that the text spells, or 0 if it spells none.

@@ -14,6 +14,7 @@
 //! ```
 #![tactic(auto)]
 
+mod bash_list;
 mod bash_words;
 mod environment;
 mod lines;
@@ -25,6 +26,7 @@ mod safe;
 mod safe_replies;
 mod system;
 
+pub use crate::bash_list::write_bash_list;
 pub use crate::bash_words::{OpenQuote, write_bash_words};
 pub use crate::environment::EnvValues;
 pub use crate::lines::GivenLines;

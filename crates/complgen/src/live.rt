@@ -22,12 +22,13 @@ use std::rt::Files;
 
 // The environment variables that shells set, the one that turns commands off, those that name the
 // directories of tree files, and the one that lists the directories of programs.
-const VARIABLES: [&str; 13] = [
+const VARIABLES: [&str; 14] = [
     "COMPLETE",
     "_COMPLGEN_VALUES",
     "_COMPLGEN_ASCII",
     "_COMPLGEN_KEPT",
     "_COMPLGEN_QUOTE",
+    "_COMPLGEN_WIDTH",
     "_CLAP_COMPLETE_INDEX",
     "_CLAP_IFS",
     "COMPLGEN_COMMANDS",

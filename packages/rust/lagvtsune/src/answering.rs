@@ -25,8 +25,9 @@ pub(crate) const SEPARATOR: &str = "_CLAP_IFS";
 
 /// Variables that safe registrations set: whether the locale of bash or zsh is safe for ASCII only;
 /// the part of the word that bash keeps; the open quote, or in PowerShell `"` if a `"` reaches
-/// programs.
-const SET_BY_SHELLS: [&str; 3] = ["_COMPLGEN_ASCII", "_COMPLGEN_KEPT", "_COMPLGEN_QUOTE"];
+/// programs; the width of the terminal, where bash lists and inserts nothing.
+const SET_BY_SHELLS: [&str; 4] =
+    ["_COMPLGEN_ASCII", "_COMPLGEN_KEPT", "_COMPLGEN_QUOTE", "_COMPLGEN_WIDTH"];
 
 /// The variable by which a safe registration says whether it can run a command, or has run one.
 const VALUES: &str = "_COMPLGEN_VALUES";

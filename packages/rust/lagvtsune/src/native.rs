@@ -89,9 +89,9 @@ extern "C" {
     /// arguments, starting with its name. `variables` are names and values, alternating:
     ///
     /// - `COMPLETE` makes the request, and its value names the shell.
-    /// - `_COMPLGEN_VALUES`, `_COMPLGEN_ASCII`, `_COMPLGEN_KEPT` and `_COMPLGEN_QUOTE` have the
-    ///   values that the registration sets. A registration of the original's form sets
-    ///   `_CLAP_COMPLETE_INDEX` and `_CLAP_IFS` instead.
+    /// - `_COMPLGEN_VALUES`, `_COMPLGEN_ASCII`, `_COMPLGEN_KEPT`, `_COMPLGEN_QUOTE` and
+    ///   `_COMPLGEN_WIDTH` have the values that the registration sets. A registration of the
+    ///   original's form sets `_CLAP_COMPLETE_INDEX` and `_CLAP_IFS` instead.
     /// - `COMPLGEN_COMMANDS` turns off the commands of `values_from` if it is `0`.
     /// - `HOME` is the user's home directory, and `PWD` the directory where relative paths begin.
     ///

@@ -1,10 +1,11 @@
-use Rattle.cc_env.proofs.Replying.{out_of_memory, replied_between}
+use Rattle.std.proofs.Common.{ap}
+use Rattle.cc_env.proofs.Replying.{out_of_memory, replied_named}
 use Rattle.cc_replies.specs.Reply.{zsh_reply}
 use Rattle.cc_env.proofs.zsh.ZshLookupCompleter.write_complete_from.Goals as goal
 
 pub returns-clause-reply : goal.returns-clause-reply
 returns-clause-reply g c =
-    replied_between _ _ _ _ _ _ _ _ _ _ _ zsh_reply _ _ c.separator.ensures
+    replied_named _ _ _ _ _ _ _ _ _ _ _ _ _ (ap zsh_reply c.separator.ensures)
     (c.index-index.ensures, c.in_ok-words.ensures) c.reply_at.ensures
 
 pub returns-in_err-words-clause-reply : goal.returns-in_err-words-clause-reply
