@@ -168,8 +168,12 @@ fn leads<R: Abort + AllocGlobal>(rt: &R, words: &[&str], none: bool, wanted: &st
 fn script_and_candidates_are_of_one_command(rt: HostRuntime) {
     leads(&rt, &[], true, "app: run r; r");
     leads(&rt, &["r"], true, "app__subcmd__run: --out job; job --out");
-    let run = "app__subcmd__run: --out job; job";
-    leads(&rt, &["--", "run"], true, run);
+    leads(
+        &rt,
+        &["--", "run"],
+        true,
+        "app__subcmd__run: --out job; job",
+    );
     let job = "app__subcmd__run__subcmd__job: --deep; --deep";
     leads(&rt, &["--flag", "run", "--out", "job"], true, job);
 }

@@ -24,6 +24,9 @@ fn candidates_for(alloc: Global, known: &[&str], word: &str) -> Result<String, E
 #[test]
 fn names_that_begin_with_the_word_are_offered(rt: HostRuntime) {
     let known = ["ripgrep", "rsync", "jq"];
-    let found = candidates_for(rt.alloc(), &known, "r");
-    is(&rt, found, "ripgrep rsync ");
+    is(
+        &rt,
+        candidates_for(rt.alloc(), &known, "r"),
+        "ripgrep rsync ",
+    );
 }

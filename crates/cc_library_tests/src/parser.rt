@@ -80,8 +80,11 @@ fn what_is_described_is_offered(rt: HostRuntime) {
     is(&rt, offered(alloc, &["app", "--"]), longs);
     is(&rt, offered(alloc, &["app", "--color", ""]), " auto never");
     is(&rt, offered(alloc, &["app", "e"]), " exec");
-    let levels = offered(alloc, &["app", "exec", "--level", "low,h"]);
-    is(&rt, levels, " low,high");
+    is(
+        &rt,
+        offered(alloc, &["app", "exec", "--level", "low,h"]),
+        " low,high",
+    );
 }
 
 // Returns the exit status if the words are refused. Otherwise returns what they hold: the root,
@@ -131,13 +134,19 @@ fn what_is_described_is_parsed(rt: HostRuntime) {
         "--dry-run",
     ];
     is(&rt, parsed(alloc, &words), "/srv true run true make cc");
-    let made = parsed(alloc, &["app", "run", "make"]);
-    is(&rt, made, "none false run false make");
+    is(
+        &rt,
+        parsed(alloc, &["app", "run", "make"]),
+        "none false run false make",
+    );
     // no subcommand, no program, no such value, and no such word
     is(&rt, parsed(alloc, &["app"]), "2");
     is(&rt, parsed(alloc, &["app", "run"]), "2");
-    let red = parsed(alloc, &["app", "--color", "red", "run", "make"]);
-    is(&rt, red, "2");
+    is(
+        &rt,
+        parsed(alloc, &["app", "--color", "red", "run", "make"]),
+        "2",
+    );
     is(&rt, parsed(alloc, &["app", "rum", "make"]), "2");
     is(&rt, parsed(alloc, &["app", "--help"]), "0");
 }
@@ -174,10 +183,18 @@ fn both_of(
 
 #[test]
 fn what_is_offered_is_taken(rt: HostRuntime) {
-    let child = both(rt.alloc(), "r", &["app", "run", "make"]);
-    is(&rt, child, "app: run: none false run false make");
-    let flag = both(rt.alloc(), "--v", &["app", "--verbose", "run", "make"]);
-    is(&rt, flag, "app: --verbose: none true run false make");
+    let line = ["app", "run", "make"];
+    is(
+        &rt,
+        both(rt.alloc(), "r", &line),
+        "app: run: none false run false make",
+    );
+    let line = ["app", "--verbose", "run", "make"];
+    is(
+        &rt,
+        both(rt.alloc(), "--v", &line),
+        "app: --verbose: none true run false make",
+    );
 }
 
 // Returns the name of the command that `exec` leads to, whether it fits its parser, and the values
@@ -222,8 +239,12 @@ fn is_dry_run(matches: Result<ArgMatches<'_>, clap::Error>) -> bool {
 
 #[test]
 fn what_a_subcommand_offers_is_taken(rt: HostRuntime) {
-    let shown = reached(rt.alloc(), "--d", &["run", "--dry-run", "make"]);
-    is(&rt, shown, "run true: --dry-run: true");
+    let line = ["run", "--dry-run", "make"];
+    is(
+        &rt,
+        reached(rt.alloc(), "--d", &line),
+        "run true: --dry-run: true",
+    );
 }
 
 #[test]
@@ -233,8 +254,11 @@ fn a_global_argument_above_a_subcommand_is_taken(rt: HostRuntime) {
     let mut app = with_arg(app(alloc), quiet).expect(&rt, "no tree");
     let words = to_strings(alloc, &["app", "exec", "--q"]).expect(&rt, "no memory");
     let line = ["run", "--quiet", "--dry-run", "make"];
-    let shown = reached_of(alloc, None, &mut app, words, &line);
-    is(&rt, shown, "run true: --quiet: true");
+    is(
+        &rt,
+        reached_of(alloc, None, &mut app, words, &line),
+        "run true: --quiet: true",
+    );
 }
 
 #[test]

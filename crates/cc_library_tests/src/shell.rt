@@ -8,6 +8,7 @@ use clap_complete::aot::{Bash, Elvish, Fish, InvalidShell, Nushell, PowerShell, 
 use clap_complete::command::Command;
 use clap_complete::{Error, Generator, Shell, generate_to};
 use std::alloc::Global;
+use std::hash::{DefaultHasher, Hash, Hasher};
 use std::io::ErrorKind;
 use std::os::unix::fs::symlink;
 use std::process::Abort;
@@ -32,12 +33,21 @@ fn each_shell_prints_its_text_and_is_read_from_it(rt: HostRuntime) {
 
 #[test]
 fn display_heeds_width_fill_and_alignment(rt: HostRuntime) {
-    let shown = format!(in rt.alloc(); "{:>6}|", Shell::Bash);
-    is(&rt, shown, "  bash|");
-    let shown = format!(in rt.alloc(); "{:*^8}", Shell::Fish);
-    is(&rt, shown, "**fish**");
-    let shown = format!(in rt.alloc(); "{:8}|", Shell::Elvish);
-    is(&rt, shown, "elvish  |");
+    is(
+        &rt,
+        format!(in rt.alloc(); "{:>6}|", Shell::Bash),
+        "  bash|",
+    );
+    is(
+        &rt,
+        format!(in rt.alloc(); "{:*^8}", Shell::Fish),
+        "**fish**",
+    );
+    is(
+        &rt,
+        format!(in rt.alloc(); "{:8}|", Shell::Elvish),
+        "elvish  |",
+    );
 }
 
 #[test]
@@ -65,6 +75,32 @@ fn fails_with(alloc: Global, text: &str, message: &str) -> bool {
     match Shell::parse(alloc, text) {
         Err(Error::InvalidVariant(shown)) => shown.as_str() == message,
         _ => false,
+    }
+}
+
+fn hash_of(shell: Shell) -> u64 {
+    let mut state = DefaultHasher::new();
+    shell.hash(&mut state);
+    state.finish()
+}
+
+// Fails unless the shell that is read from what a shell prints has the same hash.
+fn has_the_hash_of_its_copy(rt: &impl Abort, alloc: Global, shell: Shell) {
+    let printed = format!(in alloc; "{shell}").expect(rt, "no text");
+    let read = Shell::parse(alloc, printed.as_str()).expect(rt, "no shell");
+    same(rt, hash_of(read), hash_of(shell));
+}
+
+#[test]
+fn shells_that_differ_are_not_equal(rt: HostRuntime) {
+    assert!(rt; Shell::Bash != Shell::Zsh);
+    assert!(rt; Shell::Elvish != Shell::Nushell);
+}
+
+#[test]
+fn equal_shells_have_equal_hashes(rt: HostRuntime) {
+    for shell in Shell::value_variants() {
+        has_the_hash_of_its_copy(&rt, rt.alloc(), *shell);
     }
 }
 
@@ -113,6 +149,12 @@ fn a_shell_writes_the_script_of_its_generator(rt: HostRuntime) {
     is_of(&rt, Shell::PowerShell, PowerShell);
     is_of(&rt, Shell::Zsh, Zsh);
     is_of(&rt, Shell::Nushell, Nushell);
+}
+
+#[test]
+fn each_table_shell_has_its_file(rt: HostRuntime) {
+    is(&rt, Elvish.file_name(rt.alloc(), "app"), "app.elv");
+    is(&rt, PowerShell.file_name(rt.alloc(), "app"), "_app.ps1");
 }
 
 // Fails unless each of the two methods of a shell writes the script of `NESTED`.
@@ -250,8 +292,11 @@ fn is_emptied<R: Abort + AllocGlobal + Files>(rt: &R, command: &mut Command, fol
     let with_slash = path_in(rt, folder, "");
     let path = write_to(rt, Shell::Fish, command, with_slash.as_str()).expect(rt, "not written");
     let wanted = lengthen(rt, path.as_str());
-    let again = write_to(rt, Shell::Fish, command, folder);
-    is(rt, again, path.as_str());
+    is(
+        rt,
+        write_to(rt, Shell::Fish, command, folder),
+        path.as_str(),
+    );
     is(rt, fs::read_to_string(rt, path.as_str()), wanted.as_str());
 }
 
