@@ -1,13 +1,13 @@
 -- Lists of bash, and how their lines are read.
-use Rattle.std.proofs.Common.{◌≡◌, ℕ, Bool, true, false, List, [], ◌∷◌, Option, Some, None, codes, refl}
+use Rattle.std.proofs.Common.{◌≡◌, ℕ, false, List, [], ◌∷◌, Some, None, codes, refl}
 use Rattle.std.specs.Fmt.{char_count, take_chars}
 use Rattle.cc_base.specs.Found.{after, cut_at, with_front}
 use Rattle.cc_candidates.specs.Candidate.{new_candidate}
 use Rattle.cc_candidates.specs.declared.candidate.CompletionCandidate.{CompletionCandidate}
-use Rattle.cc_replies.specs.BashList.{bash_list_reply, before_closing, closed_word, cut_description, description_of, description_read, list_line, list_line_read, list_room, word_cut}
-use Rattle.cc_replies.specs.BashWords.{Bare, Double, OpenQuote, Single, bare_read, bare_text, bare_word_read, bash_line_word, bash_text, bash_value_read, bash_word_line, double_read, single_read, start_text, word_read}
+use Rattle.cc_replies.specs.BashList.{bash_list_reply, before_closing, closed_word, description_of, description_read, list_line, list_line_read, word_cut}
+use Rattle.cc_replies.specs.BashWords.{Bare, Double, Single, bare_read, bare_text, bare_word_read, bash_line_word, bash_text, bash_value_read, bash_word_line, double_read, single_read, start_text, word_read}
 use Rattle.cc_replies.specs.Environment.{width_in}
-use Rattle.cc_replies.specs.Reply.{Shown, first_line, without_return}
+use Rattle.cc_replies.specs.Reply.{first_line, without_return}
 use Rattle.cc_replies.specs.SafeValues.{safe_help}
 
 -- a candidate with a help text
