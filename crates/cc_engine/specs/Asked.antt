@@ -1,19 +1,18 @@
 -- The argument that a word asks for: its values are offered there, and a source outside the
 -- tree lists them.
-use Rattle.std.specs.Prelude.{ℕ, Bool, false, List, [], ◌∷◌, ◌++◌, ◌≡◌, ◌==◌, ◌⊎◌, get_or, find, Option, Some, None, option_to_list, if◌then◌else◌}
+use Rattle.std.specs.Prelude.{ℕ, Bool, false, List, [], ◌∷◌, ◌++◌, ◌≡◌, ◌==◌, get_or, find, Option, Some, None, option_to_list, if◌then◌else◌}
 use Rattle.cc_base.specs.Bytes.{dash}
 use Rattle.cc_arg.specs.declared.parts.ArgParts.{ArgParts as Arg}
 use Rattle.cc_arg.specs.ValueSources.{has_source}
 use Rattle.cc_command.specs.Tree.{Tree}
 use Rattle.cc_gather.specs.declared.options.OptionMatch.{OptionMatch}
 use Rattle.cc_gather.specs.declared.options.OptionMatch.TheVariants.{Listed, ValuesOf}
-use Rattle.cc_gather.specs.Values.{candidates}
 use Rattle.cc_walk.specs.declared.state.Pending.{Pending}
 use Rattle.cc_walk.specs.declared.state.Pending.TheVariants.{OptionOpen}
 use Rattle.cc_walk.specs.declared.state.State.{State}
 use Rattle.cc_walk.specs.Destination.{WordsLeadTo, WordsLeadOnlyTo}
 use Rattle.cc_walk.specs.Lookup.{positional_at}
-use Rattle.cc_engine.specs.Completion.{Questions, offered_match, words_before}
+use Rattle.cc_engine.specs.Completion.{offered_match, words_before}
 use Rattle.cc_engine.specs.declared.open_lists.OpenLists.{OpenLists}
 use Rattle.cc_engine.specs.OpenLists.{open_lists_by}
 
@@ -75,8 +74,3 @@ pub record Asks (root : Tree) (words : List (List ℕ)) (index : ℕ) (result : 
   pub leads : WordsLeadTo root (words_before root.node words index) tree state
   pub only : WordsLeadOnlyTo root (words_before root.node words index) tree state
   pub asked : result ≡ asked_argument tree state (get_or words index [])
-
--- one of the questions for a word is the one for this list
-abbrev pub AskForList : ℕ → Questions → Type 0
-AskForList number wanted = (wanted.opened ≡ candidates number)
-    ⊎ (wanted.within ≡ candidates number) ⊎ (wanted.positional ≡ candidates number)
