@@ -1,5 +1,5 @@
 -- Filters of lists in pieces.
-use Rattle.std.proofs.Common.{◌≡◌, ℕ, ◌+◌, ◌<◌, Bool, true, false, cond, List, [], ◌∷◌, ◌++◌, filter, length, drop, get_or, refl, ap, sym, ◌∙◌, append_assoc}
+use Rattle.std.proofs.Common.{◌≡◌, ℕ, ◌+◌, ◌<◌, Bool, true, false, cond, List, [], ◌∷◌, ◌++◌, filter, length, drop, get_or, map, refl, ap, sym, ◌∙◌, append_assoc}
 use Rattle.cc_base.proofs.Lists.{one_more}
 use Rattle.cc_command.specs.declared.node.Node.{Node}
 use Rattle.cc_command.specs.Tree.{Tree, forest_of}
@@ -22,6 +22,19 @@ added p found one two three x xs ys a b c =
     c ∙ ap (λ r. r ++ filter p ys) (b ∙ ap (λ r. r ++ filter p xs) a ∙ append_assoc found (filter p (x ∷ [])) (filter p xs)
     ∙ ap (λ r. found ++ r) (sym (filter_first p x xs)))
     ∙ append_assoc found (filter p (x ∷ xs)) (filter p ys) ∙ ap (λ r. found ++ r) (sym (filter-append p (x ∷ xs) ys))
+
+-- the next of the mapped items is added
+pub mapped_added : {X : Type 0} (p : CompletionCandidate → Bool) (f : X → CompletionCandidate) (found after whole : List CompletionCandidate) (xs : List X) (i : ℕ) (d x : X) →
+    i < length xs → x ≡ get_or xs i d →
+    found ++ filter p (map f (drop i xs)) ≡ whole →
+    after ≡ found ++ filter p (f x ∷ []) →
+    after ++ filter p (map f (drop (i + 1) xs)) ≡ whole
+mapped_added p f found after whole xs i d x within is h push =
+    let split = one_more xs i d x within is in
+    let rest = map f (drop (i + 1) xs) in
+    ap (λ r. r ++ filter p rest) push ∙ append_assoc found (filter p (f x ∷ [])) (filter p rest)
+    ∙ ap (λ r. found ++ r) (sym (filter_first p (f x) rest) ∙ ap (λ s. filter p (map f s)) (sym split))
+    ∙ h
 
 -- one more child
 pub child_added : (p : CompletionCandidate → Bool) (node : Node) (found after whole : List CompletionCandidate) (siblings : List Tree) (i : ℕ) (child : Tree) →

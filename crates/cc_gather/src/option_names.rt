@@ -97,7 +97,6 @@ fn push_own_longs(
 }
 
 // Adds a candidate for each of the `names` that begins with `long`.
-#[tactic(auto, using(crate::proofs::Filters::filter_first))]
 fn push_names(
     found: &mut Vec<CompletionCandidate>,
     alloc: Global,

@@ -118,7 +118,6 @@ fn push_child(
 }
 
 // Adds a candidate for each of the names that begins with the word.
-#[tactic(auto, using(crate::proofs::Filters::filter_first))]
 fn push_names(
     found: &mut Vec<CompletionCandidate>,
     alloc: Global,
