@@ -67,7 +67,7 @@ SETTINGS = (
     Setting("set -u, set -f", "set -u -f", KEYS, LIST, None),
     Setting("FIGNORE", "FIGNORE=':a:)'", KEYS, LIST, None),
     Setting("vi", VI, (TAB, TAB * 2, TAB * 3, *(TO_COMMANDS + key for key in ("=a", "==a", "*", "\\"))),
-            TO_COMMANDS + "=a", None),
+            TAB * 2, None),
 )
 
 

@@ -9,6 +9,7 @@ pub mod FirstLines
 pub mod FirstOfValues
 pub mod GivenEntries
 mod GivenExamples
+mod ListExamples
 pub mod ListReadings
 pub mod ListWidths
 mod Named

@@ -1,5 +1,5 @@
 -- The columns beside the words of a list.
-use Rattle.std.proofs.Common.{◌≡◌, ◌≤◌, ◌<◌, ◌+◌, ◌-◌, ◌&&◌, min, max, suc, zero, ℕ, Bool, true, false, cond, List, [], ◌∷◌, ◌++◌, Some, None, map, filter, flat_map, length, get_or, drop, codes, refl, sym, ◌∙◌, ap, arith, add-one, drop-cons}
+use Rattle.std.proofs.Common.{◌≡◌, ◌≤◌, ◌<◌, ◌+◌, ◌-◌, ◌&&◌, min, max, suc, zero, ℕ, Bool, true, false, cond, List, [], ◌∷◌, ◌++◌, Some, None, map, filter, flat_map, length, get_or, drop, refl, sym, ◌∙◌, ap, arith, drop-cons}
 use Rattle.std.proofs.Math.ListN.{drop_of_length-le}
 use Rattle.std.specs.Fmt.{char_count}
 use Rattle.std.specs.Prelude.{◌==◌, nat_le}
@@ -8,7 +8,7 @@ use Rattle.cc_candidates.specs.declared.candidate.CompletionCandidate.{Completio
 use Rattle.cc_quote.specs.Escapes.{marked}
 use Rattle.cc_replies.specs.BashList.{bash_list_reply, closed_word, closing_quote, greatest, has_two, is_listed_word, list_line, list_room, longest_word, width_left}
 use Rattle.cc_replies.specs.BashWords.{OpenQuote, bash_text, bash_words_reply, home_start, is_bare_marked, is_bash_insertable, start_text}
-use Rattle.cc_replies.proofs.Characters.{char_count-append, char_count-nil, left_after_both}
+use Rattle.cc_replies.proofs.Characters.{char_count-nil, left_after_both}
 
 -- a bare word that begins with `~/`
 pub start_left : (left middle last : ℕ) (word below : List ℕ) → Some below ≡ after home_start word → middle ≡ left - char_count home_start

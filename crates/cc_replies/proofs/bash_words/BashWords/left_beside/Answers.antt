@@ -1,7 +1,6 @@
-use Rattle.std.proofs.Common.{◌≡◌, ◌-◌, ◌∙◌, ap, sym, subst}
+use Rattle.std.proofs.Common.{◌-◌, ◌∙◌, ap}
 use Rattle.std.specs.Fmt.{char_count}
 use Rattle.cc_base.specs.Found.{after}
-use Rattle.cc_replies.specs.BashList.{closing_quote}
 use Rattle.cc_replies.specs.BashWords.{bash_text}
 use Rattle.cc_replies.proofs.ListWidths.{closed_left, unclosed_left}
 use Rattle.cc_replies.proofs.bash_words.BashWords.left_beside.Goals as goal

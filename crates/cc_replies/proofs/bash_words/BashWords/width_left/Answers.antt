@@ -1,4 +1,4 @@
-use Rattle.std.proofs.Common.{◌≡◌, ◌-◌, ◌∙◌, ℕ, List, ap, arith, min, sym}
+use Rattle.std.proofs.Common.{◌-◌, ◌∙◌, ℕ, List, ap, arith, min, sym}
 use Rattle.std.specs.Fmt.{char_count}
 use Rattle.cc_candidates.specs.declared.candidate.CompletionCandidate.{CompletionCandidate}
 use Rattle.cc_replies.specs.BashList.{closed_word, is_described}
