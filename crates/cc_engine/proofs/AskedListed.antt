@@ -15,7 +15,7 @@ use Rattle.cc_base.specs.declared.numbers.ArgValueCompleter.{ArgValueCompleter}
 use Rattle.cc_command.specs.Built.{built_tree}
 use Rattle.cc_command.specs.Tree.{Tree}
 use Rattle.cc_command.specs.ValueLists.{listed_tree}
-use Rattle.cc_command.proofs.ListedBuilt.{built_with_list, tree_with_list}
+use Rattle.cc_command.proofs.ListedBuilt.{built_with_list}
 use Rattle.cc_gather.specs.Lookup.{has_own_long}
 use Rattle.cc_gather.specs.Numbers.{is_number}
 use Rattle.cc_gather.specs.OptionMatches.{after_equals, after_one_dash, after_two_dashes, cluster_match, flag_match, long_match, match_of, short_match, value_query_after, without_end}
@@ -228,7 +228,7 @@ module _ (asked : Arg) (list : ArgValueCandidates) where
   lists_at tree state = open_lists_by tree.node.arguments state.position state.escaped state.pending
 
   abbrev listed_questions : Tree → State → List ℕ → Questions
-  listed_questions tree state word = questions (tree_with_list asked list tree) (state_with_list asked list state) word
+  listed_questions tree state word = questions (listed_tree asked list tree) (state_with_list asked list state) word
 
   opened_is_listed : (tree : Tree) (state : State) (word : List ℕ) (arg : Arg) → same_source asked arg ≡ true
       → opened_argument state.pending ≡ Some arg → (listed_questions tree state word).opened ≡ candidates list.number
@@ -256,14 +256,14 @@ module _ (asked : Arg) (list : ArgValueCandidates) where
 
   leads_with_list : (root tree other : Tree) (state elsewhere : State) (words : List (List ℕ))
       → WordsLeadTo (built_tree root) words tree state → WordsLeadTo (built_tree (listed_tree asked list root)) words other elsewhere
-      → (other ≡ tree_with_list asked list tree) × (elsewhere ≡ state_with_list asked list state)
+      → (other ≡ listed_tree asked list tree) × (elsewhere ≡ state_with_list asked list state)
   leads_with_list root tree other state elsewhere words leads leads_other =
       let here = walked_only (built_tree root) words tree state leads in
       let there = walked_only (built_tree (listed_tree asked list root)) words other elsewhere leads_other in
       let is : walked (built_tree (listed_tree asked list root)) words ≡ node_state_with_list asked list (walked (built_tree root) words) =
       ap (λ top. walked top words) (sym (built_with_list asked list root))
       ∙ walk_listed asked list (record { tree = built_tree root; state = start false }) words in (
-        there.0 ∙ ap (λ (s : NodeState). s.tree) is ∙ ap (tree_with_list asked list) (sym here.0),
+        there.0 ∙ ap (λ (s : NodeState). s.tree) is ∙ ap (listed_tree asked list) (sym here.0),
         there.1 ∙ ap (λ (s : NodeState). s.state) is ∙ ap (state_with_list asked list) (sym here.1),
       )
 
@@ -329,7 +329,7 @@ asks_for_list root asked list words index tree state asks leads =
     (unless_dash word positional) asked asks.asked in
     let same = same_source-self asked found.passes in
     subst (λ t. AskForList list.number (questions t state word)) (sym is.0)
-    (subst (λ s. AskForList list.number (questions (tree_with_list asked list asks.tree) s word)) (sym is.1) (elim found.is [
+    (subst (λ s. AskForList list.number (questions (listed_tree asked list asks.tree) s word)) (sym is.1) (elim found.is [
       | inl e ↦ inl (opened_is_listed asked list asks.tree asks.state word asked same (left_by word opened asked e))
       | inr (inl e) ↦ inr (inl (within_is_listed asked list asks.tree asks.state word asked same e))
       | inr (inr e) ↦ inr (inr (positional_is_listed asked list asks.tree asks.state word asked same (left_by word positional asked e)))

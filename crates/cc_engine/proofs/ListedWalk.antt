@@ -7,7 +7,7 @@ use Rattle.cc_arg.specs.ValueSources.{listed, same_source}
 use Rattle.cc_base.specs.declared.numbers.ArgValueCandidates.{ArgValueCandidates}
 use Rattle.cc_command.specs.Tree.{Forest, none, more, Tree}
 use Rattle.cc_command.specs.Names.{find_child, has_name}
-use Rattle.cc_command.proofs.ListedBuilt.{forest_with_list, tree_with_list}
+use Rattle.cc_command.specs.ValueLists.{listed_forest, listed_tree}
 use Rattle.cc_walk.specs.declared.state.Pending.{Pending}
 use Rattle.cc_walk.specs.declared.state.Pending.TheVariants.{Nothing, OptionOpen, PositionalRun, PositionMoved}
 use Rattle.cc_walk.specs.declared.state.State.{State}
@@ -296,31 +296,31 @@ module _ (asked : Arg) (list : ArgValueCandidates) where
   -- ---- the words
 
   abbrev pub node_state_with_list : NodeState → NodeState
-  node_state_with_list here = record { tree = tree_with_list asked list here.tree; state = state_with_list here.state }
+  node_state_with_list here = record { tree = listed_tree asked list here.tree; state = state_with_list here.state }
 
-  child_or : (named : Bool) (child : Tree) (found others : Option Tree) → found ≡ option_map (tree_with_list asked list) others
-      → cond named (Some (tree_with_list asked list child)) found ≡ option_map (tree_with_list asked list) (cond named (Some child) others)
+  child_or : (named : Bool) (child : Tree) (found others : Option Tree) → found ≡ option_map (listed_tree asked list) others
+      → cond named (Some (listed_tree asked list child)) found ≡ option_map (listed_tree asked list) (cond named (Some child) others)
   child_or true child found others e = refl
   child_or false child found others e = e
 
   child_listed : (forest : Forest) (word : List ℕ)
-      → find_child (forest_with_list asked list forest) word ≡ option_map (tree_with_list asked list) (find_child forest word)
+      → find_child (listed_forest asked list forest) word ≡ option_map (listed_tree asked list) (find_child forest word)
   child_listed none word = refl
   child_listed (more node below rest) word =
-      child_or (has_name node word) (record { node = node; children = below }) (find_child (forest_with_list asked list rest) word) (find_child rest word)
+      child_or (has_name node word) (record { node = node; children = below }) (find_child (listed_forest asked list rest) word) (find_child rest word)
       (child_listed rest word)
 
   entered_listed : (here : NodeState) (word : List ℕ) (child : Option Tree)
-      → entered (node_state_with_list here) word (option_map (tree_with_list asked list) child) ≡ node_state_with_list (entered here word child)
+      → entered (node_state_with_list here) word (option_map (listed_tree asked list) child) ≡ node_state_with_list (entered here word child)
   entered_listed here word (Some child) = refl
   entered_listed here word None =
       let args = here.tree.node.arguments in
       let state = here.state in
       ap (λ class. let s : NodeState = record {
-        tree = tree_with_list asked list here.tree;
+        tree = listed_tree asked list here.tree;
         state = step (all args) state.position state.escaped (pending_with_list state.pending) class;
       } in s) (class_listed args word)
-      ∙ ap (λ after. let s : NodeState = record { tree = tree_with_list asked list here.tree; state = after } in s)
+      ∙ ap (λ after. let s : NodeState = record { tree = listed_tree asked list here.tree; state = after } in s)
       (step_listed args state.position state.escaped state.pending (class_of args word))
 
   pub walk_listed : (here : NodeState) (words : List (List ℕ)) → walk (node_state_with_list here) words ≡ node_state_with_list (walk here words)
