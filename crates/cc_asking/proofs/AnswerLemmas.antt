@@ -4,18 +4,18 @@ use Rattle.cc_arg.specs.declared.parts.ArgParts.{ArgParts as Arg}
 use Rattle.cc_base.specs.declared.error.Error.{Error}
 use Rattle.cc_base.specs.declared.error.Error.TheVariants.{Memory}
 use Rattle.cc_candidates.specs.declared.candidate.CompletionCandidate.{CompletionCandidate}
-use Rattle.cc_command.proofs.ListedBuilt.{built_with_list, tree_with_list}
+use Rattle.cc_command.proofs.ListedBuilt.{built_with_list}
 use Rattle.cc_command.specs.Built.{built_tree}
 use Rattle.cc_command.specs.Tree.{Tree}
 use Rattle.cc_command.specs.ValueLists.{listed_tree}
 use Rattle.cc_engine.specs.Completion.{Completes}
-use Rattle.cc_env.specs.Arguments.{after_dashes}
+use Rattle.cc_env.specs.Arguments.{after_dashes, words_after}
 use Rattle.cc_env.specs.Builtins.{CompleterSpec}
 use Rattle.cc_env.specs.Steps.{IsRegistration, MakesText, Names, RepliesAs}
 use Rattle.cc_env.specs.Steps as made
 use Rattle.cc_gather.specs.Values.{MayReturn}
 use Rattle.cc_replies.specs.declared.environment.EnvValues.{EnvValues}
-use Rattle.cc_asking.specs.Answers.{Answers, AnswersStep, Parts, Told, answered, not_asked, out_of_memory, over_lines, replied, runs, seen, seen_answer, words, words_after}
+use Rattle.cc_asking.specs.Answers.{Answers, AnswersStep, Parts, Told, answered, not_asked, out_of_memory, over_lines, replied, runs, seen, seen_answer, words}
 use Rattle.cc_asking.specs.Asking.{AsksOver, CannotAsk, command_words, next_step, values_mode}
 use Rattle.cc_asking.specs.Given.{lines_list, with_lines}
 use Rattle.cc_asking.specs.declared.answers.Answer.{Answer}
@@ -49,39 +49,27 @@ text_of_built shell names env Offers tree built same
     (subst (λ t. RepliesAs shell env (after_dashes rest) (Offers t) t result)
     (ap built_tree is_built ∙ same) replies)
 
--- the text over equal words
-pub text_over_words : {Makes : Result Tree Error → Type 0} {shell : CompleterSpec}
-    {names : List ℕ → Tree → Names} {env : EnvValues}
-    {Offers : Tree → List (List ℕ) → ℕ → List CompletionCandidate → Type 0}
-    {words others : List (List ℕ)} {result : Result (List ℕ) Error} → words ≡ others
-    → MakesText Makes shell names env Offers words result
-    → MakesText Makes shell names env Offers others result
-text_over_words {Makes} {shell} {names} {env} {Offers} {words} {others} {result} same makes =
-    subst (λ ws. MakesText Makes shell names env Offers ws result) same makes
-
 -- the text over an equal tree, from equal candidates in lines
 pub text_over_lines : {shell : CompleterSpec} {names : List ℕ → Tree → Names} {env : EnvValues}
     (returned : MayReturn) {tree other : Tree} {found given : List CompletionCandidate}
-    {words others : List (List ℕ)} {result : Result (List ℕ) Error}
-    → tree ≡ other → found ≡ given → words ≡ others
+    {words : List (List ℕ)} {result : Result (List ℕ) Error} → tree ≡ other → found ≡ given
     → MakesText (λ made. made ≡ Ok tree) shell names env (Completes (with_lines returned found))
     words result
     → MakesText (λ made. made ≡ Ok other) shell names env (Completes (with_lines returned given))
-    others result
-text_over_lines {shell} {names} {env} returned {tree} {other} {found} {given} {words} {others} {result} same_tree same_found same_words makes =
-    text_over_words same_words
-    (subst (λ t. MakesText (λ made. made ≡ Ok t) shell names env
+    words result
+text_over_lines {shell} {names} {env} returned {tree} {other} {found} {given} {words} {result} same_tree same_found makes =
+    subst (λ t. MakesText (λ made. made ≡ Ok t) shell names env
     (Completes (with_lines returned given)) words result) same_tree
     (subst (λ cs. MakesText (λ made. made ≡ Ok tree) shell names env
-    (Completes (with_lines returned cs)) words result) same_found makes))
+    (Completes (with_lines returned cs)) words result) same_found makes)
 
 -- a list for an argument, before and after the command is built
-listed_built : (asked : Arg) (tree : Tree) → built_tree (built_tree tree) ≡ built_tree tree
+pub listed_built : (asked : Arg) (tree : Tree) → built_tree (built_tree tree) ≡ built_tree tree
     → built_tree (listed_tree asked lines_list (built_tree tree))
     ≡ built_tree (listed_tree asked lines_list tree)
 listed_built asked tree whole =
     sym (built_with_list asked lines_list (built_tree tree))
-    ∙ ap (tree_with_list asked lines_list) whole ∙ built_with_list asked lines_list tree
+    ∙ ap (listed_tree asked lines_list) whole ∙ built_with_list asked lines_list tree
 
 -- the answer by a step over the built command is that over the command
 pub step_of_built : (parts : Parts) (Gives : Arg → List ℕ → Type 0) (tree : Tree)

@@ -6,7 +6,7 @@ use Rattle.cc_base.specs.declared.error.Error.{Error}
 use Rattle.cc_base.specs.declared.error.Error.TheVariants.{Memory, NoCompletion}
 use Rattle.cc_base.specs.declared.numbers.ArgValueCandidates.{ArgValueCandidates}
 use Rattle.cc_candidates.specs.declared.candidate.CompletionCandidate.{CompletionCandidate}
-use Rattle.cc_command.proofs.ListedBuilt.{built_with_list, tree_with_list}
+use Rattle.cc_asking.proofs.AnswerLemmas.{listed_built}
 use Rattle.cc_command.specs.Built.{built_tree}
 use Rattle.cc_command.specs.Tree.{Tree}
 use Rattle.cc_command.specs.ValueLists.{listed_tree}
@@ -16,14 +16,6 @@ use Rattle.cc_gather.specs.Values.{MayReturn}
 use Rattle.cc_replies.specs.GivenLines.{candidates_of_lines}
 use Rattle.cc_asking.specs.Completion.{CompletesWith, RefusesWith}
 use Rattle.cc_asking.specs.Given.{lines_list, with_lines}
-
--- the tree with the list, built again, is that with the list before it was built
-built_again : (asked : Arg) (tree : Tree) → built_tree (built_tree tree) ≡ built_tree tree
-    → built_tree (listed_tree asked lines_list (built_tree tree))
-    ≡ built_tree (listed_tree asked lines_list tree)
-built_again asked tree whole =
-    sym (built_with_list asked lines_list (built_tree tree))
-    ∙ ap (tree_with_list asked lines_list) whole ∙ built_with_list asked lines_list tree
 
 module _ (words passed : List (String Global)) (same : passed ≡ words) (index : ℕ) (old mid : Tree)
     (is : mid ≡ built_tree old) (whole : built_tree mid ≡ mid) where
@@ -72,7 +64,7 @@ module _ (words passed : List (String Global)) (same : passed ≡ words) (index 
             (with_lines returned (candidates_of_lines asked.values_split lines)) tree
             (map string_bytes words) index (items f))
             (built ∙ ap built_tree (lists ∙ ap (λ l. listed_tree asked l mid) first
-            ∙ ap (listed_tree asked lines_list) is) ∙ built_again asked old built_whole)
+            ∙ ap (listed_tree asked lines_list) is) ∙ listed_built asked old built_whole)
             (subst (λ cs. Completes (with_lines returned cs) new (map string_bytes words) index (items f))
             (gives ∙ ap (λ s. candidates_of_lines s lines) splits) completes);
       }

@@ -1,5 +1,5 @@
 -- The answer to a request: a text, or the words of a command for the shell to run.
-use Rattle.std.specs.Prelude.{◌≡◌, ℕ, Bool, List, [], ◌∷◌, map, Option, Result, Ok, Err}
+use Rattle.std.specs.Prelude.{◌≡◌, ℕ, Bool, List, map, Option, Result, Ok, Err}
 use Rattle.std.specs.Option.{option_copied}
 use Rattle.std.specs.String.{string_bytes}
 use Rattle.cc_arg.specs.declared.parts.ArgParts.{ArgParts as Arg}
@@ -12,11 +12,11 @@ use Rattle.cc_command.specs.Built.{built_tree}
 use Rattle.cc_command.specs.Tree.{Tree}
 use Rattle.cc_command.specs.ValueLists.{listed_tree}
 use Rattle.cc_engine.specs.Completion.{Completes}
-use Rattle.cc_engine.specs.Sources.{returned_from}
+use Rattle.cc_engine.specs.Sources.{returned_of}
 use Rattle.cc_engine.specs.declared.sources.Sources.{Sources}
-use Rattle.cc_env.specs.Arguments.{after_dashes}
+use Rattle.cc_env.specs.Arguments.{words_after}
 use Rattle.cc_env.specs.SafeShells.{safe_spec}
-use Rattle.cc_env.specs.Steps.{MakesText, Names, names_of}
+use Rattle.cc_env.specs.Steps.{MakesText, Names, program_names}
 use Rattle.cc_env.specs.declared.safe_shell.SafeShell.{SafeShell}
 use Rattle.cc_gather.specs.Values.{MayReturn}
 use Rattle.cc_paths.specs.Folders.{FolderFacts}
@@ -48,19 +48,12 @@ abbrev pub parts_of : {D C : Type 0} → Ghosts C CompletionCandidate → Folder
     → Sources D C → Parts
 parts_of members facts call sources = record {
   shell = call.program.shell.now;
-  names = names_of call.program.variable.now (option_copied call.program.bin)
-      (option_copied call.program.completer) (option_copied sources.current_dir);
+  names = program_names call.program (option_copied sources.current_dir);
   env = call.env.now;
   args = map string_bytes call.args.now;
   trusted = call.trusted;
-  returned = returned_from members sources.completers.now facts
-      (option_copied sources.current_dir);
+  returned = returned_of members facts sources;
 }
-
--- the words after the first `--` that follows the program's name
-abbrev pub words_after : List (List ℕ) → List (List ℕ)
-words_after [] = []
-words_after (program ∷ rest) = after_dashes rest
 
 -- ---- the answer
 

@@ -1,16 +1,26 @@
 -- The answer of a program that completes its own command line, by its own tree.
 use Rattle.std.specs.Prelude.{ℕ, true, List, map, Option, None, Some, Result, Ok, Err}
+use Rattle.std.specs.Option.{option_copied}
+use Rattle.std.specs.String.{string_bytes}
 use Rattle.cc_arg.specs.declared.parts.ArgParts.{ArgParts as Arg}
 use Rattle.cc_base.specs.declared.error.Error.{Error}
+use Rattle.cc_base.specs.declared.sources.CandidateSources.{Ghosts}
+use Rattle.cc_candidates.specs.declared.candidate.CompletionCandidate.{CompletionCandidate}
 use Rattle.cc_command.specs.Tree.{Tree}
+use Rattle.cc_engine.specs.Sources.{returned_of}
+use Rattle.cc_engine.specs.declared.sources.Sources.{Sources}
 use Rattle.cc_env.specs.SafeShells.{safe_spec}
-use Rattle.cc_env.specs.Steps.{Names}
+use Rattle.cc_env.specs.Steps.{Names, names_of}
 use Rattle.cc_env.specs.Wanted.{IsUnknownShell, Wanted, known, nothing, unknown, wanted_name, wanted_of}
+use Rattle.cc_env.specs.declared.complete_env.CompleteEnv.{CompleteEnv}
 use Rattle.cc_env.specs.declared.safe_shell.SafeShell.{SafeShell}
 use Rattle.cc_gather.specs.Values.{MayReturn}
+use Rattle.cc_paths.specs.Folders.{FolderFacts}
+use Rattle.cc_replies.specs.Environment.{value_of}
 use Rattle.cc_replies.specs.declared.environment.EnvValues.{EnvValues}
 use Rattle.cc_asking.specs.Answers.{Answers, Parts, Told, seen}
 use Rattle.cc_asking.specs.declared.answers.Answer.{Answer}
+use Rattle.cc_asking.specs.declared.own_answers.Called.{Called}
 
 -- ---- the request
 
@@ -26,9 +36,23 @@ own_parts names env args returned shell = record {
   returned = returned;
 }
 
+-- the parts of the answer of a program with this completion, if it is called so, over sources whose
+-- folder has these facts
+abbrev pub parts_called : {F D C : Type 0} → CompleteEnv F SafeShell → Called
+    → Ghosts C CompletionCandidate → FolderFacts → Sources D C → SafeShell → Parts
+parts_called completion called members facts sources shell =
+    own_parts (names_of completion.variable.now completion.bin completion.completer
+    (option_copied sources.current_dir)) called.env.now (map string_bytes called.args.now)
+    (returned_of members facts sources) shell
+
 -- the shell that the environment requests of some shells, by the value of a variable
 abbrev pub requested_of : List SafeShell → Option (List ℕ) → Wanted SafeShell
 requested_of shells value = wanted_of (λ shell. (safe_spec shell).named) shells (wanted_name value)
+
+-- the same for a program with this completion, if it is called so
+abbrev pub requested_by : {F : Type 0} → CompleteEnv F SafeShell → Called → Wanted SafeShell
+requested_by completion called =
+    requested_of completion.shells.0.now (value_of completion.variable.now called.env.now)
 
 -- ---- the answer
 
@@ -61,6 +85,13 @@ abbrev pub AnswersBy : List SafeShell → (Result Tree Error → Type 0) → (Sa
 AnswersBy shells Makes parts Gives value result =
     AnswersOwn (map (λ shell. (safe_spec shell).name) shells) Makes parts Gives
     (requested_of shells value) result
+
+-- The answer of a program with this completion, if it is called so.
+abbrev pub AnswersCalled : {F : Type 0} → CompleteEnv F SafeShell → Called → (SafeShell → Parts)
+    → (Arg → List ℕ → Type 0) → (Result Tree Error → Type 0) → Result (Option Told) Error → Type 0
+AnswersCalled completion called parts Gives Makes result =
+    AnswersBy completion.shells.0.now Makes parts Gives
+    (value_of completion.variable.now called.env.now) result
 
 -- the answer, as what it tells the shell
 abbrev pub seen_own : Result (Option Answer) Error → Result (Option Told) Error

@@ -1,11 +1,11 @@
 //! The answer to a request: a text, or the words of a command that lists values.
 
-ghost use Rattle.std.specs.Prelude.{◌≡◌, ℕ, IfErr, IfOk, Option, map, string_bytes};
+ghost use Rattle.std.specs.Prelude.{◌≡◌, IfErr, IfOk};
 ghost use Rattle.cc_arg.specs.declared.parts.ArgParts.{ArgParts as Arg};
 ghost use Rattle.cc_base.specs.declared.sources.CandidateSources.{Ghosts};
 ghost use Rattle.cc_env.specs.Steps.{made_bytes};
-ghost use Rattle.cc_asking.specs.Answers.{Answers, AnswersStep, MakesAlone, MakesOver, parts_of};
-ghost use Rattle.cc_asking.specs.Answers.{seen, seen_answer, told, words, words_after};
+ghost use Rattle.cc_asking.specs.Answers.{Answers, AnswersStep, MakesOver, parts_of};
+ghost use Rattle.cc_asking.specs.Answers.{seen, seen_answer, told, words};
 ghost use Rattle.cc_asking.specs.Asking.{command_words};
 
 use crate::asking::{Step, asked_by, command_words, next_step};
@@ -16,10 +16,10 @@ use cc_base::{CandidateSources, Collected, Error, Items, Text};
 use cc_candidates::CompletionCandidate;
 use cc_command::{Command, list_values};
 use cc_engine::Sources;
-use cc_env::{SafeShell, ShellProgram, after_dashes};
+use cc_env::{SafeShell, ShellProgram, words_after};
 use cc_paths::Folder;
 use cc_replies::{EnvValues, GivenLines};
-use std::alloc::{AllocError, Global};
+use std::alloc::Global;
 
 /// A run of a program by a shell.
 #[derive(Drop)]
@@ -79,16 +79,6 @@ where
     answer_step(alloc, call, command, sources, lines, &step)
 }
 
-// Returns the words after the first `--` that follows the program's name.
-fn words_after(args: &[String]) -> &[String]
-    ensures { map string_bytes result.now ≡ words_after (map string_bytes args.now) }
-{
-    match args.split_first() {
-        Some((_program, rest)) => after_dashes(rest),
-        None => args,
-    }
-}
-
 // Returns the answer over a built command, by this step.
 fn answer_step<D, C, S>(
     alloc: Global,
@@ -106,7 +96,12 @@ where
         sources.now) (S.gives lines.now) command step.now (seen_answer result) }
 {
     match step {
-        Step::Reply => text_answer(text_alone(alloc, call, command, sources)),
+        Step::Reply => {
+            text_answer(
+                call.program
+                    .text(alloc, command, call.args, call.env, sources),
+            )
+        }
         Step::Run(asked) => run_answer(alloc, asked),
         Step::ReadLines(asked) => {
             text_answer(text_of_lines(alloc, call, command, sources, lines, asked))
@@ -153,23 +148,6 @@ where
     text_over(alloc, call, command, sources, asked, given.as_slice())
 }
 
-// Returns the text over a command, as if no source outside the tree had values.
-fn text_alone<D, C>(
-    alloc: Global,
-    call: &Call<'_>,
-    command: Command,
-    sources: &Sources<'_, D, C>,
-) -> Result<Collected, Error>
-where
-    D: Folder,
-    C: CandidateSources<Candidate = CompletionCandidate>,
-    ensures { MakesAlone (parts_of C.CandidateSources (D.facts sources.now.folder.now) call.now
-        sources.now) command (made_bytes result) }
-{
-    let args = copies_of(alloc, call.args)?;
-    call.program.text(alloc, command, args, call.env, sources)
-}
-
 // Returns the text over a command in which the lines are the values of each argument whose values
 // come from where those of `asked` come from.
 fn text_over<D, C>(
@@ -188,7 +166,6 @@ where
 {
     list_values(&mut command, asked, lines_list());
     let given = GivenLines::new(alloc, lines, asked.get_values_split())?;
-    let args = copies_of(alloc, call.args)?;
     let completers = WithLines {
         sources: sources.completers,
         lines: &given,
@@ -199,17 +176,5 @@ where
         completers: &completers,
     };
     call.program
-        .text(alloc, command, args, call.env, &with_lines)
-}
-
-// Returns copies of the texts.
-fn copies_of(alloc: Global, texts: &[String]) -> Result<Vec<String>, AllocError>
-    ensures { IfOk result (λ copies.
-        map string_bytes copies.items ≡ map string_bytes texts.now) }
-{
-    let mut copies = Vec::new(alloc);
-    for text in texts {
-        copies.push(String::from_str(alloc, text.as_str())?)?;
-    }
-    Ok(copies)
+        .text(alloc, command, call.args, call.env, &with_lines)
 }

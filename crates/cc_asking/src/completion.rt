@@ -2,11 +2,10 @@
 
 ghost use Rattle.std.specs.Prelude.{◌≡◌, length, map, string_bytes, true};
 ghost use Rattle.std.specs.Prelude.{IfErr, IfOk, OnOk};
-ghost use Rattle.std.specs.Option.{option_copied};
 ghost use Rattle.cc_command.specs.Built.{built_tree};
 ghost use Rattle.cc_engine.specs.Asked.{Asks};
 ghost use Rattle.cc_engine.specs.Completion.{Completes, Refuses, is_in_range};
-ghost use Rattle.cc_engine.specs.Sources.{returned_from};
+ghost use Rattle.cc_engine.specs.Sources.{returned_of};
 ghost use Rattle.cc_gather.specs.Finished.{Differ};
 ghost use Rattle.cc_asking.specs.Completion.{CompletesWith, RefusesWith};
 ghost use Rattle.cc_asking.specs.Given.{with_lines};
@@ -43,8 +42,7 @@ where
     D: Folder,
     C: CandidateSources<Candidate = CompletionCandidate>,
     ensures candidates { IfOk result (λ found. CompletesWith
-        (returned_from C.CandidateSources sources.now.completers.now
-        (D.facts sources.now.folder.now) (option_copied sources.now.current_dir)) lines.now
+        (returned_of C.CandidateSources (D.facts sources.now.folder.now) sources.now) lines.now
         command.old (map string_bytes words.items) index found.items) }
     ensures differ { IfOk result (λ found. Differ found.items) }
     ensures in_range { OnOk result
@@ -92,8 +90,7 @@ where
     D: Folder,
     C: CandidateSources<Candidate = CompletionCandidate>,
     ensures candidates { IfOk result (λ found. Completes (with_lines
-        (returned_from C.CandidateSources sources.now.completers.now
-        (D.facts sources.now.folder.now) (option_copied sources.now.current_dir))
+        (returned_of C.CandidateSources (D.facts sources.now.folder.now) sources.now)
         given.now.candidates) command.new (map string_bytes words.items) index found.items) }
     ensures differ { IfOk result (λ found. Differ found.items) }
     ensures built { OnOk result (command.new ≡ built_tree command.old) }

@@ -1,11 +1,6 @@
 //! A program that completes its own command line, with values from outside its tree.
 
-ghost use Rattle.std.specs.Prelude.{map, string_bytes};
-ghost use Rattle.std.specs.Option.{option_copied};
-ghost use Rattle.cc_engine.specs.Sources.{returned_from};
-ghost use Rattle.cc_env.specs.Steps.{names_of};
-ghost use Rattle.cc_replies.specs.Environment.{value_of};
-ghost use Rattle.cc_asking.specs.OwnAnswers.{AnswersBy, own_parts, seen_own};
+ghost use Rattle.cc_asking.specs.OwnAnswers.{AnswersCalled, parts_called, seen_own};
 ghost use Rattle.cc_asking.specs.OwnEnds.{EndsOwn};
 
 use crate::answers::{Answer, Call, answer_call};
@@ -55,15 +50,10 @@ where
     S: LineSource,
     W: Sink,
     requires { F.IsAlwaysCallable completion.now.factory }
-    ensures { EndsOwn W.taken W.failed (AnswersBy completion.now.shells.0.now
-        (λ made. F.post completion.now.factory alloc made) (own_parts
-        (names_of completion.now.variable.now completion.now.bin completion.now.completer
-        (option_copied sources.now.current_dir)) called.now.env.now
-        (map string_bytes called.now.args.now)
-        (returned_from C.CandidateSources sources.now.completers.now
-        (D.facts sources.now.folder.now) (option_copied sources.now.current_dir)))
-        (S.gives lines.now) (value_of completion.now.variable.now called.now.env.now))
-        out.old out.new result }
+    ensures { EndsOwn W.taken W.failed (AnswersCalled completion.now called.now
+        (parts_called completion.now called.now C.CandidateSources
+        (D.facts sources.now.folder.now) sources.now) (S.gives lines.now)
+        (λ made. F.post completion.now.factory alloc made)) out.old out.new result }
 {
     let Some(answer) = answer_own(alloc, completion, called, sources, lines)? else {
         return Ok(None);
@@ -94,15 +84,9 @@ where
     C: CandidateSources<Candidate = CompletionCandidate>,
     S: LineSource,
     requires { F.IsAlwaysCallable completion.now.factory }
-    ensures { AnswersBy completion.now.shells.0.now
-        (λ made. F.post completion.now.factory alloc made) (own_parts
-        (names_of completion.now.variable.now completion.now.bin completion.now.completer
-        (option_copied sources.now.current_dir)) called.now.env.now
-        (map string_bytes called.now.args.now)
-        (returned_from C.CandidateSources sources.now.completers.now
-        (D.facts sources.now.folder.now) (option_copied sources.now.current_dir)))
-        (S.gives lines.now) (value_of completion.now.variable.now called.now.env.now)
-        (seen_own result) }
+    ensures { AnswersCalled completion.now called.now (parts_called completion.now called.now
+        C.CandidateSources (D.facts sources.now.folder.now) sources.now) (S.gives lines.now)
+        (λ made. F.post completion.now.factory alloc made) (seen_own result) }
 {
     let Some(shell) = completion.requested_shell(alloc, called.env)? else {
         return Ok(None);

@@ -1,5 +1,5 @@
 -- A tree with a list for the arguments of one source, built, is the built tree with that list.
-use Rattle.std.proofs.Common.{◌≡◌, ◌∙◌, ℕ, suc, List, [], ◌∷◌, ◌++◌, Bool, true, false, cond, not, ◌&&◌, ◌||◌, Option, Some, is_some, map, refl, ap, sym}
+use Rattle.std.proofs.Common.{◌≡◌, ◌∙◌, ℕ, suc, List, [], ◌∷◌, ◌++◌, Bool, true, false, cond, not, ◌&&◌, ◌||◌, Option, Some, is_some, map, refl, ap, sym, subst, IsTrue}
 use Rattle.std.proofs.Math.Bool.{and-false}
 use Rattle.std.proofs.lemmas.List.{map-append}
 use Rattle.std.specs.Option.{option_eq}
@@ -14,6 +14,7 @@ use Rattle.cc_command.specs.Tree.{Forest, none, more, join, Tree}
 use Rattle.cc_command.specs.Names.{full_name, has_child, has_id, has_name, joined_name}
 use Rattle.cc_command.specs.Generated.{copies, generated_arguments, generated_help, generated_node, generated_version, help_argument, help_child, help_command, needs_help_child, version_argument}
 use Rattle.cc_command.specs.Built.{built_arguments, built_forest, built_node, built_tree, given_arguments, globals, indexed, inherited_by, lacks_index, next_index, propagated, with_index, with_missing}
+use Rattle.cc_command.specs.Marked.{StaysIfMarked}
 use Rattle.cc_command.specs.ValueLists.{listed_forest, listed_node, listed_tree}
 
 module _ (asked : Arg) (list : ArgValueCandidates) where
@@ -183,26 +184,16 @@ module _ (asked : Arg) (list : ArgValueCandidates) where
       ∙ ap (with_missing (all given)) (generated_kept node)
       ∙ ap (λ given. with_missing given missing) (given_listed inherited node)))
 
-  -- ---- nodes, which keep their mark
-
-  abbrev pub node_with_list : Node → Node
-  node_with_list node = record node { arguments = all node.arguments }
-
-  abbrev pub forest_with_list : Forest → Forest
-  forest_with_list none = none
-  forest_with_list (more node below rest) = more (node_with_list node) (forest_with_list below) (forest_with_list rest)
-
-  abbrev pub tree_with_list : Tree → Tree
-  tree_with_list tree = record { node = node_with_list tree.node; children = forest_with_list tree.children }
+  -- ---- nodes
 
   node_listed : (inherited : List Arg) (bin_name : Option (List ℕ)) (node : Node)
-      → node_with_list (built_node inherited bin_name node) ≡ built_node (all inherited) bin_name (listed_node asked list node)
+      → listed_node asked list (built_node inherited bin_name node) ≡ built_node (all inherited) bin_name (listed_node asked list node)
   node_listed inherited bin_name node =
       ap (λ args. let n : Node = record node { bin_name = bin_name; arguments = args; built = true } in n) (arguments_listed inherited node)
 
-  join_listed : (first later : Forest) → forest_with_list (join first later) ≡ join (forest_with_list first) (forest_with_list later)
+  join_listed : (first later : Forest) → listed_forest asked list (join first later) ≡ join (listed_forest asked list first) (listed_forest asked list later)
   join_listed none later = refl
-  join_listed (more node below rest) later = ap (more (node_with_list node) (forest_with_list below)) (join_listed rest later)
+  join_listed (more node below rest) later = ap (more (listed_node asked list node) (listed_forest asked list below)) (join_listed rest later)
 
   has_child_listed : (forest : Forest) (word : List ℕ) → has_child (listed_forest asked list forest) word ≡ has_child forest word
   has_child_listed none word = refl
@@ -221,18 +212,18 @@ module _ (asked : Arg) (list : ArgValueCandidates) where
       ∙ ap (more copy (copies (joined_name parent node.name) 0 below)) (copies_listed parent (suc order) rest)
 
   -- copies have no arguments
-  copies_kept : (parent : List ℕ) (order : ℕ) (forest : Forest) → forest_with_list (copies parent order forest) ≡ copies parent order forest
+  copies_kept : (parent : List ℕ) (order : ℕ) (forest : Forest) → listed_forest asked list (copies parent order forest) ≡ copies parent order forest
   copies_kept parent order none = refl
   copies_kept parent order (more node below rest) =
       let copy = generated_node node.name (joined_name parent node.name) node.about order node.hide in
-      ap (λ f. more copy f (forest_with_list (copies parent (suc order) rest))) (copies_kept (joined_name parent node.name) 0 below)
+      ap (λ f. more copy f (listed_forest asked list (copies parent (suc order) rest))) (copies_kept (joined_name parent node.name) 0 below)
       ∙ ap (more copy (copies (joined_name parent node.name) 0 below)) (copies_kept parent (suc order) rest)
 
   abbrev help_below : List ℕ → Forest → Forest
   help_below parent children =
       help_command parent (join (copies (joined_name parent help_name) 0 children) (help_command (joined_name parent help_name) none))
 
-  help_below_listed : (parent : List ℕ) (below : Forest) → forest_with_list (help_below parent below) ≡ help_below parent (listed_forest asked list below)
+  help_below_listed : (parent : List ℕ) (below : Forest) → listed_forest asked list (help_below parent below) ≡ help_below parent (listed_forest asked list below)
   help_below_listed parent below =
       let name = joined_name parent help_name in
       ap (help_command parent)
@@ -240,12 +231,12 @@ module _ (asked : Arg) (list : ArgValueCandidates) where
       ∙ ap (λ f. join f (help_command name none)) (copies_kept name 0 below ∙ sym (copies_listed name 0 below)))
 
   help_child_listed : (parent : List ℕ) (node : Node) (below : Forest)
-      → forest_with_list (help_child parent node below) ≡ help_child parent (listed_node asked list node) (listed_forest asked list below)
+      → listed_forest asked list (help_child parent node below) ≡ help_child parent (listed_node asked list node) (listed_forest asked list below)
   help_child_listed parent node below =
       by (needs_help_child node below)
       ∙ ap (λ needs. cond needs (help_below parent (listed_forest asked list below)) none) (sym (needs_listed node below))
     where
-      by : (needs : Bool) → forest_with_list (cond needs (help_below parent below) none) ≡ cond needs (help_below parent (listed_forest asked list below)) none
+      by : (needs : Bool) → listed_forest asked list (cond needs (help_below parent below) none) ≡ cond needs (help_below parent (listed_forest asked list below)) none
       by true = help_below_listed parent below
       by false = refl
 
@@ -254,30 +245,36 @@ module _ (asked : Arg) (list : ArgValueCandidates) where
   children_of inherited name node below = join (built_forest (propagated inherited node) name below) (help_child name node below)
 
   children_listed : (inherited : List Arg) (name : List ℕ) (node : Node) (below : Forest)
-      → forest_with_list (built_forest (propagated inherited node) name below) ≡ built_forest (all (propagated inherited node)) name (listed_forest asked list below)
-      → forest_with_list (children_of inherited name node below) ≡ children_of (all inherited) name (listed_node asked list node) (listed_forest asked list below)
+      → listed_forest asked list (built_forest (propagated inherited node) name below) ≡ built_forest (all (propagated inherited node)) name (listed_forest asked list below)
+      → listed_forest asked list (children_of inherited name node below) ≡ children_of (all inherited) name (listed_node asked list node) (listed_forest asked list below)
   children_listed inherited name node below built =
       join_listed (built_forest (propagated inherited node) name below) (help_child name node below)
-      ∙ ap (λ f. join f (forest_with_list (help_child name node below)))
+      ∙ ap (λ f. join f (listed_forest asked list (help_child name node below)))
       (built ∙ ap (λ args. built_forest args name (listed_forest asked list below)) (propagated_listed inherited node))
       ∙ ap (join (built_forest (propagated (all inherited) (listed_node asked list node)) name (listed_forest asked list below))) (help_child_listed name node below)
 
   forest_listed : (inherited : List Arg) (parent : List ℕ) (forest : Forest)
-      → forest_with_list (built_forest inherited parent forest) ≡ built_forest (all inherited) parent (listed_forest asked list forest)
+      → listed_forest asked list (built_forest inherited parent forest) ≡ built_forest (all inherited) parent (listed_forest asked list forest)
   forest_listed inherited parent none = refl
   forest_listed inherited parent (more node below rest) =
       let name = joined_name parent node.name in
-      ap (λ n. more n (forest_with_list (children_of inherited name node below)) (forest_with_list (built_forest inherited parent rest)))
+      ap (λ n. more n (listed_forest asked list (children_of inherited name node below)) (listed_forest asked list (built_forest inherited parent rest)))
       (node_listed inherited (Some name) node)
-      ∙ ap (λ f. more (built_node (all inherited) (Some name) (listed_node asked list node)) f (forest_with_list (built_forest inherited parent rest)))
+      ∙ ap (λ f. more (built_node (all inherited) (Some name) (listed_node asked list node)) f (listed_forest asked list (built_forest inherited parent rest)))
       (children_listed inherited name node below (forest_listed (propagated inherited node) name below))
       ∙ ap (more (built_node (all inherited) (Some name) (listed_node asked list node)) (children_of (all inherited) name (listed_node asked list node) (listed_forest asked list below)))
       (forest_listed inherited parent rest)
 
-  pub built_with_list : (tree : Tree) → tree_with_list (built_tree tree) ≡ built_tree (listed_tree asked list tree)
+  pub built_with_list : (tree : Tree) → listed_tree asked list (built_tree tree) ≡ built_tree (listed_tree asked list tree)
   built_with_list tree =
-      ap (λ node. let t : Tree = record { node = node; children = forest_with_list (built_tree tree).children } in t)
+      ap (λ node. let t : Tree = record { node = node; children = listed_forest asked list (built_tree tree).children } in t)
       (node_listed [] tree.node.bin_name tree.node)
       ∙ ap (λ children. let t : Tree = record { node = (built_tree (listed_tree asked list tree)).node; children = children } in t)
       (children_listed [] (full_name tree.node) tree.node tree.children
       (forest_listed (propagated [] tree.node) (full_name tree.node) tree.children))
+
+-- a tree that building leaves as it is stays one
+pub listed_stays : (asked : Arg) (list : ArgValueCandidates) (tree new : Tree) → StaysIfMarked tree → new ≡ listed_tree asked list tree → StaysIfMarked new
+listed_stays asked list tree new stays is marked =
+    ap built_tree is ∙ sym (built_with_list asked list tree)
+    ∙ ap (listed_tree asked list) (stays (subst (λ t. IsTrue t.node.built) is marked)) ∙ sym is

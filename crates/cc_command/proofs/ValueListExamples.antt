@@ -1,5 +1,5 @@
 -- Examples of trees with a list for the arguments of one source.
-use Rattle.std.proofs.Common.{◌≡◌, ℕ, List, [], ◌∷◌, ◌++◌, Option, Some, None, map, codes, true, false, refl}
+use Rattle.std.proofs.Common.{◌≡◌, ℕ, List, [], ◌∷◌, ◌++◌, Option, Some, None, map, codes, true, refl}
 use Rattle.cc_arg.specs.declared.parts.ArgParts.{ArgParts as Arg}
 use Rattle.cc_arg.specs.declared.value_hint.ValueHint.TheVariants.{Hostname}
 use Rattle.cc_arg.specs.Arguments.{new_arg}
@@ -60,7 +60,7 @@ nothing_listed : lists (listed_tree (new_arg (codes "asked")) third app)
 unfolding lists_below
 nothing_listed = refl
 
--- the tree is not built then
-not_built : (listed_tree host third (record app { node = record app.node { built = true } })).node.built
-    ≡ false
-not_built = refl
+-- a built tree stays built
+still_built : (listed_tree host third (record app { node = record app.node { built = true } })).node.built
+    ≡ true
+still_built = refl

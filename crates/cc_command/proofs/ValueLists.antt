@@ -14,7 +14,7 @@ listed_trees asked list (tree ∷ trees) =
     ap (more (listed_node asked list tree.node) (listed_forest asked list tree.children))
     (listed_trees asked list trees)
 
-abbrev tree_of : Node → Forest → Tree
+abbrev pub tree_of : Node → Forest → Tree
 tree_of node children = record { node = node; children = children }
 
 -- the node with the list, over the children with the list, is the tree with the list

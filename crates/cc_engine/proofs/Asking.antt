@@ -1,26 +1,23 @@
 -- The argument that a word asks for at the node to which the words before it lead.
 use Rattle.std.proofs.Common.{◌≡◌, ◌∙◌, refl, ap, sym, ℕ, List, [], ◌∷◌, ◌++◌, Bool, true, false, cond, Bor}
-use Rattle.std.specs.Prelude.{Option, None, Some, find, get_or, is_some, option_to_list}
+use Rattle.std.specs.Prelude.{Option, None, Some, find, is_some, option_to_list}
 use Rattle.std.specs.Option.{option_copied}
 use Rattle.cc_arg.specs.declared.parts.ArgParts.{ArgParts as Arg}
 use Rattle.cc_command.specs.Tree.{Tree}
 use Rattle.cc_walk.specs.declared.state.State.{State}
-use Rattle.cc_walk.specs.Destination.{WordsLeadTo, WordsLeadOnlyTo}
 use Rattle.cc_engine.specs.Asked.{Asks, asked_argument}
-use Rattle.cc_engine.specs.Completion.{words_before}
+use Rattle.cc_engine.specs.Completion.{IsPlace}
 
--- where the words before the index lead, and which argument the word at the index asks for there
-pub asks : (root top node position : Tree) (state : State) (words before : List (List ℕ)) (index : ℕ) (word : List ℕ) (found result : Option Arg)
-    → top ≡ root → node ≡ position → before ≡ words_before root.node words index → word ≡ get_or words index []
-    → WordsLeadTo top before position state → WordsLeadOnlyTo top before position state
-    → found ≡ asked_argument node state word → result ≡ found
+-- the argument that a word asks for at its place
+pub asks : (root tree : Tree) (state : State) (words : List (List ℕ)) (index : ℕ) (word : List ℕ) (found result : Option Arg)
+    → IsPlace root words index tree state word → found ≡ asked_argument tree state word → result ≡ found
     → Asks root words index result
-asks root top node position state words before index word found result is_root is_position is_before is_word leads only asked is = record {
-  tree = position;
+asks root tree state words index word found result place asked is = record {
+  tree = tree;
   state = state;
-  leads = rw (is_root, is_before) at leads;
-  only = rw (is_root, is_before) at only;
-  asked = is ∙ asked ∙ ap (λ tree. asked_argument tree state word) is_position ∙ ap (asked_argument position state) is_word;
+  leads = place.leads;
+  only = place.only;
+  asked = is ∙ asked ∙ ap (asked_argument tree state) place.is_word;
 }
 
 -- ---- the first of three

@@ -1,6 +1,6 @@
 -- The candidates that are offered for the word at an index: the sources from which they come, and
 -- the list that consists of what these return.
-use Rattle.std.specs.Prelude.{ℕ, List, [], ◌++◌, map, take, drop, get_or, ◌≡◌, ◌⊎◌, ◌&&◌, nat_le, nat_lt, Bool, false, true, Contains, Option, Some, None, if◌then◌else◌}
+use Rattle.std.specs.Prelude.{ℕ, List, [], ◌++◌, map, take, drop, get_or, ◌≡◌, ◌⊎◌, ◌&&◌, nat_le, nat_lt, Bool, false, true, Contains, IsUtf8, Option, Some, None, if◌then◌else◌}
 use Rattle.std.specs.List.{list_any, AllByRecursion}
 use Rattle.cc_arg.specs.declared.parts.ArgParts.{ArgParts as Arg}
 use Rattle.cc_base.specs.declared.error.Error.{Error}
@@ -252,6 +252,18 @@ is_in_range node count index = nat_le (names_before node) index && nat_lt index 
 -- the words before the index, without the program's name
 abbrev pub words_before : Node → List (List ℕ) → ℕ → List (List ℕ)
 words_before node words index = drop (names_before node) (take index words)
+
+-- The words before the index lead to this tree and this state, and to no others, and this word, which
+-- is text, is at the index. If none of those words is a hidden alias at the command that reads it,
+-- the walk by visible names ends at this tree.
+pub record IsPlace (root : Tree) (words : List (List ℕ)) (index : ℕ) (tree : Tree) (state : State)
+    (word : List ℕ) : Type 0 where
+  pub leads : WordsLeadTo root (words_before root.node words index) tree state
+  pub only : WordsLeadOnlyTo root (words_before root.node words index) tree state
+  pub visible : HasNoHiddenAlias root (words_before root.node words index)
+      → tree ≡ visible_end root (words_before root.node words index)
+  pub is_word : word ≡ get_or words index []
+  pub is_text : IsUtf8 (get_or words index [])
 
 -- The lists that may be offered for the word at the index. The words before it lead to one node and
 -- one state, and to no others, and the result is a list that may be offered there. If none of those

@@ -1,8 +1,10 @@
 -- The lists that completers, lists of candidates and a folder may return.
 use Rattle.std.specs.Prelude.{ℕ, List, Option}
+use Rattle.std.specs.Option.{option_copied}
 use Rattle.cc_base.specs.declared.sources.CandidateSources.{Ghosts}
 use Rattle.cc_candidates.specs.declared.candidate.CompletionCandidate.{CompletionCandidate}
 use Rattle.cc_engine.specs.Paths.{PathsOf}
+use Rattle.cc_engine.specs.declared.sources.Sources.{Sources}
 use Rattle.cc_gather.specs.Values.{MayReturn, returned_by}
 use Rattle.cc_paths.specs.Folders.{FolderFacts}
 
@@ -12,3 +14,9 @@ abbrev pub returned_from : {C : Type 0} → Ghosts C CompletionCandidate → C �
     → Option (List ℕ) → MayReturn
 returned_from members completers facts current =
     returned_by members.may_complete members.may_list completers (PathsOf facts current)
+
+-- the same of sources, if their folder has these facts
+abbrev pub returned_of : {D C : Type 0} → Ghosts C CompletionCandidate → FolderFacts → Sources D C
+    → MayReturn
+returned_of members facts sources =
+    returned_from members sources.completers.now facts (option_copied sources.current_dir)

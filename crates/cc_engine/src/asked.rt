@@ -11,14 +11,13 @@ ghost use Rattle.cc_engine.specs.Asked.{offered_positional, opened_argument, unl
 ghost use Rattle.cc_engine.specs.Completion.{Refuses, is_in_range, offered_match};
 ghost use Rattle.cc_walk.specs.Lookup.{positional_at};
 
-use crate::completion::{in_range, word_at, words_before};
 use crate::open_lists::OpenLists;
+use crate::place::{in_range, place_at};
 use cc_arg::{Arg, copy_of, has_source};
 use cc_base::Error;
 use cc_command::Command;
-use cc_flat::Flat;
 use cc_gather::{OptionMatch, match_options};
-use cc_walk::{Pending, State, positional_at, walk};
+use cc_walk::{Pending, State, positional_at};
 use std::alloc::{AllocError, Global};
 
 /// Returns a copy of the argument that the word at `index`, counted from 0, asks for in a command
@@ -51,24 +50,9 @@ pub fn asked_argument(
     if !in_range(command, words.len(), index) {
         return Err(Error::NoCompletion);
     }
-    Ok(asked_in_range(alloc, command, words, index)?)
-}
-
-// Returns a copy of the argument that the word at an index in range asks for in a built command.
-fn asked_in_range(
-    alloc: Global,
-    command: &Command,
-    words: &[String],
-    index: usize,
-) -> Result<Option<Arg>, AllocError>
-    requires { is_in_range command.now.node (length words.now) index ≡ true }
-    ensures { IfOk result (λ found. Asks command.now (map string_bytes words.now) index found) }
-{
-    let flat = Flat::new(alloc, command)?;
-    let walked = walk(&flat, words_before(command, words, index));
-    let node = flat.command(walked.node);
-    let asked = asked_at(alloc, node, &walked.state, word_at(words, index))?;
-    copy_of_some(alloc, asked)
+    let place = place_at(alloc, command, words, index)?;
+    let asked = asked_at(alloc, place.command, &place.state, place.word)?;
+    Ok(copy_of_some(alloc, asked)?)
 }
 
 // Returns the argument that `word` asks for at the node `command`, if the words before `word` lead

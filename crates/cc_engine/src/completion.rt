@@ -1,22 +1,21 @@
 //! The candidates for a word of a command line.
 
-ghost use Rattle.std.specs.Prelude.{◌≡◌, ◌<◌, [], get_or, length, map, string_bytes, true, IfOk, IfErr, OnOk};
+ghost use Rattle.std.specs.Prelude.{◌≡◌, length, map, string_bytes, true, IfOk, IfErr, OnOk};
 ghost use Rattle.std.specs.Option.{option_copied};
 ghost use Rattle.cc_command.specs.Built.{built_tree};
-ghost use Rattle.cc_engine.specs.Completion.{Completes, Refuses, is_in_range, names_before, words_before};
+ghost use Rattle.cc_engine.specs.Completion.{Completes, Refuses, is_in_range};
 ghost use Rattle.cc_engine.specs.Sources.{returned_from};
 ghost use Rattle.cc_gather.specs.Finished.{Differ};
 
 use crate::candidates::offer_candidates;
 use crate::lookup::Lookup;
+use crate::place::{in_range, place_at};
 use crate::sources::Sources;
 use cc_base::{CandidateSources, Error};
 use cc_candidates::{Completers, CompletionCandidate};
 use cc_command::Command;
-use cc_flat::Flat;
 use cc_paths::Folder;
-use cc_walk::walk;
-use std::alloc::{AllocError, Global};
+use std::alloc::Global;
 
 /// Returns the candidates for the word at `index`, counted from 0, of a command line of `command`,
 /// which is built first. They come from `command` and from what `lookup` finds.
@@ -52,7 +51,8 @@ pub fn complete_from<L: Lookup>(
     if !in_range(command, words.len(), index) {
         return Err(Error::NoCompletion);
     }
-    Ok(complete_in_range(alloc, command, words.as_slice(), index, lookup)?)
+    let place = place_at(alloc, command, words.as_slice(), index)?;
+    Ok(offer_candidates(alloc, place.command, &place.state, place.word, lookup)?)
 }
 
 /// Returns the candidates for the word at `index`, as `complete_from` does, from `Sources` of a
@@ -86,58 +86,4 @@ pub fn complete<D: Folder>(
         completers,
     };
     complete_from(alloc, command, words, index, &sources)
-}
-
-fn names_before(command: &Command) -> usize
-    ensures { result ≡ names_before command.now.node }
-{
-    if command.is_no_binary_name_set() {
-        0
-    } else {
-        1
-    }
-}
-
-/// Returns whether a word other than the program's name is at `index`.
-pub(crate) fn in_range(command: &Command, count: usize, index: usize) -> bool
-    ensures { result ≡ is_in_range command.now.node count index }
-{
-    names_before(command) <= index && index < count
-}
-
-// Returns the candidates of a built command for an index in range.
-fn complete_in_range<L: Lookup>(
-    alloc: Global,
-    command: &Command,
-    words: &[String],
-    index: usize,
-    lookup: &L,
-) -> Result<Vec<CompletionCandidate>, AllocError>
-    requires { is_in_range command.now.node (length words.now) index ≡ true }
-    ensures { IfOk result (λ found. Completes (L.may_return lookup.now)
-        command.now (map string_bytes words.now) index found.items) }
-{
-    let flat = Flat::new(alloc, command)?;
-    let walked = walk(&flat, words_before(command, words, index));
-    let node = flat.command(walked.node);
-    let word = word_at(words, index);
-    offer_candidates(alloc, node, &walked.state, word, lookup)
-}
-
-/// Returns the words before the index, without the program's name.
-pub fn words_before<'w>(command: &Command, words: &'w [String], index: usize) -> &'w [String]
-    requires { is_in_range command.now.node (length words.now) index ≡ true }
-    ensures { map string_bytes result.now
-        ≡ words_before command.now.node (map string_bytes words.now) index }
-{
-    let before = &words[..index];
-    &before[names_before(command)..]
-}
-
-/// Returns the word at the index.
-pub(crate) fn word_at(words: &[String], index: usize) -> &str
-    requires { index < length words.now }
-    ensures { result.now ≡ get_or (map string_bytes words.now) index [] }
-{
-    words[index].as_str()
 }

@@ -27,9 +27,11 @@ mod completion;
 mod lookup;
 mod offered_lists;
 mod open_lists;
+mod place;
 mod sources;
 
 pub use crate::asked::asked_argument;
-pub use crate::completion::{complete, complete_from, words_before};
+pub use crate::completion::{complete, complete_from};
 pub use crate::lookup::Lookup;
+pub use crate::place::words_before;
 pub use crate::sources::Sources;

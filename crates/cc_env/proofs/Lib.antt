@@ -2,7 +2,6 @@ mod AdapterExamples
 pub mod Ending
 mod Examples
 pub mod InMemory
-pub mod LastWords
 pub mod Replying
 pub mod SafeReplying
 pub mod Texts

@@ -13,6 +13,11 @@ after_dashes (word ∷ words) = elim (bytes_eq word (codes "--")) [
   | false ↦ after_dashes words
 ]
 
+-- the words after the first `--` that follows the program's name
+abbrev pub words_after : List (List ℕ) → List (List ℕ)
+words_after [] = []
+words_after (program ∷ rest) = after_dashes rest
+
 -- a path that leads through a folder: it holds a slash before its trailing slashes and `.` pieces
 abbrev pub has_folder : List ℕ → Bool
 has_folder path = list_any is_slash (trim_trailing path)

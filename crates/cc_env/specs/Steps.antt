@@ -1,5 +1,6 @@
 -- The steps of a program whose environment may request a completion.
 use Rattle.std.specs.Prelude.{◌≡◌, ◌≢◌, ◌++◌, ⊤, ℕ, Bool, true, false, List, [], ◌∷◌, map, Option, unwrap_or, Result, Ok, Err, IfErr, IfOk}
+use Rattle.std.specs.Option.{option_copied}
 use Rattle.std.specs.declared.io.ErrorKind.{ErrorKind}
 use Rattle.cc_env.specs.Builtins.{CompleterSpec}
 use Rattle.cc_env.specs.Replies.{WantsInRange, WantsOutOfRange, IsReply}
@@ -15,6 +16,7 @@ use Rattle.cc_command.specs.Names.{full_name}
 use Rattle.cc_command.specs.Tree.{Tree}
 use Rattle.cc_replies.specs.declared.environment.EnvValues.{EnvValues}
 use Rattle.cc_env.specs.Arguments.{after_dashes, program_path}
+use Rattle.cc_env.specs.declared.shell_program.ShellProgram.{ShellProgram}
 use Rattle.cc_env.specs.Wanted.{Wanted, IsUnknownShell, wanted_of, known, nothing, unknown}
 
 -- ---- the registration
@@ -40,10 +42,24 @@ names_of variable bin completer current program tree = record {
   completer = completer_path completer current program;
 }
 
+-- those of a program as a shell runs it
+abbrev pub program_names : {E : Type 0} → ShellProgram E → Option (List ℕ) → List ℕ → Tree → Names
+program_names program current =
+    names_of program.variable.now (option_copied program.bin) (option_copied program.completer)
+    current
+
 -- the text is the registration of these names, and what it is read as holds
 pub record IsRegistration (shell : CompleterSpec) (names : Names) (text : List ℕ) : Type 0 where
   pub is : text ≡ shell.registration names.variable names.name names.bin names.completer
   pub read_back : shell.Reads names.variable names.name names.bin names.completer
+
+-- the ends of a registration for these arguments, the program's path first, over a built tree
+abbrev pub RegistersAs : CompleterSpec → (List ℕ → Tree → Names) → Tree → List (List ℕ)
+    → Result (List ℕ) Error → Type 0
+RegistersAs shell names tree [] result = result ≡ Err NoArguments
+RegistersAs shell names tree (program ∷ rest) (Ok text) =
+    IsRegistration shell (names program tree) text
+RegistersAs shell names tree (program ∷ rest) (Err error) = error ≡ Memory
 
 -- ---- the reply
 
@@ -98,6 +114,14 @@ pub data MakesText (Makes : Result Tree Error → Type 0) (shell : CompleterSpec
       (result : Result (List ℕ) Error) → Makes (Ok tree) → after_dashes rest ≢ []
       → RepliesAs shell env (after_dashes rest) (Offers (built_tree tree)) (built_tree tree) result
       → MakesText Makes shell names env Offers (program ∷ rest) result
+
+-- the same for a program as a shell runs it, and for the command with this tree
+abbrev pub MakesTextBy : {E : Type 0} → (E → CompleterSpec) → ShellProgram E → Option (List ℕ) → Tree
+    → EnvValues → (Tree → List (List ℕ) → ℕ → List CompletionCandidate → Type 0) → List (List ℕ)
+    → Result (List ℕ) Error → Type 0
+MakesTextBy spec program current tree env Offers arguments result =
+    MakesText (λ made. made ≡ Ok tree) (spec program.shell.now) (program_names program current) env
+    Offers arguments result
 
 -- a put into memory that failed is out of memory
 abbrev pub in_memory : Result (Unit {0}) Error → Result (Unit {0}) Error

@@ -1,16 +1,16 @@
 //! The arguments of a program that a shell runs.
 
-ghost use Rattle.std.specs.Prelude.{◌≡◌, ◌≤◌, ◌-◌, drop, length, map, IfOk};
+ghost use Rattle.std.specs.Prelude.{◌≡◌, map, IfOk};
 ghost use Rattle.std.specs.Option.{option_copied};
 ghost use Rattle.std.specs.String.{string_bytes};
-ghost use Rattle.cc_env.specs.Arguments.{after_dashes, has_folder, program_path};
+ghost use Rattle.cc_env.specs.Arguments.{after_dashes, has_folder, program_path, words_after};
 
 use cc_base::Text;
 use cc_paths::{join, trim_trailing};
 use std::alloc::{AllocError, Global};
 
-/// Returns the words after the first `--`; none without one.
-pub fn after_dashes(words: &[String]) -> &[String]
+// Returns the words after the first `--`; none without one.
+fn after_dashes(words: &[String]) -> &[String]
     ensures { map string_bytes result.now ≡ after_dashes (map string_bytes words.now) }
 {
     let mut left = words;
@@ -23,14 +23,38 @@ pub fn after_dashes(words: &[String]) -> &[String]
     left
 }
 
-/// Returns the last `count` texts.
-pub(crate) fn keep_last(mut texts: Vec<String>, count: usize) -> Vec<String>
-    requires { count ≤ length texts.items }
-    ensures { result.items ≡ drop (length texts.items - count) texts.items }
+/// Returns the words after the first `--` that follows the program's name, which is the first of
+/// `args`; none without one.
+pub fn words_after(args: &[String]) -> &[String]
+    ensures { map string_bytes result.now ≡ words_after (map string_bytes args.now) }
 {
-    let before = texts.len() - count;
-    texts.drain(..before);
-    texts
+    match args.split_first() {
+        Some((_program, rest)) => after_dashes(rest),
+        None => args,
+    }
+}
+
+/// Returns copies of these words.
+///
+/// # Errors
+///
+/// `AllocError` if an allocation fails.
+pub(crate) fn copies_after(alloc: Global, args: &[String]) -> Result<Vec<String>, AllocError>
+    ensures { IfOk result (λ copies.
+        map string_bytes copies.items ≡ words_after (map string_bytes args.now)) }
+{
+    copies_of(alloc, words_after(args))
+}
+
+fn copies_of(alloc: Global, texts: &[String]) -> Result<Vec<String>, AllocError>
+    ensures { IfOk result (λ copies.
+        map string_bytes copies.items ≡ map string_bytes texts.now) }
+{
+    let mut copies = Vec::new(alloc);
+    for text in texts {
+        copies.push(String::from_str(alloc, text.as_str())?)?;
+    }
+    Ok(copies)
 }
 
 /// Returns the path by which a shell runs the program that was called by this first argument. A

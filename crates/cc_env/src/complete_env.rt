@@ -6,7 +6,7 @@ ghost use Rattle.cc_command.specs.declared.release.Release.TheVariants.{AtOnce};
 ghost use Rattle.cc_env.specs.Builtins.{all_builtins};
 ghost use Rattle.cc_env.specs.SafeShells.{all_safe};
 ghost use Rattle.cc_engine.specs.Completion.{Completes};
-ghost use Rattle.cc_engine.specs.Sources.{returned_from};
+ghost use Rattle.cc_engine.specs.Sources.{returned_from, returned_of};
 ghost use Rattle.cc_replies.specs.Environment.{value_of};
 ghost use Rattle.cc_env.specs.Wanted.{wanted_name};
 ghost use Rattle.cc_env.specs.Requested.{FindsShell, found_shell};
@@ -256,21 +256,13 @@ impl<'s, F: Fn(Global) -> Result<Command, Error> + Drop, E: EnvCompleter> Comple
         requires { F.IsAlwaysCallable self.now.factory }
         ensures { MakesText (λ made. F.post self.now.factory alloc made) (E.spec shell.now)
             (names_of self.now.variable.now self.now.bin self.now.completer
-            (option_copied sources.now.current_dir)) env.now (Completes (returned_from
-            ⟦<Completers as CandidateSources>⟧ sources.now.completers.now
-            (D.facts sources.now.folder.now) (option_copied sources.now.current_dir)))
-            (map string_bytes args.items)
-            (made_bytes result) }
+            (option_copied sources.now.current_dir)) env.now (Completes (returned_of
+            ⟦<Completers as CandidateSources>⟧ (D.facts sources.now.folder.now) sources.now))
+            (map string_bytes args.items) (made_bytes result) }
     {
         let made = (self.factory)(alloc)?;
-        let program = ShellProgram {
-            shell,
-            variable: self.variable,
-            bin: some_text(&self.bin),
-            completer: some_text(&self.completer),
-            release: self.release,
-        };
-        program.text_of_sources(alloc, made, args, env, sources)
+        let program = self.shell_program(shell);
+        program.text_of_sources(alloc, made, args.as_slice(), env, sources)
     }
 }
 
@@ -325,14 +317,8 @@ where
             (made_bytes result) }
     {
         let command = (self.factory)(alloc)?;
-        let program = ShellProgram {
-            shell,
-            variable: self.variable,
-            bin: some_text(&self.bin),
-            completer: some_text(&self.completer),
-            release: self.release,
-        };
-        program.text(alloc, command, args, env, lookup)
+        let program = self.shell_program(shell);
+        program.text(alloc, command, args.as_slice(), env, lookup)
     }
 }
 

@@ -39,7 +39,7 @@ mod shells;
 mod wanted;
 mod zsh;
 
-pub use crate::arguments::{after_dashes, program_path};
+pub use crate::arguments::{program_path, words_after};
 pub use crate::bash::Bash;
 pub use crate::builtin::Builtin;
 pub use crate::complete_env::CompleteEnv;

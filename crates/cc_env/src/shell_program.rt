@@ -1,15 +1,16 @@
 //! The text that is written for a shell, made in memory.
 
-ghost use Rattle.std.specs.Prelude.{◌≡◌, IfErr, IfOk, Ok, map, string_bytes};
+ghost use Rattle.std.specs.Prelude.{◌≡◌, IfErr, IfOk, map, string_bytes};
 ghost use Rattle.std.specs.Option.{option_copied};
 ghost use Rattle.cc_base.specs.Collected.{collected_bytes};
 ghost use Rattle.cc_command.specs.Built.{built_tree};
 ghost use Rattle.cc_engine.specs.Completion.{Completes};
-ghost use Rattle.cc_engine.specs.Sources.{returned_from};
-ghost use Rattle.cc_env.specs.Steps.{BuiltUnlessMemory, IsRegistration, MakesText, RepliesAs};
-ghost use Rattle.cc_env.specs.Steps.{completer_path, in_memory, made_bytes, names_of};
+ghost use Rattle.cc_engine.specs.Sources.{returned_of};
+ghost use Rattle.cc_env.specs.Steps.{BuiltUnlessMemory, IsRegistration, MakesTextBy, RegistersAs};
+ghost use Rattle.cc_env.specs.Steps.{RepliesAs, completer_path, in_memory, made_bytes};
+ghost use Rattle.cc_env.specs.Steps.{program_names};
 
-use crate::arguments::{after_dashes, keep_last, program_path};
+use crate::arguments::{copies_after, program_path};
 use crate::env_completer::{EnvCompleter, LookupCompleter};
 use cc_base::{CandidateSources, Collected, Error, Text};
 use cc_candidates::Completers;
@@ -49,15 +50,12 @@ impl<'a, E: LookupCompleter> ShellProgram<'a, E> {
         &self,
         alloc: Global,
         mut command: Command,
-        args: Vec<String>,
+        args: &[String],
         env: &EnvValues,
         lookup: &L,
     ) -> Result<Collected, Error>
-        ensures { MakesText (λ made. made ≡ Ok command) (E.spec self.now.shell.now)
-            (names_of self.now.variable.now (option_copied self.now.bin)
-            (option_copied self.now.completer) (L.current lookup.now)) env.now
-            (Completes (L.may_return lookup.now)) (map string_bytes args.items)
-            (made_bytes result) }
+        ensures { MakesTextBy E.spec self.now (L.current lookup.now) command env.now
+            (Completes (L.may_return lookup.now)) (map string_bytes args.now) (made_bytes result) }
     {
         let text = self.text_over(alloc, &mut command, args, env, lookup);
         discard(command, self.release);
@@ -69,26 +67,18 @@ impl<'a, E: LookupCompleter> ShellProgram<'a, E> {
         &self,
         alloc: Global,
         command: &mut Command,
-        args: Vec<String>,
+        args: &[String],
         env: &EnvValues,
         lookup: &L,
     ) -> Result<Collected, Error>
-        ensures { MakesText (λ made. made ≡ Ok command.old) (E.spec self.now.shell.now)
-            (names_of self.now.variable.now (option_copied self.now.bin)
-            (option_copied self.now.completer) (L.current lookup.now)) env.now
-            (Completes (L.may_return lookup.now)) (map string_bytes args.items)
-            (made_bytes result) }
+        ensures { MakesTextBy E.spec self.now (L.current lookup.now) command.old env.now
+            (Completes (L.may_return lookup.now)) (map string_bytes args.now) (made_bytes result) }
     {
         command.build(alloc)?;
-        let Some((program, rest)) = args.split_first() else {
-            return Err(Error::NoArguments);
-        };
-        let after = after_dashes(rest);
-        if after.is_empty() {
-            return self.registration(alloc, command, lookup.current_dir(), program.as_str());
+        let words = copies_after(alloc, args)?;
+        if words.is_empty() {
+            return self.registration_of(alloc, command, lookup.current_dir(), args);
         }
-        let count = after.len();
-        let words = keep_last(args, count);
         self.reply(alloc, command, words, env, lookup)
     }
 
@@ -119,16 +109,13 @@ impl<'a, E: EnvCompleter> ShellProgram<'a, E> {
         &self,
         alloc: Global,
         mut command: Command,
-        args: Vec<String>,
+        args: &[String],
         env: &EnvValues,
         sources: &Sources<'_, D, Completers>,
     ) -> Result<Collected, Error>
-        ensures { MakesText (λ made. made ≡ Ok command) (E.spec self.now.shell.now)
-            (names_of self.now.variable.now (option_copied self.now.bin)
-            (option_copied self.now.completer) (option_copied sources.now.current_dir)) env.now
-            (Completes (returned_from ⟦<Completers as CandidateSources>⟧
-            sources.now.completers.now (D.facts sources.now.folder.now)
-            (option_copied sources.now.current_dir))) (map string_bytes args.items)
+        ensures { MakesTextBy E.spec self.now (option_copied sources.now.current_dir) command
+            env.now (Completes (returned_of ⟦<Completers as CandidateSources>⟧
+            (D.facts sources.now.folder.now) sources.now)) (map string_bytes args.now)
             (made_bytes result) }
     {
         let text = self.text_over_sources(alloc, &mut command, args, env, sources);
@@ -141,28 +128,20 @@ impl<'a, E: EnvCompleter> ShellProgram<'a, E> {
         &self,
         alloc: Global,
         command: &mut Command,
-        args: Vec<String>,
+        args: &[String],
         env: &EnvValues,
         sources: &Sources<'_, D, Completers>,
     ) -> Result<Collected, Error>
-        ensures { MakesText (λ made. made ≡ Ok command.old) (E.spec self.now.shell.now)
-            (names_of self.now.variable.now (option_copied self.now.bin)
-            (option_copied self.now.completer) (option_copied sources.now.current_dir)) env.now
-            (Completes (returned_from ⟦<Completers as CandidateSources>⟧
-            sources.now.completers.now (D.facts sources.now.folder.now)
-            (option_copied sources.now.current_dir))) (map string_bytes args.items)
+        ensures { MakesTextBy E.spec self.now (option_copied sources.now.current_dir) command.old
+            env.now (Completes (returned_of ⟦<Completers as CandidateSources>⟧
+            (D.facts sources.now.folder.now) sources.now)) (map string_bytes args.now)
             (made_bytes result) }
     {
         command.build(alloc)?;
-        let Some((program, rest)) = args.split_first() else {
-            return Err(Error::NoArguments);
-        };
-        let asked = after_dashes(rest);
-        if asked.is_empty() {
-            return self.registration(alloc, command, sources.current_dir, program.as_str());
+        let words = copies_after(alloc, args)?;
+        if words.is_empty() {
+            return self.registration_of(alloc, command, sources.current_dir, args);
         }
-        let count = asked.len();
-        let words = keep_last(args, count);
         self.reply_of_sources(alloc, command, words, env, sources)
     }
 
@@ -175,10 +154,9 @@ impl<'a, E: EnvCompleter> ShellProgram<'a, E> {
         sources: &Sources<'_, D, Completers>,
     ) -> Result<Collected, Error>
         ensures replied { RepliesAs (E.spec self.now.shell.now) env.now
-            (map string_bytes words.items) (Completes (returned_from
-            ⟦<Completers as CandidateSources>⟧ sources.now.completers.now
-            (D.facts sources.now.folder.now) (option_copied sources.now.current_dir)) command.new)
-            command.new (made_bytes result) }
+            (map string_bytes words.items) (Completes (returned_of
+            ⟦<Completers as CandidateSources>⟧ (D.facts sources.now.folder.now) sources.now)
+            command.new) command.new (made_bytes result) }
         ensures built { BuiltUnlessMemory (made_bytes result)
             (command.new ≡ built_tree command.old) }
     {
@@ -197,6 +175,24 @@ impl<'a, E: EnvCompleter> ShellProgram<'a, E> {
         Ok(text)
     }
 
+    // Returns the registration over a built command, for the program that the first argument calls.
+    fn registration_of(
+        &self,
+        alloc: Global,
+        command: &Command,
+        current_dir: Option<&str>,
+        args: &[String],
+    ) -> Result<Collected, Error>
+        ensures { RegistersAs (E.spec self.now.shell.now)
+            (program_names self.now (option_copied current_dir.entry)) command.now
+            (map string_bytes args.now) (made_bytes result) }
+    {
+        match args.split_first() {
+            Some((program, _)) => self.registration(alloc, command, current_dir, program.as_str()),
+            None => Err(Error::NoArguments),
+        }
+    }
+
     fn registration(
         &self,
         alloc: Global,
@@ -205,10 +201,8 @@ impl<'a, E: EnvCompleter> ShellProgram<'a, E> {
         program: &str,
     ) -> Result<Collected, Error>
         ensures ok { IfOk result (λ text.
-            IsRegistration (E.spec self.now.shell.now)
-            (names_of self.now.variable.now (option_copied self.now.bin)
-            (option_copied self.now.completer) (option_copied current_dir.entry) program.now
-            command.now) (collected_bytes text)) }
+            IsRegistration (E.spec self.now.shell.now) (program_names self.now
+            (option_copied current_dir.entry) program.now command.now) (collected_bytes text)) }
         ensures memory { IfErr result (λ error. error ≡ Error.Memory) }
     {
         let bin = match self.bin {

@@ -15,7 +15,7 @@ use Rattle.cc_env.specs.Wanted.{Wanted}
 use Rattle.cc_env.specs.declared.safe_shell.SafeShell.{SafeShell}
 use Rattle.cc_program.specs.Messages.{Explains, Puts, SaysText, explained, is_asked_for, unexplained}
 use Rattle.cc_program.specs.Seen.{Seen, seen_by, seen_of, seen_streams, unused}
-use Rattle.cc_program.specs.Statuses.{EndsParse, EndsProgram, EndsTree, ParserFacts, carried, completed, not_made, out_of_memory, parsed, refused, tree_parsed}
+use Rattle.cc_program.specs.Statuses.{EndsOver, EndsParse, EndsTree, ParserFacts, carried, completed, not_made, out_of_memory, parsed, refused, tree_parsed}
 use Rattle.cc_program.specs.declared.failure.Failure.{Failure}
 use Rattle.cc_program.specs.declared.streams.Streams.{Streams}
 
@@ -67,13 +67,11 @@ module _ {O X : Type 0} (out : Ghosts O) (err : Ghosts X) (old new : Streams O X
     seen_parse Makes result (tree_parsed tree r makes ends) = tree_parsed tree result makes (seen_tree _ result ends)
 
     -- the ends of the whole program
-    pub seen_program : (requested : Wanted SafeShell) (Answers : Result (Option Told) Error → Type 0) (Makes : Result Tree Error → Type 0)
-        (result : Result ExitCode (Failure E))
-        → EndsProgram requested (λ ended. EndsOwn out.taken out.failed Answers old.out new.out ended) (EndsParse out err Makes parser Does old new) old.err new.err result
-        → EndsProgram requested (λ ended. EndsOwn seen_by.taken seen_by.failed Answers before.out after.out ended)
-        (EndsParse seen_by seen_by Makes parser Does before after) before.err after.err result
+    pub seen_program : (requested : Wanted SafeShell) (Answers : (Result Tree Error → Type 0) → Result (Option Told) Error → Type 0)
+        (Makes : Result Tree Error → Type 0) (result : Result ExitCode (Failure E))
+        → EndsOver out err requested Answers Makes parser Does old new result → EndsOver seen_by seen_by requested Answers Makes parser Does before after result
     seen_program requested Answers Makes result (completed ended r asks ends is same) =
-        completed ended result asks (seen_own out Answers old.out new.out ended ends) is (ap (seen_of err) same)
+        completed ended result asks (seen_own out (Answers Makes) old.out new.out ended ends) is (ap (seen_of err) same)
     seen_program requested Answers Makes result (parsed r is ends) = parsed result is (seen_parse Makes result ends)
 
 -- streams that have taken nothing and have not failed
@@ -84,16 +82,15 @@ unused_is out err streams no_bytes no_failures no_messages no_others = rw (no_by
 
 -- over streams that had taken nothing
 pub seen_run : {E O X : Type 0} (out : Ghosts O) (err : Ghosts X) (old new : Streams O X) (parser : ParserFacts) (Does : ArgMatches → Result (Unit {0}) E → Type 0)
-    (requested : Wanted SafeShell) (Answers : Result (Option Told) Error → Type 0) (Makes : Result Tree Error → Type 0) (result : Result ExitCode (Failure E))
+    (requested : Wanted SafeShell) (Answers : (Result Tree Error → Type 0) → Result (Option Told) Error → Type 0)
+    (Makes : Result Tree Error → Type 0) (result : Result ExitCode (Failure E))
     → out.taken old.out ≡ [] → out.failed old.out ≡ none_failed → err.taken old.err ≡ [] → err.failed old.err ≡ none_failed
-    → EndsProgram requested (λ ended. EndsOwn out.taken out.failed Answers old.out new.out ended) (EndsParse out err Makes parser Does old new) old.err new.err result
-    → (seen : Streams Seen Seen) × EndsProgram requested (λ ended. EndsOwn seen_by.taken seen_by.failed Answers unused.out seen.out ended)
-    (EndsParse seen_by seen_by Makes parser Does unused seen) unused.err seen.err result
+    → EndsOver out err requested Answers Makes parser Does old new result
+    → (seen : Streams Seen Seen) × EndsOver seen_by seen_by requested Answers Makes parser Does unused seen result
 seen_run out err old new parser Does requested Answers Makes result no_bytes no_failures no_messages no_others ends =
     let seen : Streams Seen Seen = seen_streams out err new in (
       seen,
-      subst (λ (before : Streams Seen Seen). EndsProgram requested (λ ended. EndsOwn seen_by.taken seen_by.failed Answers before.out seen.out ended)
-          (EndsParse seen_by seen_by Makes parser Does before seen) before.err seen.err result)
+      subst (λ (before : Streams Seen Seen). EndsOver seen_by seen_by requested Answers Makes parser Does before seen result)
           (unused_is out err old no_bytes no_failures no_messages no_others)
           (seen_program out err old new parser Does requested Answers Makes result ends),
     )

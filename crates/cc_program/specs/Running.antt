@@ -4,7 +4,6 @@ use Rattle.std.specs.declared.alloc.Global.{Global}
 use Rattle.std.specs.declared.process.ExitCode.{ExitCode}
 use Rattle.clap.specs.declared.parser.matches.ArgMatches.{ArgMatches}
 use Rattle.cc_asking.specs.OwnAnswers.{AnswersBy, own_parts, requested_of}
-use Rattle.cc_asking.specs.OwnEnds.{EndsOwn}
 use Rattle.cc_base.specs.declared.error.Error.{Error}
 use Rattle.cc_base.specs.declared.error.Error.TheVariants.{Memory}
 use Rattle.cc_command.specs.Tree.{Tree}
@@ -15,7 +14,7 @@ use Rattle.cc_gather.specs.Values.{MayReturn}
 use Rattle.cc_lines.specs.SystemLines.{SystemGives}
 use Rattle.cc_program.specs.ClapParses.{clap_facts}
 use Rattle.cc_program.specs.Seen.{Seen, seen_by, unused}
-use Rattle.cc_program.specs.Statuses.{EndsParse, EndsProgram, IsOfWords}
+use Rattle.cc_program.specs.Statuses.{EndsOver, IsOfWords}
 use Rattle.cc_program.specs.declared.failure.Failure.{Failure}
 use Rattle.cc_program.specs.declared.failure.Failure.TheVariants.{Library}
 use Rattle.cc_program.specs.declared.streams.Streams.{Streams}
@@ -30,11 +29,10 @@ abbrev pub EndsRun : {E : Type 0} → (Result Tree Error → Type 0)
     → Option (List ℕ) → List ℕ → Option (List ℕ) → Option (List ℕ) → List SafeShell
     → Streams Seen Seen → Result ExitCode (Failure E) → Type 0
 EndsRun Makes Does returned words env current variable bin completer shells new result =
-    EndsProgram (requested_of shells (value_of variable env))
-    (λ ended. EndsOwn seen_by.taken seen_by.failed (AnswersBy shells Makes
+    EndsOver seen_by seen_by (requested_of shells (value_of variable env))
+    (λ makes told. AnswersBy shells makes
     (own_parts (names_of variable bin completer current) env words returned) SystemGives
-    (value_of variable env)) unused.out new.out ended)
-    (EndsParse seen_by seen_by Makes (clap_facts words) Does unused new) unused.err new.err result
+    (value_of variable env) told) Makes (clap_facts words) Does unused new result
 
 -- The ends of a program that reads its words and its environment. It can't read the words; there is
 -- no memory for the environment; or it ends so for some words, environment variables, current

@@ -5,6 +5,8 @@ use Rattle.std.specs.declared.process.ExitCode.{ExitCode}
 use Rattle.clap.specs.Values.{kind_of}
 use Rattle.clap.specs.declared.error.Error.{Error as ClapError}
 use Rattle.clap.specs.declared.parser.matches.ArgMatches.{ArgMatches}
+use Rattle.cc_asking.specs.Answers.{Told}
+use Rattle.cc_asking.specs.OwnEnds.{EndsOwn}
 use Rattle.cc_base.specs.declared.error.Error.{Error}
 use Rattle.cc_base.specs.declared.error.Error.TheVariants.{Memory}
 use Rattle.cc_base.specs.declared.sink.Sink.{Ghosts}
@@ -101,6 +103,17 @@ pub data EndsProgram {E X : Type 0} (requested : Wanted SafeShell)
       → EndsProgram requested Completes Parses old new result
   parsed : (result : Result ExitCode (Failure E)) → requested ≡ nothing → Parses result
       → EndsProgram requested Completes Parses old new result
+
+-- The same for a program that writes its answer to the first stream, and parses words by the tree
+-- that it makes.
+abbrev pub EndsOver : {E O X : Type 0} → Ghosts O → Ghosts X → Wanted SafeShell
+    → ((Result Tree Error → Type 0) → Result (Option Told) Error → Type 0)
+    → (Result Tree Error → Type 0) → ParserFacts → (ArgMatches → Result (Unit {0}) E → Type 0)
+    → Streams O X → Streams O X → Result ExitCode (Failure E) → Type 0
+EndsOver out err requested Answers Makes parser Does old new result =
+    EndsProgram requested
+    (λ ended. EndsOwn out.taken out.failed (Answers Makes) old.out new.out ended)
+    (EndsParse out err Makes parser Does old new) old.err new.err result
 
 -- ---- a program that reads its words
 

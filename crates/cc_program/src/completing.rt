@@ -1,8 +1,7 @@
 //! Live completion as the environment requests it.
 
 ghost use Rattle.std.specs.Prelude.{map, string_bytes};
-ghost use Rattle.std.specs.Option.{option_copied};
-ghost use Rattle.cc_asking.specs.OwnAnswers.{AnswersBy, own_parts};
+ghost use Rattle.cc_asking.specs.OwnAnswers.{AnswersBy, AnswersCalled, own_parts, parts_called};
 ghost use Rattle.cc_asking.specs.OwnEnds.{EndsOwn};
 ghost use Rattle.cc_engine.specs.Sources.{returned_from};
 ghost use Rattle.cc_env.specs.Steps.{names_of};
@@ -89,15 +88,10 @@ where
     D: Folder,
     W: Sink,
     requires { F.IsAlwaysCallable completion.now.factory }
-    ensures { EndsOwn W.taken W.failed (AnswersBy completion.now.shells.0.now
-        (λ made. F.post completion.now.factory alloc made) (own_parts
-        (names_of completion.now.variable.now completion.now.bin completion.now.completer
-        (option_copied sources.now.current_dir)) called.now.env.now
-        (map string_bytes called.now.args.now)
-        (returned_from ⟦<Completers as CandidateSources>⟧ sources.now.completers.now
-        (D.facts sources.now.folder.now) (option_copied sources.now.current_dir)))
-        SystemGives (value_of completion.now.variable.now called.now.env.now))
-        out.old out.new result }
+    ensures { EndsOwn W.taken W.failed (AnswersCalled completion.now called.now
+        (parts_called completion.now called.now ⟦<Completers as CandidateSources>⟧
+        (D.facts sources.now.folder.now) sources.now) SystemGives
+        (λ made. F.post completion.now.factory alloc made)) out.old out.new result }
 {
     let lines = SystemLines {
         rt,

@@ -2,14 +2,9 @@
 
 ghost use Rattle.std.specs.Prelude.{◌≡◌, map, string_bytes};
 ghost use Rattle.std.specs.Fn.{FnOnceReturnsAt, FnOnceTakesAt};
-ghost use Rattle.std.specs.Option.{option_copied};
-ghost use Rattle.cc_asking.specs.OwnAnswers.{AnswersBy, own_parts, requested_of};
-ghost use Rattle.cc_asking.specs.OwnEnds.{EndsOwn};
-ghost use Rattle.cc_engine.specs.Sources.{returned_from};
-ghost use Rattle.cc_env.specs.Steps.{names_of};
+ghost use Rattle.cc_asking.specs.OwnAnswers.{AnswersCalled, parts_called, requested_by};
 ghost use Rattle.cc_env.specs.Wanted.{nothing};
-ghost use Rattle.cc_program.specs.Statuses.{EndsParse, EndsProgram, HoldsOfMatches, parser_facts};
-ghost use Rattle.cc_replies.specs.Environment.{value_of};
+ghost use Rattle.cc_program.specs.Statuses.{EndsOver, EndsParse, HoldsOfMatches, parser_facts};
 
 use crate::failure::Failure;
 use crate::parsing::parse_tree;
@@ -76,26 +71,17 @@ where
     O: Sink,
     X: Sink,
     requires factory { F.IsAlwaysCallable program.completion.factory }
-    requires work { requested_of program.completion.shells.0.now
-        (value_of program.completion.variable.now called.now.env.now) ≡ nothing
+    requires work { requested_by program.completion called.now ≡ nothing
         → HoldsOfMatches (λ made. F.post program.completion.factory alloc made)
         (parser_facts P.WordParser program.parser (map string_bytes called.now.args.now))
         (λ found. FnOnceTakesAt C.FnOnce program.carry_out found) }
-    ensures { EndsProgram (requested_of program.entry.completion.shells.0.now
-        (value_of program.entry.completion.variable.now called.now.env.now))
-        (λ ended. EndsOwn O.taken O.failed (AnswersBy program.entry.completion.shells.0.now
-        (λ made. F.post program.entry.completion.factory alloc made) (own_parts
-        (names_of program.entry.completion.variable.now program.entry.completion.bin
-        program.entry.completion.completer (option_copied sources.now.current_dir))
-        called.now.env.now (map string_bytes called.now.args.now)
-        (returned_from K.CandidateSources sources.now.completers.now
-        (D.facts sources.now.folder.now) (option_copied sources.now.current_dir)))
-        (S.gives lines.now) (value_of program.entry.completion.variable.now called.now.env.now))
-        streams.old.out streams.new.out ended)
-        (EndsParse O.Sink X.Sink (λ made. F.post program.entry.completion.factory alloc made)
+    ensures { EndsOver O.Sink X.Sink (requested_by program.entry.completion called.now)
+        (AnswersCalled program.entry.completion called.now (parts_called program.entry.completion
+        called.now K.CandidateSources (D.facts sources.now.folder.now) sources.now)
+        (S.gives lines.now)) (λ made. F.post program.entry.completion.factory alloc made)
         (parser_facts P.WordParser program.entry.parser (map string_bytes called.now.args.now))
         (λ found done. FnOnceReturnsAt C.FnOnce program.entry.carry_out found done)
-        streams.old streams.new) streams.old.err streams.new.err result }
+        streams.old streams.new result }
 {
     let Program {
         completion,

@@ -3,7 +3,7 @@
 ghost use Rattle.std.specs.Prelude.{IfErr, map, string_bytes};
 ghost use Rattle.std.specs.Fn.{FnOnceReturnsAt};
 ghost use Rattle.std.specs.Option.{option_copied};
-ghost use Rattle.cc_engine.specs.Sources.{returned_from};
+ghost use Rattle.cc_engine.specs.Sources.{returned_from, returned_of};
 ghost use Rattle.cc_program.specs.Requests.{system_facts};
 ghost use Rattle.cc_program.specs.Running.{EndsRun, Runs};
 ghost use Rattle.cc_program.specs.Seen.{Seen};
@@ -111,8 +111,8 @@ where
     ensures { (new : StreamsOf Seen Seen) × EndsRun
         (λ made. F.post program.entry.completion.factory alloc made)
         (λ found done. FnOnceReturnsAt C.FnOnce program.entry.carry_out found done)
-        (returned_from ⟦<Completers as CandidateSources>⟧ sources.now.completers.now
-        (D.facts sources.now.folder.now) (option_copied sources.now.current_dir))
+        (returned_of ⟦<Completers as CandidateSources>⟧ (D.facts sources.now.folder.now)
+        sources.now)
         (map string_bytes called.now.args.now) called.now.env.now
         (option_copied sources.now.current_dir) program.entry.completion.variable.now
         program.entry.completion.bin program.entry.completion.completer

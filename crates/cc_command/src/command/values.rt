@@ -12,8 +12,8 @@ use std::alloc::Global;
 use std::mem;
 
 /// Gives the list of candidates `list` to each argument of a command, and of all commands below it,
-/// whose values come from where those of `asked` come from. The command then counts as not built.
-/// This is a free function, so that `clap_complete` does not re-export it.
+/// whose values come from where those of `asked` come from. A built command stays built. This is a
+/// free function, so that `clap_complete` does not re-export it.
 #[cycle(listed)]
 pub fn list_values(command: &mut Command, asked: &Arg, list: ArgValueCandidates)
     ensures { command.new ≡ listed_tree asked.now list command.old }
@@ -40,7 +40,6 @@ fn list_in_node(node: &mut Node, alloc: Global, asked: &Arg, list: ArgValueCandi
     let mut arguments = own.into_vec();
     list_in_arguments(&mut arguments, asked, list);
     node.arguments = Items::from(arguments);
-    node.built = false;
 }
 
 fn list_in_arguments(arguments: &mut [Arg], asked: &Arg, list: ArgValueCandidates)

@@ -3,7 +3,7 @@ use Rattle.cc_asking.proofs.AnswerLemmas.{run_answered}
 use Rattle.cc_asking.proofs.answers.answer_step.Goals as goal
 
 pub returns-in-Reply : goal.returns-in-Reply
-returns-in-Reply g c = rw (c.in-Reply.is, c.text_answer.ensures) (replied _ c.text_alone.ensures)
+returns-in-Reply g c = rw (c.in-Reply.is, c.text_answer.ensures) (replied _ c.text.ensures)
 
 pub returns-in-Run : goal.returns-in-Run
 returns-in-Run g c =

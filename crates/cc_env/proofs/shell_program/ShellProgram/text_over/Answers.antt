@@ -1,10 +1,7 @@
-use Rattle.std.proofs.Common.{◌∙◌, inr, refl, subst, sym, ap, length, map, string_bytes, ℕ, List, Option, IfOk}
+use Rattle.std.proofs.Common.{◌==◌, ap, ℕ, inr, refl, subst, string_bytes, map, sym, ◌∙◌, List, Option}
 use Rattle.std.proofs.lemmas.Result.{err_from_is_err_and}
-use Rattle.cc_env.proofs.LastWords.{fewer, last_kept}
-use Rattle.cc_env.proofs.Texts.{text_registered, text_replied, text_without_arguments, text_without_command}
-use Rattle.std.specs.Option.{option_copied}
-use Rattle.cc_base.specs.Collected.{collected_bytes}
-use Rattle.cc_env.specs.Steps.{IsRegistration, made_bytes, names_of}
+use Rattle.cc_env.proofs.Texts.{text_registered, text_replied, text_without_command}
+use Rattle.cc_env.specs.Steps.{RegistersAs, made_bytes, program_names}
 use Rattle.cc_env.proofs.shell_program.ShellProgram.text_over.Goals as goal
 
 pub returns-in_err-build : goal.returns-in_err-build
@@ -12,34 +9,22 @@ returns-in_err-build g c =
     let p = err_from_is_err_and c.from_residual.result c.from_residual.ensures.1 in
     rw (p.1, p.2) (text_without_command _ _ _ _ _ _ _ (inr c.in_err-build.ensures.memory))
 
-pub returns-in_default : goal.returns-in_default
-returns-in_default g c =
-    text_without_arguments _ _ _ _ _ string_bytes c.args.args.items c.args.command.now refl
-    (sym (ap length c.deref.ensures.value) ∙ c.in_default.ensures.cases)
+pub returns-in_err-words : goal.returns-in_err-words
+returns-in_err-words g c =
+    let p = err_from_is_err_and c.from_residual-in_err-words.result c.from_residual-in_err-words.ensures.1 in
+    rw (p.1, p.2) (text_without_command _ _ _ _ _ _ _ (inr refl))
 
 pub returns-then-is_empty : goal.returns-then-is_empty
 returns-then-is_empty g c =
-    text_registered _ _ _ _ _ string_bytes c.args.args.items c.in-Some.program.now c.in-Some.rest.now
-    c.after_dashes-after.result.now c.args.command.now _ c.as_str.result.now c.registration.result refl c.in_ok-build.ensures.ok
-    (sym c.deref.ensures.value ∙ c.in-Some.ensures.cases.0) c.after_dashes-after.ensures
-    (sym c.is_empty.ensures ∙ c.if-is_empty.true) c.as_str.ensures.value
-    (subst (λ (current : Option (List ℕ)). IfOk c.registration.result (λ text. IsRegistration (g.E.EnvCompleter.spec c.args.self.now.shell.now)
-    (names_of c.args.self.now.variable.now (option_copied c.args.self.now.bin) (option_copied c.args.self.now.completer) current
-    c.as_str.result.now c.build.new.self) (collected_bytes text))) c.current_dir.ensures c.registration.ensures.ok)
-    c.registration.ensures.memory
-
-pub keep_last-words-requires : goal.keep_last-words-requires
-keep_last-words-requires g c =
-    fewer string_bytes c.args.args.items c.in-Some.program.now c.in-Some.rest.now c.after_dashes-after.result.now
-    (sym c.deref.ensures.value ∙ c.in-Some.ensures.cases.0) c.after_dashes-after.ensures
+    text_registered _ _ _ _ _ string_bytes c.in_ok-words.words.items c.args.command.now _ (map string_bytes c.args.args.now)
+    (made_bytes c.registration_of.result) refl c.in_ok-build.ensures.ok c.in_ok-words.ensures
+    (ap (λ n. n == 0) (sym c.in_ok-words.words.ok.0) ∙ sym c.is_empty.ensures ∙ c.if-is_empty.true)
+    (subst (λ (current : Option (List ℕ)). RegistersAs (g.E.EnvCompleter.spec c.args.self.now.shell.now)
+    (program_names c.args.self.now current) c.build.new.self (map string_bytes c.args.args.now)
+    (made_bytes c.registration_of.result)) c.current_dir.ensures c.registration_of.ensures)
 
 pub returns : goal.returns
 returns g c =
-    let split = sym c.deref.ensures.value ∙ c.in-Some.ensures.cases.0 in
-    text_replied _ _ _ _ _ string_bytes c.args.args.items c.in-Some.program.now c.in-Some.rest.now
-    c.after_dashes-after.result.now (map string_bytes c.keep_last-words.result.items) c.args.command.now _ _
-    (made_bytes c.reply.result) refl c.in_ok-build.ensures.ok c.in_ok-build.ensures.whole split c.after_dashes-after.ensures
-    (sym c.is_empty.ensures ∙ c.if-is_empty.false)
-    (ap (map string_bytes) c.keep_last-words.ensures
-    ∙ last_kept string_bytes c.args.args.items c.in-Some.program.now c.in-Some.rest.now c.after_dashes-after.result.now split c.after_dashes-after.ensures)
-    c.reply.ensures.built c.reply.ensures.replied
+    text_replied _ _ _ _ _ string_bytes c.in_ok-words.words.items c.args.command.now _ _ (map string_bytes c.args.args.now)
+    (made_bytes c.reply.result) refl c.in_ok-build.ensures.ok c.in_ok-build.ensures.whole c.in_ok-words.ensures
+    (ap (λ n. n == 0) (sym c.in_ok-words.words.ok.0) ∙ sym c.is_empty.ensures ∙ c.if-is_empty.false) c.reply.ensures.built c.reply.ensures.replied

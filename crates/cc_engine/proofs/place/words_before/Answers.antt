@@ -1,7 +1,7 @@
 use Rattle.std.proofs.Common.{◌∙◌, ap, sym, map, string_bytes}
 use Rattle.std.specs.Prelude.{drop, take}
 use Rattle.std.proofs.lemmas.List.{drop-map, take-map, take_rest}
-use Rattle.cc_engine.proofs.completion.words_before.Goals as goal
+use Rattle.cc_engine.proofs.place.words_before.Goals as goal
 
 pub returns : goal.returns
 returns c =
