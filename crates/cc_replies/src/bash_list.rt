@@ -88,7 +88,7 @@ impl BashWords<'_> {
             return 0;
         }
         let room = self.width_left(width, candidates).saturating_sub(FRAME);
-        if room >= LEAST_ROOM || self.has_two(candidates) {
+        if room >= LEAST_ROOM && self.has_two(candidates) {
             room
         } else {
             0
