@@ -212,7 +212,8 @@ class Shown(shells.Shell):
 class ShownBash(Shown, shells.Bash):
     """bash. It lists at the second Tab, and then shows the command line again."""
 
-    prompt, prompt_line, tabs = "bash$ ", "PS1='bash$ '", 2
+    # The picture has no room for the descriptions of both shells.
+    prompt, prompt_line, tabs = "bash$ ", "PS1='bash$ ' COMPLGEN_DESCRIPTIONS=0", 2
 
     def play(self) -> None:
         self.colours()
