@@ -212,8 +212,7 @@ class Shown(shells.Shell):
 class ShownBash(Shown, shells.Bash):
     """bash. It lists at the second Tab, and then shows the command line again."""
 
-    # The picture has no room for the descriptions of both shells.
-    prompt, prompt_line, tabs = "bash$ ", "PS1='bash$ ' COMPLGEN_DESCRIPTIONS=0", 2
+    prompt, prompt_line, tabs = "bash$ ", "PS1='bash$ '", 2
 
     def play(self) -> None:
         self.colours()
