@@ -12,12 +12,15 @@ and COMPLGEN name other programs.
 These rules are checked:
 
 - a call that gets no memory fails with `Memory`. If its sink fails after some bytes, it fails with `Write`
-  and the kind of the sink. If its sink accepts nothing more, the kind is `WriteZero`;
+  and the kind of the sink. If its sink accepts nothing more, the kind is `WriteZero`. The sink accepts a
+  byte at a time;
+- what the sink accepted before a failure is a beginning of the text, and fills the sink if that failed;
 - then the command and all below it are as they were before the call, or as the call leaves them. After
   `build` they are as before, and if the sink failed, as the call leaves them. `state.rt` of
   `library_calls` reads them by the getters;
 - the same call, repeated with enough memory and room, writes the text or the file that it writes if
   nothing fails;
+- calls over a chain of 1,000 commands, each the only child of the one before it, succeed;
 - a generator whose first allocation fails has written nothing. `write_complete` and `try_complete` have
   written nothing, whichever allocation fails;
 - `complgen` ends with status 1 and `out of memory`. Its output is the beginning of the usual output, and
@@ -46,11 +49,16 @@ TREE = os.path.join(common.EXAMPLES, "tree-with-children.json")
 ENOUGH = str(2**64 - 1)
 SECONDS = 20
 # Calls that build the command that they get.
-BUILDING = ("build", "complete", "generate ", "generate_to ", "write_complete ")
+BUILDING = ("bash_script", "build", "complete", "generate ", "generate_to ", "write_complete ")
 # Calls that write nothing to the sink before they end.
 SINKLESS = ("build", "complete", "generate_to ")
 # Calls that write nothing if an allocation fails.
 REPLIES = (*SINKLESS, "write_complete ", "try_complete ")
+
+# Calls over a chain, and its depth.
+CHAINED = ("is_plain", "has_quiet_values", "build", "all_subcommands", "complete",
+           *(f"generate {shell}" for shell in common.SHELLS))
+DEPTH = "1000"
 
 Ended = collections.namedtuple("Ended", "status outcome taken state text refused")
 totals = collections.Counter()
@@ -66,6 +74,8 @@ def main():
         with concurrent.futures.ThreadPoolExecutor(os.cpu_count()) as pool:
             if calls != []:
                 try_calls(common.program("library_calls"), calls, refuse, pool)
+            for name in [] if calls or options.whole else CHAINED:
+                tried_chain(common.program("library_calls"), name)
             for words in [] if calls else whole_runs(folder):
                 tried_run(common.program("complgen"), words, folder, refuse, pool)
     print(
@@ -109,14 +119,14 @@ class Call:
                     timeout=SECONDS, capture_output=True, text=True, errors="replace",
                 )
             except subprocess.TimeoutExpired:
-                return Ended("no end", "", 0, "", "", False)
+                return Ended("no end", "", "", "", "", False)
             files = [contents(os.path.join(folder, name)) for name in sorted(os.listdir(folder))]
         _, _, after = done.stdout.partition("begin\nend\n")
         told, _, text = after.partition("\nagain\n")
-        outcome, _, rest = told.partition("\n")
-        taken, _, state = rest.partition("\n")
+        told, _, taken = told.partition("\ntaken\n")
+        outcome, _, state = told.partition("\n")
         refused = done.stderr.endswith("refused\n")
-        return Ended(done.returncode, outcome, int(taken or 0), state, "".join([text, *files]), refused)
+        return Ended(done.returncode, outcome, taken, state, "".join([text, *files]), refused)
 
 
 def contents(path):
@@ -150,15 +160,16 @@ def tried_call(call, before, pool):
             states = [before] if call.name == "build" else [before, whole.state]
             judge(f"allocation {number}", ended, "out of memory", states)
             first = number == 1 and call.name.startswith("generate ")
-            if ended.taken and (first or call.name.startswith(REPLIES)):
-                wrong.append(f"allocation {number}: {ended.taken} bytes were put")
+            nothing = first or call.name.startswith(REPLIES)
+            if not whole.text.startswith(ended.taken) or (ended.taken and nothing):
+                wrong.append(f"allocation {number}: {ended.taken!r} was put")
     room = 0 if call.name.startswith(SINKLESS) else len(whole.text.encode()) - 1
     for outcome, kind in (("no room", ()), ("nothing taken", ("nothing",))):
         runs = pool.map(lambda count: call.run(str(count), kind=kind), range(room))
         for count, ended in enumerate(runs):
             judge(f"room for {count} bytes, {outcome}", ended, outcome, [whole.state])
-            if ended.taken != count:
-                wrong.append(f"room for {count} bytes, {outcome}: {ended.taken} were taken")
+            if ended.taken.encode() != whole.text.encode()[:count]:
+                wrong.append(f"room for {count} bytes, {outcome}: {ended.taken!r} was taken")
     report(call.name, 2, len(refused), spared, 2 * room, wrong)
 
 
@@ -172,6 +183,15 @@ def refused_runs(call, pool):
             if not ended.refused:
                 return refused, ended
             refused.append(ended)
+
+
+def tried_chain(program, name):
+    """Tries a call over a chain of commands, prints its line, and counts a wrong run."""
+    done = subprocess.run(
+        [program, f"chain {name}", DEPTH], timeout=SECONDS, capture_output=True, text=True, check=False)
+    ended = (done.returncode, done.stdout, done.stderr)
+    wrong = [] if ended == (0, "made\ncalled\ndropped\n", "") else [str(ended)]
+    report(f"chain {name}", 1, 0, 0, 0, wrong)
 
 
 def report(name, whole, refused, spared, failed, wrong):

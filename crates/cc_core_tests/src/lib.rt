@@ -1,29 +1,28 @@
-//! Tests of scripts and their parts: sinks, arguments, trees, tree files, lists and quoted words.
+//! Tests of the crates below `clap_complete`: names, lists, quoted words, sinks, texts of errors, and
+//! live completion. Cases of `complgen_cases` test scripts, registrations, replies and candidates.
 #![tactic(auto)]
 
 #[cfg(test)]
-mod arguments;
+mod candidates;
 #[cfg(test)]
-mod calls;
+mod completed_paths;
 #[cfg(test)]
-mod checks;
+mod completers;
 #[cfg(test)]
 mod debug;
 #[cfg(test)]
-mod fixtures;
-#[cfg(test)]
-mod kinds;
-#[cfg(test)]
 mod lists;
+#[cfg(test)]
+mod long_words;
+#[cfg(test)]
+mod names;
+#[cfg(test)]
+mod offered;
 #[cfg(test)]
 mod quoting;
 #[cfg(test)]
-mod scripts;
+mod requests;
 #[cfg(test)]
 mod sinks;
 #[cfg(test)]
-mod texts;
-#[cfg(test)]
-mod tree_file;
-#[cfg(test)]
-mod trees;
+mod zsh_values;

@@ -1,148 +1,102 @@
-//! Tests of the lists that generators share.
+//! Tests of the lists that generators share, and of the tests for plain names and quiet values.
 
-use crate::checks::is;
-use crate::fixtures::{MY_APP, built_tree};
-use cc_base::Error;
+use cc_base::{Error, is_plain_name};
 use cc_command::Command;
-use cc_fixtures::trees::NESTED;
+use cc_fixtures::checks::is;
+use cc_fixtures::trees::tree;
 use cc_generator::utils;
+use cc_quote::is_plain_path;
 use std::alloc::Global;
 use std::fmt::Write;
 
-const ALL: &str = "test: my-cmd test
-hello: my-cmd hello
-help: my-cmd help
-config: my-cmd test config
-help: my-cmd test help
-config: my-cmd test help config
-help: my-cmd test help help
-test: my-cmd help test
-hello: my-cmd help hello
-help: my-cmd help help
-config: my-cmd help test config
-";
+// `run` has a flag with names of each kind and an option. Nothing is generated.
+const TREE: &str = r#"{"name": "app", "disable_help_flag": true, "disable_help_subcommand": true,
+    "subcommands": [
+        {"name": "run", "visible_aliases": ["r"], "disable_help_flag": true,
+            "disable_help_subcommand": true, "args": [
+                {"id": "file", "short": "f", "visible_short_aliases": ["p"],
+                    "short_aliases": ["q"], "long": "file", "visible_aliases": ["path"],
+                    "aliases": ["old"], "action": "SetTrue"},
+                {"id": "out", "long": "out", "action": "Set"}],
+            "subcommands": [{"name": "job", "disable_help_flag": true}]},
+        {"name": "stop", "disable_help_flag": true}]}"#;
 
-// Adds the shorts and their visible aliases, with a space after each.
-fn push_shorts(line: &mut String, alloc: Global, command: &Command) -> Result<(), Error> {
-    for short in utils::shorts_and_visible_aliases(alloc, command)? {
-        line.push(short)?;
-        line.push(' ')?;
-    }
-    Ok(())
-}
-
-// Adds the longs and their visible aliases, with a space after each.
-fn push_longs(line: &mut String, alloc: Global, command: &Command) -> Result<(), Error> {
-    for long in utils::longs_and_visible_aliases(alloc, command)? {
-        line.push_str(long.as_str())?;
-        line.push(' ')?;
-    }
-    Ok(())
-}
-
-// Returns the shorts and then the longs, each with its visible aliases.
-fn shorts_and_longs(alloc: Global, command: &Command) -> Result<String, Error> {
+// Returns the shorts, the longs, each with its visible aliases, and the longs of the flags.
+fn names(alloc: Global, command: &Command) -> Result<String, Error> {
     let mut line = String::new(alloc);
-    push_shorts(&mut line, alloc, command)?;
+    for short in utils::shorts_and_visible_aliases(alloc, command)? {
+        write!(line, "{short} ")?;
+    }
     push_longs(&mut line, alloc, command)?;
+    push_flags(&mut line, alloc, command)?;
     Ok(line)
 }
 
-// Returns the shorts and longs of the command to which a word leads.
-fn shorts_and_longs_of(alloc: Global, command: &Command, word: &str) -> Result<String, Error> {
-    match utils::find_subcommand_with_path(command, [word].as_slice()) {
-        Some(child) => shorts_and_longs(alloc, child),
-        None => Ok(String::new(alloc)),
+fn push_longs(line: &mut String, alloc: Global, command: &Command) -> Result<(), Error> {
+    for long in utils::longs_and_visible_aliases(alloc, command)? {
+        write!(line, "{long} ")?;
     }
+    Ok(())
 }
 
-// Returns the longs of the flags, with a space after each.
-fn longs_of_flags(alloc: Global, command: &Command) -> Result<String, Error> {
-    let mut longs = String::new(alloc);
+fn push_flags(line: &mut String, alloc: Global, command: &Command) -> Result<(), Error> {
     for flag in utils::flags(alloc, command)? {
-        longs.push_str(flag.get_long().unwrap_or(""))?;
-        longs.push(' ')?;
+        line.push_str(flag.get_long().unwrap_or(""))?;
     }
-    Ok(longs)
+    Ok(())
 }
 
-// Returns the longs of the flags of the command to which a word leads.
-fn longs_of_flags_of(alloc: Global, command: &Command, word: &str) -> Result<String, Error> {
-    match utils::find_subcommand_with_path(command, [word].as_slice()) {
-        Some(child) => longs_of_flags(alloc, child),
-        None => Ok(String::new(alloc)),
-    }
-}
-
-#[test]
-fn visible_aliases_come_before_the_name(rt: HostRuntime) {
-    let command = built_tree(&rt, rt.alloc(), MY_APP);
-    let names = shorts_and_longs_of(rt.alloc(), &command, "test");
-    is(&rt, names, "p f h path file help ");
-    drop(command);
-}
-
-#[test]
-fn generated_flags_come_last(rt: HostRuntime) {
-    let command = built_tree(&rt, rt.alloc(), MY_APP);
-    let names = shorts_and_longs(rt.alloc(), &command);
-    is(&rt, names, "h V help version ");
-    drop(command);
-}
-
-#[test]
-fn flags_take_no_values(rt: HostRuntime) {
-    let command = built_tree(&rt, rt.alloc(), MY_APP);
-    let longs = longs_of_flags_of(rt.alloc(), &command, "test");
-    is(&rt, longs, "file help ");
-    drop(command);
-}
-
-#[test]
-fn generated_flags_are_flags(rt: HostRuntime) {
-    let command = built_tree(&rt, rt.alloc(), MY_APP);
-    is(&rt, longs_of_flags(rt.alloc(), &command), "help version ");
-    drop(command);
-}
-
-// Returns the pairs, one per line.
-fn lines(alloc: Global, pairs: &[(String, String)]) -> Result<String, Error> {
+// Returns the lines of the children of a command, and then those of all commands below it; none if
+// it is not built.
+fn below(alloc: Global, command: &Command) -> Result<String, Error> {
     let mut lines = String::new(alloc);
-    for (name, full_name) in pairs {
-        writeln!(lines, "{name}: {full_name}")?;
+    if command.is_built() {
+        push_lines(&mut lines, utils::subcommands(alloc, command))?;
+        push_lines(&mut lines, utils::all_subcommands(alloc, command))?;
     }
     Ok(lines)
 }
 
-// Returns the lines of all commands below a command, or none if it is not built.
-fn all_lines(alloc: Global, command: &Command) -> Result<String, Error> {
-    if !command.is_built() {
-        return Ok(String::new(alloc));
+// Adds a line for each name with its full name.
+fn push_lines(
+    lines: &mut String,
+    names: Result<Vec<(String, String)>, Error>,
+) -> Result<(), Error> {
+    for (name, full_name) in names? {
+        writeln!(lines, "{name}: {full_name}")?;
     }
-    let pairs = utils::all_subcommands(alloc, command)?;
-    lines(alloc, pairs.as_slice())
+    Ok(())
 }
 
+const BELOW: &str = "run: app run
+r: app run
+stop: app stop
+run: app run
+r: app run
+stop: app stop
+job: app run job
+";
+
 #[test]
-fn children_come_before_what_is_below_them(rt: HostRuntime) {
-    let command = built_tree(&rt, rt.alloc(), MY_APP);
-    is(&rt, all_lines(rt.alloc(), &command), ALL);
+fn the_names_in_a_tree_are_listed(rt: HostRuntime) {
+    let mut command = tree(&rt, TREE);
+    command.build(rt.alloc()).expect(&rt, "not built");
+    let run = utils::find_subcommand_with_path(&command, ["r"].as_slice());
+    let run = run.expect(&rt, "no child");
+    is(&rt, names(rt.alloc(), run), "p f path file out file");
+    is(&rt, below(rt.alloc(), &command), BELOW);
     drop(command);
 }
 
-// Returns the lines of the children of a command, or none if it is not built.
-fn child_lines(alloc: Global, command: &Command) -> Result<String, Error> {
-    if !command.is_built() {
-        return Ok(String::new(alloc));
-    }
-    let pairs = utils::subcommands(alloc, command)?;
-    lines(alloc, pairs.as_slice())
-}
+// A value with a blank is not quiet, though it is hidden.
+const BLANK: &str = r#"{"name": "app", "args": [
+    {"id": "to", "long": "to", "possible_values": [{"name": "a b", "hide": true}]}]}"#;
 
 #[test]
-fn a_child_is_listed_under_each_visible_name(rt: HostRuntime) {
-    let command = built_tree(&rt, rt.alloc(), NESTED);
-    let shown = child_lines(rt.alloc(), &command);
-    is(&rt, shown, "run: app run\nr: app run\n");
+fn a_plain_tree_may_have_values_that_are_not_quiet(rt: HostRuntime) {
+    let command = tree(&rt, BLANK);
+    assert!(rt; command.is_plain() && !command.has_quiet_values());
     drop(command);
+    assert!(rt; is_plain_name("sub-command_2") && !is_plain_name("a--b"));
+    assert!(rt; is_plain_path("/w/./my_app-2") && !is_plain_path("a+b"));
 }

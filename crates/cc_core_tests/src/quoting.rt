@@ -1,13 +1,30 @@
 //! Tests of the writers and readers of quoted words. The rows of `cc_quote/proofs` have further
 //! words.
 
-use crate::checks::{is, is_none, same};
 use cc_base::Error;
+use cc_fixtures::checks::{is, same};
 use cc_quote::{
-    bash_double, bash_double_word, fish_double, fish_quote, fish_quote_for_eval, fish_word,
-    posix_quote, posix_word, powershell_word,
+    bash_double, bash_double_word, elvish_word, fish_double, fish_quote, fish_quote_for_eval,
+    fish_word, posix_quote, posix_word, powershell_word,
 };
 use std::process::Abort;
+
+#[test]
+fn words_are_quoted(rt: HostRuntime) {
+    let alloc = rt.alloc();
+    is(
+        &rt,
+        bash_double(alloc, "/o'p \"$x\"/c"),
+        "/o'p \\\"\\$x\\\"/c",
+    );
+    is(&rt, fish_quote(alloc, "dyn\\amic"), "'dyn\\\\amic'");
+    is(
+        &rt,
+        fish_quote_for_eval(alloc, "/p/$var/c"),
+        "'/p/\\$var/c'",
+    );
+    is(&rt, posix_quote(alloc, "a'b"), "'a'\\''b'");
+}
 
 // Fails unless the word `word` was read, followed by the text `rest`.
 fn reads(rt: &impl Abort, read: Result<Option<(String, &str)>, Error>, word: &str, rest: &str) {
@@ -17,73 +34,22 @@ fn reads(rt: &impl Abort, read: Result<Option<(String, &str)>, Error>, word: &st
 }
 
 #[test]
-fn bash_doubles(rt: HostRuntime) {
+fn words_are_read(rt: HostRuntime) {
     let alloc = rt.alloc();
-    let shown = bash_double(alloc, "/opt/VAR \"NAME\"/c");
-    is(&rt, shown, "/opt/VAR \\\"NAME\\\"/c");
-    is(&rt, bash_double(alloc, "/o'p $x"), "/o'p \\$x");
-}
-
-#[test]
-fn bash_reads_doubles(rt: HostRuntime) {
-    let alloc = rt.alloc();
-    let shown = bash_double_word(alloc, "\"/o'p \\$x é\" -- y");
-    reads(&rt, shown, "/o'p $x é", " -- y");
-    is_none(&rt, bash_double_word(alloc, "a\"b\""));
-    is_none(&rt, bash_double_word(alloc, "\"a\\\""));
-}
-
-#[test]
-fn fish_quotes(rt: HostRuntime) {
-    let alloc = rt.alloc();
-    is(&rt, fish_quote(alloc, ""), "''");
-    is(&rt, fish_quote(alloc, "dyn\\amic"), "'dyn\\\\amic'");
-    is(&rt, fish_quote_for_eval(alloc, "auto"), "auto");
-    let shown = fish_quote_for_eval(alloc, "/p/$var/c");
-    is(&rt, shown, "'/p/\\$var/c'");
-}
-
-#[test]
-fn fish_reads_words(rt: HostRuntime) {
+    let double = "\"/o'p \\$x é\" -- y";
+    reads(&rt, bash_double_word(alloc, double), "/o'p $x é", " -- y");
+    reads(&rt, elvish_word(alloc, "'it''s' more"), "it's", " more");
     let text = "a#\\t'\\'\\\\\\n'\"é\\$\\x\\\ny\"\\é\\ z w";
-    let shown = fish_word(rt.alloc(), text);
-    reads(&rt, shown, "a#\t'\\\\né$\\xyé z", " w");
-    for none in ["", " a", "# a", "'a", "a\\", "\"a"] {
-        is_none(&rt, fish_word(rt.alloc(), none));
-    }
-}
-
-#[test]
-fn fish_reads_double_quotes(rt: HostRuntime) {
-    let alloc = rt.alloc();
-    let shown = fish_double(alloc, "\"it's\\\\ é\"more");
-    reads(&rt, shown, "it's\\ é", "more");
-    is_none(&rt, fish_double(alloc, "a\""));
-    is_none(&rt, fish_double(alloc, "\"a\\\""));
-}
-
-#[test]
-fn posix_quotes(rt: HostRuntime) {
-    let alloc = rt.alloc();
-    is(&rt, posix_quote(alloc, "a'b"), "'a'\\''b'");
-    is(&rt, posix_quote(alloc, "a/b:c"), "a/b:c");
-    is(&rt, posix_quote(alloc, ""), "''");
-}
-
-#[test]
-fn posix_reads_words(rt: HostRuntime) {
-    let alloc = rt.alloc();
-    reads(&rt, posix_word(alloc, "'a'\\''b' c"), "a'b", " c");
-    let shown = posix_word(alloc, "\"a\\$b\\c\"é\\ y\\\nz w");
-    reads(&rt, shown, "a$b\\cé yz", " w");
-    is_none(&rt, posix_word(alloc, "'a"));
-    is_none(&rt, posix_word(alloc, "a\\"));
-}
-
-#[test]
-fn powershell_reads_words(rt: HostRuntime) {
-    let alloc = rt.alloc();
+    reads(&rt, fish_word(alloc, text), "a#\t'\\\\né$\\xyé z", " w");
+    let double = "\"it's\\\\ é\"more";
+    reads(&rt, fish_double(alloc, double), "it's\\ é", "more");
+    let text = "\"a$b\\c\"é\\ y\\\nz w";
+    reads(&rt, posix_word(alloc, text), "a$b\\cé yz", " w");
     reads(&rt, powershell_word(alloc, "'it'’s' more"), "it’s", " more");
-    reads(&rt, powershell_word(alloc, "it’s more"), "it’s", " more");
-    is_none(&rt, powershell_word(alloc, "’it''s"));
+}
+
+#[test]
+fn an_open_quote_is_no_word(rt: HostRuntime) {
+    let open = fish_word(rt.alloc(), "'a");
+    assert!(rt; matches!(open, Ok(None)));
 }

@@ -2,8 +2,8 @@
 
 ghost use Rattle.std.specs.Prelude.{◌≡◌, ◌++◌, IfOk};
 
-use crate::checks::same;
-use cc_base::{Collected, Counted, Error, Failures, Held, Sink, put_all};
+use cc_base::{Collected, Counted, Error, Held, Sink, put_all};
+use cc_fixtures::checks::same;
 use std::alloc::Global;
 use std::io::{self, ErrorKind};
 use std::process::Abort;
@@ -64,21 +64,16 @@ fn put_each<S: Sink>(sink: &mut S, texts: &[&str]) -> Result<(), Error> {
 }
 
 #[test]
-fn a_collected_sink_keeps_the_bytes(rt: HostRuntime) {
+fn sinks_keep_the_bytes_or_pass_them_on(rt: HostRuntime) {
     let mut sink = Collected::new(rt.alloc());
     assert!(rt; put_each(&mut sink, &["ab", "c"]).is_ok());
     same(&rt, sink.failures(), 0);
     same(&rt, sink.as_slice(), b"abc".as_slice());
     same(&rt, sink.into_vec().as_slice(), b"abc".as_slice());
-}
-
-#[test]
-fn a_counted_sink_passes_the_bytes_on(rt: HostRuntime) {
     let mut sink = Counted::new(Vec::new(rt.alloc()));
     assert!(rt; put_each(&mut sink, &["ab", "", "c"]).is_ok());
     assert!(rt; sink.flush().is_ok());
     same(&rt, sink.failures(), 0);
-    same(&rt, sink.get_ref().as_slice(), b"abc".as_slice());
     same(&rt, sink.into_inner().as_slice(), b"abc".as_slice());
 }
 
@@ -110,12 +105,7 @@ fn is_failure(put: Result<(), Error>, kind: ErrorKind) -> bool {
     matches!(put, Err(Error::Write(failed)) if failed == kind)
 }
 
-fn counts_its_failures(rt: &impl Abort, alloc: Global, kind: ErrorKind) {
-    for room in 0..3 {
-        counts_failures_in(rt, alloc, kind, room);
-    }
-}
-
+// Fails unless a failed put and a failed flush are counted. The writer takes two bytes per call.
 fn counts_failures_in(rt: &impl Abort, alloc: Global, kind: ErrorKind, room: usize) {
     let mut sink = over(alloc, 2, room, Some(kind));
     assert!(rt; is_failure(put_each(&mut sink, &["abc"]), kind));
@@ -127,8 +117,10 @@ fn counts_failures_in(rt: &impl Abort, alloc: Global, kind: ErrorKind, room: usi
 
 #[test]
 fn each_failure_is_counted(rt: HostRuntime) {
-    counts_its_failures(&rt, rt.alloc(), ErrorKind::BrokenPipe);
-    counts_its_failures(&rt, rt.alloc(), ErrorKind::Interrupted);
+    for room in 0..3 {
+        counts_failures_in(&rt, rt.alloc(), ErrorKind::BrokenPipe, room);
+        counts_failures_in(&rt, rt.alloc(), ErrorKind::Interrupted, room);
+    }
 }
 
 #[test]
@@ -139,15 +131,4 @@ fn a_writer_that_takes_nothing_fails(rt: HostRuntime) {
     let put = put_each(&mut sink, &["a"]);
     assert!(rt; is_failure(put, ErrorKind::WriteZero));
     same(&rt, sink.failures(), 1);
-}
-
-#[test]
-fn failures_have_a_count_and_the_last_kind(rt: HostRuntime) {
-    let mut failures = Failures::none();
-    same(&rt, failures.count(), 0);
-    same(&rt, failures.last(), None);
-    failures.raise(ErrorKind::WriteZero);
-    failures.raise(ErrorKind::BrokenPipe);
-    same(&rt, failures.count(), 2);
-    same(&rt, failures.last(), Some(ErrorKind::BrokenPipe));
 }

@@ -6,7 +6,8 @@ ghost use Rattle.complgen_tree_file.specs.TreeFile.{Describes};
 use cc_base::Error;
 use cc_command::Command;
 use complgen_tree_file::read_tree;
-use std::alloc::{AllocError, Global};
+use std::alloc::Global;
+use std::process::Abort;
 
 /// A tree file: `app` without arguments and without a help flag.
 pub const BARE: &str = r#"{"name": "app", "disable_help_flag": true}"#;
@@ -64,36 +65,8 @@ pub fn read(alloc: Global, text: &str) -> Result<Command, Error>
     }
 }
 
-// `n199` with a flag `--end`; nothing is generated.
-const LAST: &str = r#"{"name": "n199", "disable_help_flag": true,
-    "disable_help_subcommand": true, "args": [
-        {"id": "end", "long": "end", "action": "SetTrue"}]}"#;
-
-/// Creates the chain `app`, `n1` to `n199`, which nests more deeply than a tree file can. Each
-/// command is the only child of the one before. The last has a flag `--end`; nothing is generated.
-///
-/// # Errors
-///
-/// `Memory`, whatever failed.
-pub fn chain(alloc: Global) -> Result<Command, Error> {
-    let mut chain = read(alloc, LAST);
-    for number in (1..199).rev() {
-        chain = above(alloc, format!(in alloc; "n{number}"), chain);
-    }
-    above(alloc, String::from_str(alloc, "app"), chain)
-}
-
-// Creates a command with this name and one child; nothing is generated.
-fn above(
-    alloc: Global,
-    name: Result<String, AllocError>,
-    child: Result<Command, Error>,
-) -> Result<Command, Error> {
-    let name = name?;
-    child.and_then(|child| {
-        Command::new(alloc, name)
-            .disable_help_flag(true)
-            .disable_help_subcommand(true)
-            .subcommand(child)
-    })
+/// Returns the command in the tree file `text`. A function that owns a command ends with a call of
+/// `drop`, because proving an implicit drop takes seconds in each function.
+pub fn tree<R: Abort + AllocGlobal>(rt: &R, text: &str) -> Command {
+    read(rt.alloc(), text).expect(rt, "no command")
 }

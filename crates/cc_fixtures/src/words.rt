@@ -1,7 +1,8 @@
-//! Words and texts for tests.
+//! Words, environments and texts for tests.
 
 ghost use Rattle.std.specs.Prelude.{◌≡◌, IfOk, map, string_bytes};
 
+use cc_replies::EnvValues;
 use std::alloc::{AllocError, Global};
 use std::fmt::Debug;
 
@@ -21,19 +22,19 @@ pub fn to_strings(alloc: Global, words: &[&str]) -> Result<Vec<String>, AllocErr
     Ok(copies)
 }
 
-/// Returns the text after the first occurrence of `mark`, or an empty text if there is no
-/// occurrence.
-pub fn after<'t>(text: &'t str, mark: &str) -> &'t str {
-    match text.split_once(mark) {
-        Some((_, rest)) => rest,
-        None => "",
+/// Returns an environment with these variables.
+///
+/// # Errors
+///
+/// `AllocError` if an allocation fails.
+pub fn environment(alloc: Global, variables: &[(&str, &str)]) -> Result<EnvValues, AllocError> {
+    let mut values = Vec::new(alloc);
+    for (name, value) in variables {
+        let name = String::from_str(alloc, name)?;
+        let value = String::from_str(alloc, value)?;
+        values.push((name, value))?;
     }
-}
-
-/// Returns the word in `read`, without the text after it.
-pub fn word(read: Option<(String, &str)>) -> Option<String> {
-    let (word, _) = read?;
-    Some(word)
+    Ok(EnvValues::new(values))
 }
 
 /// Returns the `Debug` text of `value`.

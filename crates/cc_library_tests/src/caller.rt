@@ -1,115 +1,126 @@
 //! Tests of the callers of `cc_caller`.
 
-use crate::checks::{is, same};
-use crate::fixtures::tree;
+use crate::agreement::values;
 use crate::written::script;
 use cc_caller::{
-    WordList, same_action, same_adapters, same_builtin, same_generators, same_hash, same_hint,
-    same_range, same_refusal, same_safe_shell, same_shell, write_bash_if_quiet, write_if_plain,
+    WordList, answer_prompt, same_action, same_adapters, same_builtin, same_generators, same_hash,
+    same_hint, same_range, same_refusal, same_safe_shell, same_shell, tools, write_bash_if_quiet,
+    write_if_plain,
 };
-use cc_fixtures::trees;
+use cc_fixtures::checks::{is, same};
+use cc_fixtures::trees::{APP, NESTED, read, tree};
+use cc_fixtures::words::{environment, to_strings};
 use clap_complete::Shell;
 use clap_complete::aot::{
     Bash, Collected, Elvish, Fish, Generator, InvalidShell, Nushell, PowerShell, Zsh,
 };
 use clap_complete::command::{ArgAction, ValueHint, ValueRange};
+use clap_complete::engine::{Completers, MemoryFolder, Sources};
 use clap_complete::env::{self, Builtin, SafeShell};
+use std::alloc::Global;
 use std::process::Abort;
 
-// `app` with an option `--to`, whose possible value is `a b`.
-const BLANK: &str = r#"{"name": "app", "disable_help_flag": true, "args": [
-    {"id": "to", "long": "to", "possible_values": [{"name": "a b"}]}]}"#;
-
-// Fails unless `write_if_plain` returns `is_plain` and writes `wanted` for the command of a tree
-// file.
-fn ends<R: Abort + AllocGlobal>(rt: &R, text: &str, name: &str, is_plain: bool, wanted: &str) {
+// Fails unless both calls write their script of a command for a program with a plain name, and
+// nothing for one with another name.
+fn writes_if_plain<R: Abort + AllocGlobal>(rt: &R, name: &str, is_plain: bool) {
+    let mut sinks = (Collected::new(rt.alloc()), Collected::new(rt.alloc()));
+    let mut command = tree(rt, NESTED);
     let bin_name = String::from_str(rt.alloc(), name).expect(rt, "no name");
-    let mut sink = Collected::new(rt.alloc());
-    let mut command = tree(rt, text);
-    let written = write_if_plain(rt.alloc(), &mut command, bin_name, &mut sink);
-    drop(command);
-    same(rt, written.expect(rt, "not called"), is_plain);
-    same(rt, sink.as_slice(), wanted.as_bytes());
-}
-
-// Does the same for `write_bash_if_quiet`.
-fn bash_ends<R: Abort + AllocGlobal>(rt: &R, text: &str, name: &str, is_quiet: bool, wanted: &str) {
+    let elvish = write_if_plain(rt.alloc(), &mut command, bin_name, &mut sinks.0);
     let bin_name = String::from_str(rt.alloc(), name).expect(rt, "no name");
-    let mut sink = Collected::new(rt.alloc());
-    let mut command = tree(rt, text);
-    let written = write_bash_if_quiet(rt.alloc(), &mut command, bin_name, &mut sink);
+    let bash = write_bash_if_quiet(rt.alloc(), &mut command, bin_name, &mut sinks.1);
     drop(command);
-    same(rt, written.expect(rt, "not called"), is_quiet);
-    same(rt, sink.as_slice(), wanted.as_bytes());
+    assert!(rt;
+        matches!((elvish, bash), (Ok(one), Ok(other)) if one == is_plain && other == is_plain)
+    );
+    if is_plain {
+        let elvish = script(rt, Elvish, NESTED).expect(rt, "no script");
+        same(rt, sinks.0.as_slice(), elvish.as_bytes());
+        let bash = script(rt, Bash, NESTED).expect(rt, "no script");
+        same(rt, sinks.1.as_slice(), bash.as_bytes());
+    } else {
+        assert!(rt; sinks.0.as_slice().is_empty() && sinks.1.as_slice().is_empty());
+    }
 }
 
 #[test]
-fn a_plain_command_is_written(rt: HostRuntime) {
-    let wanted = script(&rt, Elvish, trees::NESTED).expect(&rt, "no script");
-    ends(&rt, trees::NESTED, "app", true, wanted.as_str());
-}
-
-#[test]
-fn a_command_or_name_that_is_not_plain_is_not_written(rt: HostRuntime) {
-    ends(&rt, trees::QUOTED, "app", false, "");
-    ends(&rt, trees::NESTED, "a--b", false, "");
-}
-
-#[test]
-fn a_plain_command_with_quiet_values_is_written_for_bash(rt: HostRuntime) {
-    let wanted = script(&rt, Bash, trees::COLORED).expect(&rt, "no script");
-    bash_ends(&rt, trees::COLORED, "app", true, wanted.as_str());
-}
-
-#[test]
-fn a_plain_command_with_a_value_that_is_not_quiet_is_not_written_for_bash(rt: HostRuntime) {
-    let wanted = script(&rt, Elvish, BLANK).expect(&rt, "no script");
-    ends(&rt, BLANK, "app", true, wanted.as_str());
-    bash_ends(&rt, BLANK, "app", false, "");
-    bash_ends(&rt, trees::QUOTED, "app", false, "");
-    bash_ends(&rt, trees::COLORED, "a--b", false, "");
+fn a_script_is_written_if_its_name_is_plain(rt: HostRuntime) {
+    writes_if_plain(&rt, "app", true);
+    writes_if_plain(&rt, "a--b", false);
 }
 
 #[test]
 fn a_generator_outside_the_library_writes_its_script(rt: HostRuntime) {
     let wanted = "--verbose\n--out\n--help\n";
-    is(&rt, script(&rt, WordList, trees::APP), wanted);
+    is(&rt, script(&rt, WordList, APP), wanted);
     is(&rt, WordList.file_name(rt.alloc(), "app"), "app.words");
 }
 
 #[test]
 fn values_are_equal_where_they_are_one(rt: HostRuntime) {
-    same(&rt, same_shell(Shell::Zsh, Shell::Zsh), true);
-    same(&rt, same_shell(Shell::Zsh, Shell::Bash), false);
-    same(&rt, same_hint(ValueHint::Url, ValueHint::Other), false);
-    same(&rt, same_action(ArgAction::Set, ArgAction::Set), true);
-    same(&rt, same_action(ArgAction::Set, ArgAction::Append), false);
-    let range = ValueRange::new(1, 2);
-    same(&rt, same_range(range, ValueRange::new(1, 2)), true);
-    same(&rt, same_range(range, ValueRange::new(1, 3)), false);
-}
-
-#[test]
-fn adapters_and_generators_are_equal_where_they_are_one(rt: HostRuntime) {
-    same(&rt, same_builtin(Builtin::Zsh, Builtin::Zsh), true);
-    same(&rt, same_builtin(Builtin::Zsh, Builtin::Bash), false);
+    assert!(rt; same_shell(Shell::Zsh, Shell::Zsh));
+    assert!(rt; !same_hint(ValueHint::Url, ValueHint::Other));
+    assert!(rt; same_hash(&Shell::Zsh, &Shell::Zsh));
+    assert!(rt; !same_action(ArgAction::Set, ArgAction::Append));
+    assert!(rt; same_range(ValueRange::new(1, 2), ValueRange::new(1, 2)));
+    assert!(rt; same_builtin(Builtin::Zsh, Builtin::Zsh));
     let (zsh, bash) = (SafeShell::new(Builtin::Zsh), SafeShell::new(Builtin::Bash));
-    same(&rt, same_safe_shell(zsh, zsh), true);
-    same(&rt, same_safe_shell(zsh, bash), false);
+    assert!(rt; !same_safe_shell(zsh, bash));
+    assert!(rt; same_refusal(InvalidShell, InvalidShell));
     let generators = ((Bash, Elvish, Fish), (Nushell, PowerShell, Zsh));
-    same(&rt, same_generators(generators, generators), true);
+    assert!(rt; same_generators(generators, generators));
     let adapters = (
         (env::Bash, env::Elvish, env::Fish),
         (env::Powershell, env::Zsh),
     );
-    same(&rt, same_adapters(adapters, adapters), true);
-    same(&rt, same_refusal(InvalidShell, InvalidShell), true);
+    assert!(rt; same_adapters(adapters, adapters));
 }
 
 #[test]
-fn equal_values_have_equal_hashes(rt: HostRuntime) {
-    same(&rt, same_hash(&Shell::Zsh, &Shell::Zsh), true);
-    same(&rt, same_hash(&Shell::Zsh, &Shell::Bash), false);
-    same(&rt, same_hash(&ValueHint::Url, &ValueHint::Url), true);
-    same(&rt, same_hash(&ValueHint::Url, &ValueHint::Other), false);
+fn names_that_begin_with_the_word_are_offered(rt: HostRuntime) {
+    let alloc = rt.alloc();
+    let names = to_strings(alloc, &["ripgrep", "rsync", "jq"]).expect(&rt, "no names");
+    let word = String::from_str(alloc, "r").expect(&rt, "no word");
+    let found = tools(alloc, names, word, &MemoryFolder::new(&[], &[]));
+    let found = found.expect(&rt, "no candidates");
+    is(&rt, values(alloc, found.as_slice()), " ripgrep rsync");
+}
+
+// Returns the record of these values, which borrows all of them for the same time.
+fn sources_of<'s>(
+    current_dir: Option<&'s str>,
+    folder: &'s MemoryFolder,
+    completers: &'s Completers,
+) -> Sources<'s, MemoryFolder, Completers> {
+    Sources {
+        current_dir,
+        folder,
+        completers,
+    }
+}
+
+// Fails unless the program writes this text for these arguments if the variable has this value. If
+// it fails, the text is that of its error.
+fn answers<R: Abort + AllocGlobal>(rt: &R, value: &str, arguments: &[&str], wanted: &str) {
+    let alloc = rt.alloc();
+    let env = environment(alloc, &[("COMPLETE", value)]).expect(rt, "no environment");
+    let arguments = to_strings(alloc, arguments).expect(rt, "no words");
+    let folder = MemoryFolder::new(&[], &[]);
+    let completers = Completers::none(alloc);
+    let sources = sources_of(None, &folder, &completers);
+    let mut out = Collected::new(alloc);
+    let factory = |alloc: Global| read(alloc, NESTED);
+    match answer_prompt(alloc, factory, arguments, &env, &sources, &mut out) {
+        Ok(_) => same(rt, out.as_slice(), wanted.as_bytes()),
+        Err(error) => is(rt, format!(in alloc; "{error}"), wanted),
+    }
+}
+
+#[test]
+fn a_prompt_gets_its_registration_and_a_line_for_each_value(rt: HostRuntime) {
+    answers(&rt, "prompt", &["app"], "COMPLETE\napp\n");
+    answers(&rt, "prompt", &["app", "--", "app", "run", ""], "job\n");
+    answers(&rt, "0", &["app"], "");
+    let wanted = "unknown shell `zsh`, expected one of `prompt`";
+    answers(&rt, "zsh", &["app"], wanted);
 }

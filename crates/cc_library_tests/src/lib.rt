@@ -1,6 +1,6 @@
-//! Tests of the library as programs use it: sinks that take little or fail, files, the shells as
-//! values, a bash script compared with candidates, a described command and its parser, and the
-//! callers of `cc_caller`. The tests of the scripts themselves are in `cc_core_tests`.
+//! Tests of the library as programs use it: the shells as values, files, a bash script with
+//! candidates, a described command and its parser, and the callers of `cc_caller`. The tests of the
+//! crates below are in `cc_core_tests`.
 #![tactic(auto)]
 
 #[cfg(test)]
@@ -8,24 +8,16 @@ mod agreement;
 #[cfg(test)]
 mod caller;
 #[cfg(test)]
-mod checks;
-#[cfg(test)]
-mod debug;
-#[cfg(test)]
 mod example;
 #[cfg(test)]
-mod fixtures;
-#[cfg(test)]
-mod known_names;
+mod files;
 #[cfg(test)]
 mod parser;
 #[cfg(test)]
 mod program;
 #[cfg(test)]
-mod prompt;
-#[cfg(test)]
 mod shell;
 #[cfg(test)]
-mod sinks;
+mod slices;
 #[cfg(test)]
 mod written;

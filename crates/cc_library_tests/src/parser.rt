@@ -1,7 +1,8 @@
 //! A described command: its candidates, and the words that its parser accepts.
 
-use crate::checks::{is, same};
+use crate::agreement::values;
 use bumpalo::Bump;
+use cc_fixtures::checks::is;
 use cc_fixtures::words::to_strings;
 use clap::ArgMatches;
 use clap_complete::Error;
@@ -10,15 +11,14 @@ use clap_complete::describe::{
     arg, command, flag, group, option, positional, possible_values, with_alias, with_arg,
     with_child,
 };
-use clap_complete::engine::{
-    ArgValueCompleter, Completers, CompletionCandidate, MemoryFolder, Sources, complete,
-};
+use clap_complete::engine::{ArgValueCompleter, Completers, MemoryFolder, Sources};
 use clap_complete::parser::{
     candidates_and_parser, candidates_and_reached_parser, fits_parser, has_globals,
-    is_parsed_exactly, parser,
+    is_parsed_exactly,
 };
 use std::alloc::{AllocError, Global};
 use std::fmt::Write;
+use std::process::Abort;
 
 // Returns a tree that uses each call of `describe`.
 fn app(alloc: Global) -> Result<Command, Error> {
@@ -54,39 +54,6 @@ fn level(alloc: Global) -> Result<Arg, Error> {
     )
 }
 
-fn values(alloc: Global, found: &[CompletionCandidate]) -> Result<String, AllocError> {
-    let mut values = String::new(alloc);
-    for candidate in found {
-        write!(values, " {}", candidate.get_value())?;
-    }
-    Ok(values)
-}
-
-// Returns the values that are offered for the last of these words.
-fn offered(alloc: Global, words: &[&str]) -> Result<String, Error> {
-    let mut app = app(alloc)?;
-    let index = words.len().saturating_sub(1);
-    let words = to_strings(alloc, words)?;
-    let folder = MemoryFolder::new(&[], &[]);
-    let completers = Completers::none(alloc);
-    let found = complete(alloc, &mut app, words, index, None, &folder, &completers)?;
-    Ok(values(alloc, found.as_slice())?)
-}
-
-#[test]
-fn what_is_described_is_offered(rt: HostRuntime) {
-    let alloc = rt.alloc();
-    let longs = " --verbose --color --root --help";
-    is(&rt, offered(alloc, &["app", "--"]), longs);
-    is(&rt, offered(alloc, &["app", "--color", ""]), " auto never");
-    is(&rt, offered(alloc, &["app", "e"]), " exec");
-    is(
-        &rt,
-        offered(alloc, &["app", "exec", "--level", "low,h"]),
-        " low,high",
-    );
-}
-
 // Returns the exit status if the words are refused. Otherwise returns what they hold: the root,
 // whether `--verbose` and `--dry-run` are used, the subcommand and the programs.
 fn taken(
@@ -112,18 +79,41 @@ fn taken(
     Ok(text)
 }
 
-fn parsed(alloc: Global, words: &[&str]) -> Result<String, Error> {
-    let mut app = app(alloc)?;
-    app.build(alloc)?;
+// Returns the name of the built command, the values that are offered for the last of the words, and
+// what the command line `line` holds, by the same call's parser.
+fn both<R: Abort + AllocGlobal>(
+    rt: &R,
+    current_dir: Option<&str>,
+    words: &[&str],
+    line: &[&str],
+) -> Result<String, AllocError> {
+    let alloc = rt.alloc();
+    let index = words.len().saturating_sub(1);
+    let words = to_strings(alloc, words).expect(rt, "no words");
+    let mut app = app(alloc).expect(rt, "no tree");
     let store = Bump::new(alloc);
-    let parser = parser(alloc, &store, &app)?;
-    Ok(taken(alloc, parser.try_get_matches_from(words))?)
+    let folder = MemoryFolder::new(&[], &[]);
+    let completers = Completers::none(alloc);
+    let sources = Sources {
+        current_dir,
+        folder: &folder,
+        completers: &completers,
+    };
+    let called = candidates_and_parser(alloc, &store, &mut app, words, index, &sources);
+    let (found, parser, built) = called.expect(rt, "no candidates");
+    let offered = values(alloc, found.as_slice()).expect(rt, "no text");
+    let taken = taken(alloc, parser.try_get_matches_from(line)).expect(rt, "no text");
+    format!(in alloc; "{}:{offered}: {taken}", built.get_name())
+}
+
+// Fails unless `both` returns this text.
+fn gives<R: Abort + AllocGlobal>(rt: &R, words: &[&str], line: &[&str], wanted: &str) {
+    is(rt, both(rt, None, words, line), wanted);
 }
 
 #[test]
-fn what_is_described_is_parsed(rt: HostRuntime) {
-    let alloc = rt.alloc();
-    let words = [
+fn what_is_described_is_offered_and_parsed(rt: HostRuntime) {
+    let line = [
         "app",
         "-v",
         "--root",
@@ -133,85 +123,38 @@ fn what_is_described_is_parsed(rt: HostRuntime) {
         "cc",
         "--dry-run",
     ];
-    is(&rt, parsed(alloc, &words), "/srv true run true make cc");
-    is(
-        &rt,
-        parsed(alloc, &["app", "run", "make"]),
-        "none false run false make",
-    );
-    // no subcommand, no program, no such value, and no such word
-    is(&rt, parsed(alloc, &["app"]), "2");
-    is(&rt, parsed(alloc, &["app", "run"]), "2");
-    is(
-        &rt,
-        parsed(alloc, &["app", "--color", "red", "run", "make"]),
-        "2",
-    );
-    is(&rt, parsed(alloc, &["app", "rum", "make"]), "2");
-    is(&rt, parsed(alloc, &["app", "--help"]), "0");
-}
-
-// Returns the name of the built command, the values that are offered for `word` as the second word,
-// and what the command line `line` holds, by the same call's parser.
-fn both(alloc: Global, word: &str, line: &[&str]) -> Result<String, Error> {
-    let words = to_strings(alloc, &["app", word])?;
-    let mut app = app(alloc)?;
-    both_of(alloc, None, &mut app, words, line)
-}
-
-fn both_of(
-    alloc: Global,
-    current_dir: Option<&str>,
-    app: &mut Command,
-    words: Vec<String>,
-    line: &[&str],
-) -> Result<String, Error> {
-    let store = Bump::new(alloc);
-    let folder = MemoryFolder::new(&[], &[]);
-    let completers = Completers::none(alloc);
-    let sources = Sources {
-        current_dir,
-        folder: &folder,
-        completers: &completers,
-    };
-    let (found, parser, built) = candidates_and_parser(alloc, &store, app, words, 1, &sources)?;
-    let offered = values(alloc, found.as_slice())?;
-    let taken = taken(alloc, parser.try_get_matches_from(line))?;
-    let name = built.get_name();
-    Ok(format!(in alloc; "{name}:{offered}: {taken}")?)
-}
-
-#[test]
-fn what_is_offered_is_taken(rt: HostRuntime) {
+    let wanted = "app: --verbose --color --root --help: /srv true run true make cc";
+    gives(&rt, &["app", "--"], &line, wanted);
     let line = ["app", "run", "make"];
-    is(
-        &rt,
-        both(rt.alloc(), "r", &line),
-        "app: run: none false run false make",
-    );
-    let line = ["app", "--verbose", "run", "make"];
-    is(
-        &rt,
-        both(rt.alloc(), "--v", &line),
-        "app: --verbose: none true run false make",
-    );
+    let wanted = "app: auto never: none false run false make";
+    gives(&rt, &["app", "--color", ""], &line, wanted);
+    gives(&rt, &["app", "e"], &["app", "--help"], "app: exec: 0");
 }
 
-// Returns the name of the command that `exec` leads to, whether it fits its parser, and the values
-// that are offered there for `word`. Then whether its parser accepts `line` and finds `--dry-run`.
-fn reached(alloc: Global, word: &str, line: &[&str]) -> Result<String, Error> {
-    let words = to_strings(alloc, &["app", "exec", word])?;
-    let mut app = app(alloc)?;
-    reached_of(alloc, None, &mut app, words, line)
+// No subcommand, no program, no such value, and no such word.
+#[test]
+fn other_words_are_refused(rt: HostRuntime) {
+    let level = ["app", "exec", "--level", "low,h"];
+    gives(&rt, &level, &["app"], "app: low,high: 2");
+    gives(&rt, &level, &["app", "run"], "app: low,high: 2");
+    let red = ["app", "--color", "red", "run", "make"];
+    gives(&rt, &level, &red, "app: low,high: 2");
+    gives(&rt, &level, &["app", "rum", "make"], "app: low,high: 2");
 }
 
-fn reached_of(
-    alloc: Global,
+// Returns the name of the command that the second word leads to, whether it fits its parser, and
+// the values that are offered there for the third word. Then whether its parser accepts `line` and
+// finds `--dry-run`.
+fn reached<R: Abort + AllocGlobal>(
+    rt: &R,
     current_dir: Option<&str>,
-    app: &mut Command,
-    words: Vec<String>,
+    words: &[&str],
     line: &[&str],
-) -> Result<String, Error> {
+) -> Result<String, AllocError> {
+    let alloc = rt.alloc();
+    let words = to_strings(alloc, words).expect(rt, "no words");
+    let quiet = arg(alloc, &flag("quiet", "Say less").global());
+    let mut app = with_arg(app(alloc), quiet).expect(rt, "no tree");
     let store = Bump::new(alloc);
     let folder = MemoryFolder::new(&[], &[]);
     let completers = Completers::none(alloc);
@@ -220,14 +163,15 @@ fn reached_of(
         folder: &folder,
         completers: &completers,
     };
-    let (found, parser, reached) = candidates_and_reached_parser(
-        alloc, &store, app, words, 2, &sources,
-    )?;
-    let offered = values(alloc, found.as_slice())?;
+    let called = candidates_and_reached_parser(alloc, &store, &mut app, words, 2, &sources);
+    let (found, parser, reached) = called.expect(rt, "no candidates");
+    let offered = values(alloc, found.as_slice()).expect(rt, "no text");
     let dry_run = is_dry_run(parser.try_get_matches_from(line));
-    let name = reached.get_name();
-    let fits = fits_parser(reached);
-    Ok(format!(in alloc; "{name} {fits}:{offered}: {dry_run}")?)
+    format!(in alloc;
+        "{} {}:{offered}: {dry_run}",
+        reached.get_name(),
+        fits_parser(reached)
+    )
 }
 
 fn is_dry_run(matches: Result<ArgMatches<'_>, clap::Error>) -> bool {
@@ -237,28 +181,14 @@ fn is_dry_run(matches: Result<ArgMatches<'_>, clap::Error>) -> bool {
     }
 }
 
+// The first of the options is global, of a command above.
 #[test]
 fn what_a_subcommand_offers_is_taken(rt: HostRuntime) {
-    let line = ["run", "--dry-run", "make"];
-    is(
-        &rt,
-        reached(rt.alloc(), "--d", &line),
-        "run true: --dry-run: true",
-    );
-}
-
-#[test]
-fn a_global_argument_above_a_subcommand_is_taken(rt: HostRuntime) {
-    let alloc = rt.alloc();
-    let quiet = arg(alloc, &flag("quiet", "Say less").global());
-    let mut app = with_arg(app(alloc), quiet).expect(&rt, "no tree");
-    let words = to_strings(alloc, &["app", "exec", "--q"]).expect(&rt, "no memory");
     let line = ["run", "--quiet", "--dry-run", "make"];
-    is(
-        &rt,
-        reached_of(alloc, None, &mut app, words, &line),
-        "run true: --quiet: true",
-    );
+    let shown = reached(&rt, None, &["app", "exec", "--q"], &line);
+    is(&rt, shown, "run true: --quiet: true");
+    let shown = reached(&rt, None, &["app", "exec", "--d"], &line);
+    is(&rt, shown, "run true: --dry-run: true");
 }
 
 #[test]
@@ -267,7 +197,5 @@ fn a_global_argument_is_found(rt: HostRuntime) {
     let jar = command(rt.alloc(), "jar", "Keeps things", &args);
     let mut jar = jar.expect(&rt, "no tree");
     jar.build(rt.alloc()).expect(&rt, "no memory");
-    same(&rt, has_globals(&jar), true);
-    same(&rt, is_parsed_exactly(&jar), false);
-    same(&rt, fits_parser(&jar), true);
+    assert!(rt; has_globals(&jar) && !is_parsed_exactly(&jar) && fits_parser(&jar));
 }

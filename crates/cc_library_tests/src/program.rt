@@ -1,19 +1,18 @@
 //! A program over values: its completion, its own work, its help text and its mistakes.
 
-use crate::checks::{is, same};
-use cc_fixtures::words::to_strings;
+use cc_fixtures::checks::same;
+use cc_fixtures::words::{environment, to_strings};
 use clap::ArgMatches;
 use clap_complete::aot::Collected;
 use clap_complete::command::Command;
 use clap_complete::describe::{command, flag, positional, with_child};
 use clap_complete::engine::{Completers, MemoryFolder, Sources};
-use clap_complete::env::{Called, EnvValues, PassedLines};
-use clap_complete::parser::{has_globals, is_parsed_exactly};
-use clap_complete::program::{ClapParser, Failure, Program, Streams, run_over};
+use clap_complete::env::{Called, PassedLines};
+use clap_complete::program::{ClapParser, Program, Streams, run_over};
 use clap_complete::{CompleteEnv, Error};
 use std::alloc::{AllocError, Global};
 use std::fmt::Write;
-use std::process::ExitCode;
+use std::process::{Abort, ExitCode};
 use std::str;
 
 fn jar(alloc: Global) -> Result<Command, Error> {
@@ -35,27 +34,16 @@ fn held(text: &mut String, found: &ArgMatches<'_>) -> Result<(), AllocError> {
     Ok(())
 }
 
-// Returns the environment of a shell that has this name in `COMPLETE`.
-fn environment(alloc: Global, shell: &str) -> Result<EnvValues, AllocError> {
-    let mut variables = Vec::new(alloc);
-    let name = String::from_str(alloc, "COMPLETE")?;
-    variables.push((name, String::from_str(alloc, shell)?))?;
-    Ok(EnvValues::new(variables))
-}
-
 // Returns how the program ended, what its work found, and what the streams took.
-fn ended(alloc: Global, shell: &str, words: &[&str]) -> Result<String, Failure<AllocError>> {
-    ended_in(alloc, None, shell, words)
-}
-
-fn ended_in(
-    alloc: Global,
+fn ended<R: Abort + AllocGlobal>(
+    rt: &R,
     current_dir: Option<&str>,
     shell: &str,
     words: &[&str],
-) -> Result<String, Failure<AllocError>> {
-    let words = to_strings(alloc, words)?;
-    let env = environment(alloc, shell)?;
+) -> String {
+    let alloc = rt.alloc();
+    let words = to_strings(alloc, words).expect(rt, "no words");
+    let env = environment(alloc, &[("COMPLETE", shell)]).expect(rt, "no environment");
     let called = Called {
         args: words.as_slice(),
         env: &env,
@@ -79,8 +67,9 @@ fn ended_in(
         out: Collected::new(alloc),
         err: Collected::new(alloc),
     };
-    let status = run_over(alloc, program, &called, &sources, &lines, &mut streams)?;
-    Ok(shown(alloc, &status, done.as_str(), &streams)?)
+    let status = run_over(alloc, program, &called, &sources, &lines, &mut streams);
+    let status = status.expect(rt, "no end");
+    shown(alloc, &status, done.as_str(), &streams).expect(rt, "no text")
 }
 
 fn shown(
@@ -100,44 +89,24 @@ fn shown(
 
 #[test]
 fn the_work_is_done_on_the_matches(rt: HostRuntime) {
+    let shown = ended(&rt, None, "", &["jar", "-o", "put", "jam", "salt"]);
     let wanted = "ExitCode(unix_exit_status(0)) [true put jam salt] [] []";
-    let words = ["jar", "-o", "put", "jam", "salt"];
-    is(&rt, ended(rt.alloc(), "", &words), wanted);
+    same(&rt, shown.as_str(), wanted);
 }
 
 #[test]
-fn a_help_text_goes_to_the_first_stream(rt: HostRuntime) {
-    let help = ended(rt.alloc(), "", &["jar", "--help"]);
-    let help = help.expect(&rt, "no help text");
-    let help = help.as_str();
-    same(
-        &rt,
-        help.starts_with("ExitCode(unix_exit_status(0)) [] [Keeps things\n"),
-        true,
-    );
-    same(&rt, help.ends_with("] []"), true);
-}
-
-#[test]
-fn a_mistake_goes_to_the_second_stream(rt: HostRuntime) {
-    let mistake = ended(rt.alloc(), "", &["jar", "put"]);
-    let mistake = mistake.expect(&rt, "no message");
+fn help_and_mistakes_go_to_their_streams(rt: HostRuntime) {
+    let help = ended(&rt, None, "", &["jar", "--help"]);
+    let start = "ExitCode(unix_exit_status(0)) [] [Keeps things\n";
+    assert!(rt; help.as_str().starts_with(start) && help.as_str().ends_with("] []"));
+    let mistake = ended(&rt, None, "", &["jar", "put"]);
     let start = "ExitCode(unix_exit_status(2)) [] [] [error: ";
-    same(&rt, mistake.as_str().starts_with(start), true);
+    assert!(rt; mistake.as_str().starts_with(start));
 }
 
 #[test]
 fn a_request_is_completed(rt: HostRuntime) {
-    let words = ["jar", "--", "jar", "p"];
-    let reply = ended(rt.alloc(), "fish", &words);
+    let reply = ended(&rt, None, "fish", &["jar", "--", "jar", "p"]);
     let wanted = "ExitCode(unix_exit_status(0)) [] [put\tPut things in\n] []";
-    is(&rt, reply, wanted);
-}
-
-#[test]
-fn the_tree_is_parsed_exactly(rt: HostRuntime) {
-    let mut jar = jar(rt.alloc()).expect(&rt, "no tree");
-    jar.build(rt.alloc()).expect(&rt, "no memory");
-    same(&rt, has_globals(&jar), false);
-    same(&rt, is_parsed_exactly(&jar), true);
+    same(&rt, reply.as_str(), wanted);
 }

@@ -2,13 +2,14 @@
 
 use cc_arg::Arg;
 use cc_asking::LineSource;
-use cc_base::{Collected, Error};
+use cc_base::Collected;
 use cc_command::Release;
-use cc_fixtures::words::to_strings;
+use cc_fixtures::checks::is;
+use cc_fixtures::words::{environment, to_strings};
 use cc_paths::MemoryFolder;
-use cc_replies::EnvValues;
 use complgen_live::{Origin, Request, reply};
 use std::alloc::{AllocError, Global};
+use std::process::Abort;
 
 const TREE: &str = r#"{"name": "app", "disable_help_flag": true, "args": [
     {"id": "branch", "values_from": ["git", "branch"]},
@@ -28,30 +29,20 @@ impl LineSource for Fixed {
     }
 }
 
-// The environment of a request of fish, with these variables.
-fn environment(alloc: Global, set: &[(&str, &str)]) -> Result<EnvValues, AllocError> {
-    let mut variables = Vec::new(alloc);
-    let name = String::from_str(alloc, "COMPLETE")?;
-    variables.push((name, String::from_str(alloc, "fish")?))?;
-    for (name, value) in set {
-        let name = String::from_str(alloc, name)?;
-        variables.push((name, String::from_str(alloc, value)?))?;
-    }
-    Ok(EnvValues::new(variables))
-}
-
 // Returns the exit status and the text for the word after `app` and `before`, over the tree at
-// `path`.
-fn answer(
-    alloc: Global,
+// `path`, in an environment with these variables.
+fn answer<R: Abort + AllocGlobal>(
+    rt: &R,
     set: &[(&str, &str)],
     path: &str,
     before: &[&str],
-) -> Result<(u8, String), Error> {
-    let env = environment(alloc, set)?;
-    let mut words = to_strings(alloc, &["complgen", "--", "app"])?;
-    words.append(&mut to_strings(alloc, before)?)?;
-    words.push(String::new(alloc))?;
+) -> Result<String, AllocError> {
+    let alloc = rt.alloc();
+    let env = environment(alloc, set).expect(rt, "no environment");
+    let mut words = to_strings(alloc, &["complgen", "--", "app"]).expect(rt, "no words");
+    let mut before = to_strings(alloc, before).expect(rt, "no words");
+    words.append(&mut before).expect(rt, "no words");
+    words.push(String::new(alloc)).expect(rt, "no words");
     let folder = MemoryFolder::new(&[], &[]);
     let request = Request {
         env: &env,
@@ -64,51 +55,37 @@ fn answer(
     };
     let mut out = Collected::new(alloc);
     let lines = Fixed("main\tthe branch\ntopic\n");
-    match reply(alloc, &request, &lines, &mut out) {
-        Ok(status) => Ok((status, String::from_utf8_lossy(alloc, out.as_slice())?)),
-        Err(_) => Err(Error::NoCompletion),
-    }
+    let status = reply(alloc, &request, &lines, &mut out).expect(rt, "no answer");
+    let text = String::from_utf8_lossy(alloc, out.as_slice()).expect(rt, "no text");
+    format!(in alloc; "{status} {text}")
 }
+
+const FISH: (&str, &str) = ("COMPLETE", "fish");
 
 #[test]
 fn words_of_the_command_that_is_asked_for(rt: HostRuntime) {
-    let ask = [("_COMPLGEN_VALUES", "ask")];
-    let (status, text) = answer(rt.alloc(), &ask, "/t/app.json", &[]).expect(&rt, "no answer");
-    assert!(rt;
-        status == 3 && text.as_str() == "git\x0bbranch\x0b",
-        "{status} {text}"
-    );
-    let open = ["--remote"];
-    let (status, text) = answer(rt.alloc(), &ask, "/t/app.json", &open).expect(&rt, "no answer");
-    assert!(rt;
-        status == 3 && text.as_str() == "git\x0bremote\x0b",
-        "{status} {text}"
-    );
+    let ask = [FISH, ("_COMPLGEN_VALUES", "ask")];
+    let shown = answer(&rt, &ask, "/t/app.json", &[]);
+    is(&rt, shown, "3 git\x0bbranch\x0b");
+    let shown = answer(&rt, &ask, "/t/app.json", &["--remote"]);
+    is(&rt, shown, "3 git\x0bremote\x0b");
 }
 
 #[test]
 fn lines_that_the_command_printed(rt: HostRuntime) {
-    let given = [("_COMPLGEN_VALUES", "stdin")];
-    let (status, text) = answer(rt.alloc(), &given, "/t/app.json", &[]).expect(&rt, "no answer");
-    let values = "main\tthe branch\ntopic\n";
-    assert!(rt;
-        status == 0 && text.as_str().starts_with(values),
-        "{status} {text}"
-    );
+    let given = [FISH, ("_COMPLGEN_VALUES", "stdin")];
+    let shown = answer(&rt, &given, "/t/app.json", &[]);
+    is(&rt, shown, "0 main\tthe branch\ntopic\n--remote\n");
 }
 
 #[test]
 fn no_command_where_none_is_allowed(rt: HostRuntime) {
-    let off = [("_COMPLGEN_VALUES", "ask"), ("COMPLGEN_COMMANDS", "0")];
-    let (status, text) = answer(rt.alloc(), &off, "/t/app.json", &[]).expect(&rt, "no answer");
-    assert!(rt;
-        status == 0 && !text.as_str().contains("git"),
-        "{status} {text}"
-    );
-    let ask = [("_COMPLGEN_VALUES", "ask")];
-    let (status, text) = answer(rt.alloc(), &ask, "t/app.json", &[]).expect(&rt, "no answer");
-    assert!(rt;
-        status == 0 && !text.as_str().contains("git"),
-        "{status} {text}"
-    );
+    let off = [
+        FISH,
+        ("_COMPLGEN_VALUES", "ask"),
+        ("COMPLGEN_COMMANDS", "0"),
+    ];
+    is(&rt, answer(&rt, &off, "/t/app.json", &[]), "0 --remote\n");
+    let ask = [FISH, ("_COMPLGEN_VALUES", "ask")];
+    is(&rt, answer(&rt, &ask, "t/app.json", &[]), "0 --remote\n");
 }

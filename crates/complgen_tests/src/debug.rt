@@ -1,7 +1,7 @@
 //! The `Debug` texts of plans and of a refusal.
 
-use crate::checks::is;
 use crate::runs::plan_of;
+use cc_fixtures::checks::is;
 use complgen_scripts::Refusal;
 use std::alloc::AllocError;
 use std::process::Abort;
@@ -14,30 +14,14 @@ fn shows<R: Abort + AllocGlobal>(rt: &R, line: &str, wanted: &str) {
 
 #[test]
 fn debug_shows_each_field(rt: HostRuntime) {
-    shows(
-        &rt,
-        "complgen script --shell elvish --bin app tree",
-        "Script(\"elvish\", \"app\", \"tree\")",
-    );
+    let script = "complgen script --shell elvish --bin app tree";
+    shows(&rt, script, "Script(\"elvish\", \"app\", \"tree\")");
+    let candidates = "complgen candidates --index 1 tree -- app ";
+    shows(&rt, candidates, "Candidates(1, \"tree\", [\"app\", \"\"])");
+    let candidates = "complgen candidates --index 1 --values lines tree -- app";
+    let wanted = "CandidatesWith { values: \"lines\", index: 1, tree: \"tree\", words: [\"app\"] }";
+    shows(&rt, candidates, wanted);
     let refusal = Refusal::from(AllocError);
     let wanted = "Refusal { status: 1, text: \"out of memory\\n\" }";
     is(&rt, format!(in rt.alloc(); "{refusal:?}"), wanted);
-}
-
-#[test]
-fn debug_shows_the_words(rt: HostRuntime) {
-    shows(
-        &rt,
-        "complgen candidates --index 1 tree -- app ",
-        "Candidates(1, \"tree\", [\"app\", \"\"])",
-    );
-}
-
-#[test]
-fn debug_shows_the_file_of_values(rt: HostRuntime) {
-    shows(
-        &rt,
-        "complgen candidates --index 1 --values lines tree -- app",
-        "CandidatesWith { values: \"lines\", index: 1, tree: \"tree\", words: [\"app\"] }",
-    );
 }

@@ -1,25 +1,18 @@
 //! The registration of all programs that have a tree file.
 
-use cc_base::{Collected, Error};
-use cc_fixtures::words::to_strings;
+use cc_base::Collected;
+use cc_fixtures::words::{environment, to_strings};
 use cc_paths::MemoryFolder;
-use cc_replies::EnvValues;
 use complgen_live::{known_names, write_registrations};
-use std::alloc::{AllocError, Global};
 
-// The environment of a request of bash.
-fn bash(alloc: Global) -> Result<EnvValues, AllocError> {
-    let mut variables = Vec::new(alloc);
-    let name = String::from_str(alloc, "COMPLETE")?;
-    variables.push((name, String::from_str(alloc, "bash")?))?;
-    Ok(EnvValues::new(variables))
-}
-
-// Returns the registration for the tree files in a directory with a relative path.
-fn registration(alloc: Global) -> Result<String, Error> {
+// The tree files are in a directory with a relative path.
+#[test]
+fn plain_names_in_order_and_then_this_program(rt: HostRuntime) {
+    let alloc = rt.alloc();
     let folder = MemoryFolder::new(&[("/t", &["b.json", "a-1.json", "$(hit).json", "x"])], &[]);
-    let known = known_names(alloc, &folder, to_strings(alloc, &["/t"])?.as_slice())?;
-    let env = bash(alloc)?;
+    let folders = to_strings(alloc, &["/t"]).expect(&rt, "no folders");
+    let known = known_names(alloc, &folder, folders.as_slice()).expect(&rt, "no names");
+    let env = environment(alloc, &[("COMPLETE", "bash")]).expect(&rt, "no environment");
     let mut out = Collected::new(alloc);
     write_registrations(
         alloc,
@@ -28,19 +21,17 @@ fn registration(alloc: Global) -> Result<String, Error> {
         Some("/o p"),
         &known.names,
         &mut out,
-    )?;
-    Ok(String::from_utf8_lossy(alloc, out.as_slice())?)
-}
-
-#[test]
-fn plain_names_in_order_and_then_this_program(rt: HostRuntime) {
-    let text = registration(rt.alloc()).expect(&rt, "no registration");
+    )
+    .expect(&rt, "no registration");
+    let text = String::from_utf8_lossy(alloc, out.as_slice()).expect(&rt, "no text");
     let text = text.as_str();
     assert!(rt;
         text.contains(" _complgen_complgen -- a-1 b complgen\n"),
         "{text}"
     );
     assert!(rt; text.contains("COMPLETE=bash"), "{text}");
-    assert!(rt; text.contains("'/o p/./complgen' -- "), "{text}");
-    assert!(rt; !text.contains("hit"), "{text}");
+    assert!(rt;
+        text.contains("'/o p/./complgen' -- ") && !text.contains("hit"),
+        "{text}"
+    );
 }

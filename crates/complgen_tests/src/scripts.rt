@@ -1,8 +1,8 @@
 //! Tree files that no document of cases can contain.
 
-use crate::checks::same;
 use crate::runs::{plan_of, run};
 use cc_base::Collected;
+use cc_fixtures::checks::same;
 use std::convert::AsStr;
 use std::process::Abort;
 use std::rt::Files;
@@ -30,22 +30,14 @@ fn is_not_json<R: Abort + AllocGlobal + Files>(rt: &R, file: &[u8]) {
     assert!(rt; out.as_slice().is_empty());
 }
 
+// Of the last file, all beginnings without its last brace are tried.
 #[test]
-fn reports_a_file_that_is_not_utf8(rt: HostRuntime) {
+fn reports_files_that_are_not_json(rt: HostRuntime) {
     is_not_json(&rt, b"{\"name\":\"\xff\"}");
-}
-
-// The beginnings of a file that ends with its last brace, without the whole file.
-#[test]
-fn reports_each_beginning_of_a_file(rt: HostRuntime) {
+    let text = "[".repeat(rt.alloc(), 1_000_000).expect(&rt, "no text");
+    is_not_json(&rt, text.as_bytes());
     for length in 0..PARENT.len() {
         let beginning = PARENT.as_bytes().get(..length).expect(&rt, "too long");
         is_not_json(&rt, beginning);
     }
-}
-
-#[test]
-fn reports_a_million_open_brackets(rt: HostRuntime) {
-    let text = "[".repeat(rt.alloc(), 1_000_000).expect(&rt, "no text");
-    is_not_json(&rt, text.as_bytes());
 }

@@ -1,9 +1,9 @@
 //! Plans that are carried out over a writer that fails, or takes nothing, after any number of
 //! bytes.
 
-use crate::checks::same;
 use crate::runs::{plan_of, run};
 use cc_base::{Collected, Counted};
+use cc_fixtures::checks::same;
 use cc_fixtures::writers::Narrow;
 use complgen_commands::Plan;
 use complgen_scripts::Refusal;
@@ -69,24 +69,19 @@ fn fails_to_write<R: Abort + AllocGlobal + Files>(rt: &R, line: &str) {
     );
 }
 
-#[test]
-fn scripts_and_registrations_report_that_writing_failed(rt: HostRuntime) {
-    fails_to_write(&rt, "complgen script --shell elvish --bin app tree");
-    fails_to_write(&rt, "complgen register --shell zsh --bin app tree");
-    fails_to_write(&rt, "complgen man --bin app tree");
-}
+const LINES: [&str; 7] = [
+    "complgen script --shell elvish --bin app tree",
+    "complgen register --shell zsh --bin app tree",
+    "complgen man --bin app tree",
+    "complgen candidates --index 1 tree -- app ",
+    "complgen candidates --index 1 --values lines tree -- app ",
+    "complgen wanted --index 1 tree -- app ",
+    "complgen check tree",
+];
 
 #[test]
-fn replies_report_that_writing_failed(rt: HostRuntime) {
-    fails_to_write(&rt, "complgen candidates --index 1 tree -- app ");
-    fails_to_write(
-        &rt,
-        "complgen candidates --index 1 --values lines tree -- app ",
-    );
-    fails_to_write(&rt, "complgen wanted --index 1 tree -- app ");
-}
-
-#[test]
-fn check_reports_that_writing_failed(rt: HostRuntime) {
-    fails_to_write(&rt, "complgen check tree");
+fn each_plan_reports_that_writing_failed(rt: HostRuntime) {
+    for line in LINES {
+        fails_to_write(&rt, line);
+    }
 }

@@ -2,10 +2,12 @@
 
 use crate::fixtures::{command, environment, texts};
 use crate::sinks::Narrow;
-use crate::sources::{Keys, Levels};
+use crate::sources::completers;
 use clap_complete::aot::{Counted, put_all};
 use clap_complete::command::Command;
-use clap_complete::engine::{Completers, MemoryFolder, ValueCandidates, ValueCompleter, complete};
+use clap_complete::engine::{
+    Completers, CompletionCandidate, MemoryFolder, Sources, bash_script_and_candidates, complete,
+};
 use clap_complete::env::{EnvCompleter, Shells};
 use clap_complete::{CompleteEnv, Error, Shell, generate, generate_to};
 use std::alloc::Global;
@@ -13,6 +15,7 @@ use std::rt::Files;
 
 /// The names of the calls: what is done, and for which shell.
 pub(crate) const CALLS: &[&str] = &[
+    "bash_script_and_candidates",
     "build",
     "complete",
     "complete completer",
@@ -36,6 +39,11 @@ pub(crate) const CALLS: &[&str] = &[
     "write_registration fish",
     "write_registration powershell",
     "write_registration zsh",
+    "write_safe_registration bash",
+    "write_safe_registration elvish",
+    "write_safe_registration fish",
+    "write_safe_registration powershell",
+    "write_safe_registration zsh",
     "write_complete bash",
     "write_complete elvish",
     "write_complete fish",
@@ -63,6 +71,7 @@ pub(crate) fn call<R: Files + AllocGlobal>(
     let alloc = rt.alloc();
     let (done, shell) = name.split_once(' ').unwrap_or((name, ""));
     match done {
+        "bash_script_and_candidates" => write_both(alloc, Some("/w"), command, sink),
         "build" => command.build(alloc),
         "complete" => complete_word(alloc, shell, command, sink),
         "generate" => {
@@ -75,14 +84,15 @@ pub(crate) fn call<R: Files + AllocGlobal>(
             let path = generate_to(rt, alloc, shell, command, name, ".")?;
             put_all(sink, path.as_str().as_bytes())
         }
-        "write_registration" => register(alloc, shell, sink),
+        "write_registration" => register(alloc, &Shells::builtins(), shell, sink),
+        "write_safe_registration" => register(alloc, &Shells::safe(), shell, sink),
         "write_complete" => reply(alloc, shell, command, sink),
         _ => attempt(alloc, shell, sink),
     }
 }
 
-// Writes the value of each candidate: the names of children and options, the possible values of an
-// option, what a completer or a list returns for one, or paths.
+// Completes the names of children and options, the possible values of an option, what a completer or
+// a list returns for one, or paths.
 fn complete_word(
     alloc: Global,
     wanted: &str,
@@ -99,11 +109,7 @@ fn complete_word(
     let last = words.len().saturating_sub(1);
     let words = texts(alloc, words)?;
     let folder = folder();
-    let mut completers: Vec<Box<dyn ValueCompleter>> = Vec::new(alloc);
-    completers.push(Box::new(alloc, Keys)?)?;
-    let mut lists: Vec<Box<dyn ValueCandidates>> = Vec::new(alloc);
-    lists.push(Box::new(alloc, Levels)?)?;
-    let completers = Completers::new(alloc, completers, lists);
+    let completers = completers(alloc)?;
     let found = complete(
         alloc,
         command,
@@ -113,15 +119,45 @@ fn complete_word(
         &folder,
         &completers,
     )?;
-    for candidate in &found {
+    put_values(found.as_slice(), sink)
+}
+
+// Writes the value of each candidate.
+fn put_values(found: &[CompletionCandidate], sink: &mut Counted<Narrow>) -> Result<(), Error> {
+    for candidate in found {
         put_all(sink, candidate.get_value().as_bytes())?;
         put_all(sink, b"\n")?;
     }
     Ok(())
 }
 
-fn register(alloc: Global, shell: &str, sink: &mut Counted<Narrow>) -> Result<(), Error> {
-    match Shells::builtins().completer(shell) {
+// Writes a script for bash, and then the value of each candidate.
+fn write_both(
+    alloc: Global,
+    current_dir: Option<&str>,
+    command: &mut Command,
+    sink: &mut Counted<Narrow>,
+) -> Result<(), Error> {
+    let words = texts(alloc, &["app", "--root", "k"])?;
+    let name = String::from_str(alloc, "app")?;
+    let folder = folder();
+    let completers = Completers::none(alloc);
+    let sources = Sources {
+        current_dir,
+        folder: &folder,
+        completers: &completers,
+    };
+    let found = bash_script_and_candidates(alloc, command, name, words, 2, &sources, sink)?;
+    put_values(found.as_slice(), sink)
+}
+
+fn register<E: EnvCompleter>(
+    alloc: Global,
+    shells: &Shells<'_, E>,
+    shell: &str,
+    sink: &mut Counted<Narrow>,
+) -> Result<(), Error> {
+    match shells.completer(shell) {
         Some(shell) => {
             shell.write_registration(alloc, "COMPLETE", "app", "my app", "/o'p/app", sink)
         }

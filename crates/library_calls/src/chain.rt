@@ -1,10 +1,10 @@
 //! Calls over a chain of commands, each the only child of the one before it.
 
 use crate::print;
-use clap_complete::Error;
-use clap_complete::aot::{Collected, Elvish, generate, utils};
+use clap_complete::aot::{Collected, utils};
 use clap_complete::command::Command;
 use clap_complete::engine::{Completers, MemoryFolder, complete};
+use clap_complete::{Error, Shell, generate};
 use std::alloc::Global;
 
 /// Makes the chain, makes the call, and drops the chain. Prints a line after each step.
@@ -14,7 +14,7 @@ pub(crate) fn attempt_chain<R: Print + AllocGlobal>(
     depth: usize,
 ) -> Result<(), Error> {
     let mut command = chain(rt.alloc(), depth)?;
-    let called = attempt_call(rt, name, &mut command);
+    let called = attempt_call(rt, name, depth, &mut command);
     drop(command);
     called?;
     print(rt, "dropped")
@@ -23,10 +23,11 @@ pub(crate) fn attempt_chain<R: Print + AllocGlobal>(
 fn attempt_call<R: Print + AllocGlobal>(
     rt: &R,
     name: &str,
+    depth: usize,
     command: &mut Command,
 ) -> Result<(), Error> {
     print(rt, "made")?;
-    call(rt.alloc(), name, command)?;
+    call(rt.alloc(), name, depth, command)?;
     print(rt, "called")
 }
 
@@ -47,7 +48,8 @@ fn link(alloc: Global) -> Result<Command, Error> {
     )
 }
 
-fn call(alloc: Global, name: &str, command: &mut Command) -> Result<(), Error> {
+// Makes the call. That of `generate` has the name of a shell after it.
+fn call(alloc: Global, name: &str, depth: usize, command: &mut Command) -> Result<(), Error> {
     match name {
         "is_plain" => {
             command.is_plain();
@@ -59,9 +61,8 @@ fn call(alloc: Global, name: &str, command: &mut Command) -> Result<(), Error> {
         }
         "build" => command.build(alloc),
         "all_subcommands" => list(alloc, command),
-        "generate" => write_script(alloc, command),
-        "complete" => complete_word(alloc, command),
-        _ => Ok(()),
+        "complete" => complete_word(alloc, depth, command),
+        _ => write_script(alloc, name.strip_prefix("generate ").unwrap_or(""), command),
     }
 }
 
@@ -70,22 +71,21 @@ fn list(alloc: Global, command: &mut Command) -> Result<(), Error> {
     utils::all_subcommands(alloc, command).map(drop)
 }
 
-fn write_script(alloc: Global, command: &mut Command) -> Result<(), Error> {
-    let mut sink = Collected::new(alloc);
-    generate(
-        alloc,
-        Elvish,
-        command,
-        String::from_str(alloc, "c")?,
-        &mut sink,
-    )
+fn write_script(alloc: Global, shell: &str, command: &mut Command) -> Result<(), Error> {
+    let shell = Shell::parse(alloc, shell)?;
+    let name = String::from_str(alloc, "c")?;
+    generate(alloc, shell, command, name, &mut Collected::new(alloc))
 }
 
-fn complete_word(alloc: Global, command: &mut Command) -> Result<(), Error> {
+// Completes a word after the names of all commands.
+fn complete_word(alloc: Global, depth: usize, command: &mut Command) -> Result<(), Error> {
     let mut words = Vec::new(alloc);
-    words.push(String::from_str(alloc, "c")?)?;
-    words.push(String::from_str(alloc, "")?)?;
+    for _ in 0..=depth {
+        words.push(String::from_str(alloc, "c")?)?;
+    }
+    words.push(String::new(alloc))?;
+    let last = words.len().saturating_sub(1);
     let folder = MemoryFolder::new(&[], &[]);
     let completers = Completers::none(alloc);
-    complete(alloc, command, words, 1, None, &folder, &completers).map(drop)
+    complete(alloc, command, words, last, None, &folder, &completers).map(drop)
 }

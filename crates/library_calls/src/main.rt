@@ -24,6 +24,7 @@ use crate::state::state_text;
 use clap_complete::Error;
 use clap_complete::aot::Counted;
 use clap_complete::command::Command;
+use std::alloc::{AllocError, Global};
 use std::env::{self, Env};
 use std::io::ErrorKind;
 use std::process::ExitCode;
@@ -90,7 +91,7 @@ fn attempt_twice<R: Files + Print + AllocGlobal>(
 }
 
 // Prints the line `begin`, makes the call, and prints the line `end`. Then prints how the call
-// ended, how many bytes the sink accepted, and the state of the command.
+// ended, the state of the command, and after the line `taken` what the sink accepted.
 fn attempt_first<R: Files + Print + AllocGlobal>(
     rt: &R,
     name: &str,
@@ -100,14 +101,16 @@ fn attempt_first<R: Files + Print + AllocGlobal>(
 ) -> Result<(), Error> {
     let mut sink = Counted::new(Narrow::new(rt.alloc(), room, spent)?);
     print(rt, "begin")?;
-    let ended = call(rt, name, command, &mut sink);
+    let ended = ending(&call(rt, name, command, &mut sink));
     print(rt, "end")?;
-    print(rt, ending(&ended))?;
-    let count = sink.get_ref().bytes().len();
-    let taken = format!(in rt.alloc(); "{count}")?;
-    print(rt, taken.as_str())?;
-    let state = state_text(rt.alloc(), command)?;
-    print(rt, state.as_str())
+    let told = told(rt.alloc(), ended, command, sink.get_ref().bytes())?;
+    print(rt, told.as_str())
+}
+
+fn told(alloc: Global, ended: &str, command: &Command, taken: &[u8]) -> Result<String, AllocError> {
+    let state = state_text(alloc, command)?;
+    let taken = String::from_utf8_lossy(alloc, taken)?;
+    format!(in alloc; "{ended}\n{state}\ntaken\n{taken}")
 }
 
 // Prints the line `again`, and after it the text that the call writes.

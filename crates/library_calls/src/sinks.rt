@@ -6,7 +6,7 @@ use std::io::{self, ErrorKind, Write};
 // More bytes than any call writes, so that writing allocates nothing.
 const HELD: usize = 1 << 16;
 
-/// A writer that accepts bytes while there is room.
+/// A writer that accepts a byte per call while there is room.
 #[derive(Drop)]
 pub(crate) struct Narrow {
     held: Vec<u8>,
@@ -35,7 +35,7 @@ impl Narrow {
 impl Write for Narrow {
     fn write(&mut self, bytes: &[u8]) -> io::Result<usize> {
         let left = self.room.saturating_sub(self.held.len());
-        let taken = &bytes[..bytes.len().min(left)];
+        let taken = &bytes[..bytes.len().min(left).min(1)];
         if taken.is_empty() && !bytes.is_empty() {
             return match self.spent {
                 Some(kind) => Err(io::Error::from(kind)),

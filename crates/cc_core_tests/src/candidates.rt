@@ -1,10 +1,14 @@
-//! The parts of a candidate, and the order of candidates.
+//! The parts of a candidate, the order of candidates, and candidates from possible values.
 
-use crate::checks::{is, same};
-use cc_base::{ArgValueCandidates, ArgValueCompleter, SubcommandCandidates};
+use crate::offered::are;
+use cc_arg::PossibleValue;
 use cc_candidates::CompletionCandidate;
+use cc_fixtures::checks::same;
+use cc_gather::{complete_possible_values, possible_value_candidates};
+use cc_replies::{
+    are_readable_entries, are_readable_lines, are_readable_values, are_readable_zsh_items,
+};
 use std::alloc::{AllocError, Global};
-use std::process::Abort;
 
 fn plain(alloc: Global) -> Result<CompletionCandidate, AllocError> {
     Ok(CompletionCandidate::from(String::from_str(alloc, "a")?))
@@ -33,16 +37,9 @@ fn each_field_counts_in_turn(rt: HostRuntime) {
     let rising = with_rising_orders(rt.alloc()).expect(&rt, "no candidates");
     let mut last = plain(rt.alloc()).expect(&rt, "no candidate");
     for candidate in rising {
-        assert!(rt; last < candidate && last != candidate);
+        assert!(rt; last < candidate && last != candidate && candidate == candidate);
         last = candidate;
     }
-}
-
-#[test]
-fn candidates_of_equal_fields_are_equal(rt: HostRuntime) {
-    let one = plain(rt.alloc()).expect(&rt, "no candidate");
-    let other = plain(rt.alloc()).expect(&rt, "no candidate");
-    assert!(rt; one == other && !(one < other));
 }
 
 #[test]
@@ -55,20 +52,31 @@ fn a_prefix_goes_before_the_value(rt: HostRuntime) {
     assert!(rt; with_prefix.is_hide_set());
 }
 
-#[test]
-fn debug_shows_every_field(rt: HostRuntime) {
-    let candidate = plain(rt.alloc()).expect(&rt, "no candidate");
-    let candidate = candidate.tag(some(rt.alloc(), "t").expect(&rt, "no tag"));
-    let wanted = "CompletionCandidate { value: \"a\", help: None, id: None, tag: Some(\"t\"), \
-        display_order: None, hidden: false }";
-    is(&rt, format!(in rt.alloc(); "{candidate:?}"), wanted);
+// Returns `auto` and `never`, which is hidden.
+fn kinds(alloc: Global) -> Result<Vec<PossibleValue>, AllocError> {
+    let mut kinds = Vec::new(alloc);
+    kinds.push(PossibleValue::new(String::from_str(alloc, "auto")?))?;
+    kinds.push(PossibleValue::new(String::from_str(alloc, "never")?).hide(true))?;
+    Ok(kinds)
 }
 
 #[test]
-fn debug_shows_numbers(rt: HostRuntime) {
-    let (value, list) = (ArgValueCompleter::new(7), ArgValueCandidates::new(1));
-    let text = format!(in rt.alloc(); "{value:?} {list:?} {:?}", SubcommandCandidates::new(0));
-    let wanted = "ArgValueCompleter { number: 7 } ArgValueCandidates { number: 1 } \
-        SubcommandCandidates { number: 0 }";
-    is(&rt, text, wanted);
+fn possible_values_are_candidates(rt: HostRuntime) {
+    let alloc = rt.alloc();
+    let all = kinds(alloc).expect(&rt, "no values");
+    are(&rt, possible_value_candidates(alloc, all), "auto never ");
+    let some = kinds(alloc).expect(&rt, "no values");
+    are(&rt, complete_possible_values(alloc, "n", some), "never ");
+}
+
+// zsh has marks of its own, and PowerShell shows the value instead of a help text with a tab.
+#[test]
+fn what_a_reply_may_hold_depends_on_the_shell(rt: HostRuntime) {
+    let help = some(rt.alloc(), "b\tc").expect(&rt, "no text");
+    let candidates = [plain(rt.alloc()).expect(&rt, "no candidate").help(help)];
+    assert!(rt; are_readable_values(&candidates, b'\n'));
+    assert!(rt; are_readable_zsh_items(&candidates, b'\n'));
+    assert!(rt; !are_readable_zsh_items(&candidates, b':'));
+    assert!(rt; are_readable_lines(&candidates));
+    assert!(rt; !are_readable_entries(&candidates));
 }

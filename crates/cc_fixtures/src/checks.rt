@@ -5,23 +5,18 @@ use std::fmt::Debug;
 use std::process::Abort;
 
 /// Fails unless the two values are equal.
-pub(crate) fn same<T: PartialEq + Debug + Drop>(rt: &impl Abort, shown: T, wanted: T) {
+pub fn same<T: PartialEq + Debug + Drop>(rt: &impl Abort, shown: T, wanted: T) {
     assert_eq!(rt; shown, wanted);
 }
 
 /// Fails unless the text was made and is `wanted`.
-pub(crate) fn is<E: Debug + Drop>(rt: &impl Abort, text: Result<String, E>, wanted: &str) {
+pub fn is<E: Debug + Drop>(rt: &impl Abort, text: Result<String, E>, wanted: &str) {
     let text = text.expect(rt, "no text");
     same(rt, text.as_str(), wanted);
 }
 
 /// Fails unless the text was made and contains `part`.
-pub(crate) fn has<E: Debug + Drop>(rt: &impl Abort, text: Result<String, E>, part: &str) {
+pub fn has<E: Debug + Drop>(rt: &impl Abort, text: Result<String, E>, part: &str) {
     let text = text.expect(rt, "no text");
     assert!(rt; text.as_str().contains(part), "{part:?} is not in {text}");
-}
-
-/// Fails unless the call returned `Ok(true)`.
-pub(crate) fn holds<E: Debug + Drop>(rt: &impl Abort, call: Result<bool, E>) {
-    assert!(rt; call.expect(rt, "the call failed"));
 }

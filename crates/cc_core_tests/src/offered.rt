@@ -1,0 +1,60 @@
+//! The candidates for a word, as one text.
+
+use cc_base::Error;
+use cc_candidates::{Completers, CompletionCandidate};
+use cc_command::Command;
+use cc_engine::complete;
+use cc_fixtures::checks::is;
+use cc_fixtures::words::to_strings;
+use cc_paths::MemoryFolder;
+use std::alloc::{AllocError, Global};
+use std::fmt::Debug;
+use std::process::Abort;
+
+/// Fails unless the command offers these values for the last of the words, each with a space after
+/// it. Hints lead to no files.
+pub(crate) fn offers<R: Abort + AllocGlobal>(
+    rt: &R,
+    command: Result<Command, Error>,
+    completers: Result<Completers, Error>,
+    words: &[&str],
+    wanted: &str,
+) {
+    let alloc = rt.alloc();
+    let mut command = command.expect(rt, "no command");
+    let completers = completers.expect(rt, "no completers");
+    let index = words.len().saturating_sub(1);
+    let words = to_strings(alloc, words).expect(rt, "no words");
+    let folder = MemoryFolder::new(&[], &[]);
+    let found = complete(
+        alloc,
+        &mut command,
+        words,
+        index,
+        None,
+        &folder,
+        &completers,
+    );
+    drop(command);
+    drop(completers);
+    are(rt, found, wanted);
+}
+
+/// Fails unless these values were found, each with a space after it.
+pub(crate) fn are<R: Abort + AllocGlobal, E: Debug + Drop>(
+    rt: &R,
+    found: Result<Vec<CompletionCandidate>, E>,
+    wanted: &str,
+) {
+    let found = found.expect(rt, "no candidates");
+    is(rt, values(rt.alloc(), found.as_slice()), wanted);
+}
+
+fn values(alloc: Global, found: &[CompletionCandidate]) -> Result<String, AllocError> {
+    let mut text = String::new(alloc);
+    for candidate in found {
+        text.push_str(candidate.get_value())?;
+        text.push(' ')?;
+    }
+    Ok(text)
+}

@@ -1,4 +1,0 @@
-//! Tests of paths as candidates.
-
-mod completers;
-mod folders;
