@@ -19,28 +19,34 @@ use clap_complete::engine::{Completers, MemoryFolder, Sources};
 use clap_complete::env::{self, Builtin, SafeShell};
 use std::alloc::Global;
 use std::process::Abort;
+use std::str;
 
-// Fails unless both calls write their script of a command for a program with a plain name, and
-// nothing for one with another name.
+// Fails unless both calls return `is_plain` for a program of this name, and if it is `true` write
+// their scripts, and else nothing.
 fn writes_if_plain<R: Abort + AllocGlobal>(rt: &R, name: &str, is_plain: bool) {
-    let mut sinks = (Collected::new(rt.alloc()), Collected::new(rt.alloc()));
+    let (mut elvish, mut bash) = (Collected::new(rt.alloc()), Collected::new(rt.alloc()));
     let mut command = tree(rt, NESTED);
     let bin_name = String::from_str(rt.alloc(), name).expect(rt, "no name");
-    let elvish = write_if_plain(rt.alloc(), &mut command, bin_name, &mut sinks.0);
+    let done = write_if_plain(rt.alloc(), &mut command, bin_name, &mut elvish);
+    same(rt, done.expect(rt, "not called"), is_plain);
     let bin_name = String::from_str(rt.alloc(), name).expect(rt, "no name");
-    let bash = write_bash_if_quiet(rt.alloc(), &mut command, bin_name, &mut sinks.1);
+    let done = write_bash_if_quiet(rt.alloc(), &mut command, bin_name, &mut bash);
+    same(rt, done.expect(rt, "not called"), is_plain);
     drop(command);
-    assert!(rt;
-        matches!((elvish, bash), (Ok(one), Ok(other)) if one == is_plain && other == is_plain)
-    );
-    if is_plain {
-        let elvish = script(rt, Elvish, NESTED).expect(rt, "no script");
-        same(rt, sinks.0.as_slice(), elvish.as_bytes());
-        let bash = script(rt, Bash, NESTED).expect(rt, "no script");
-        same(rt, sinks.1.as_slice(), bash.as_bytes());
-    } else {
-        assert!(rt; sinks.0.as_slice().is_empty() && sinks.1.as_slice().is_empty());
+    if !is_plain {
+        assert!(rt; elvish.as_slice().is_empty() && bash.as_slice().is_empty());
+        return;
     }
+    is(
+        rt,
+        script(rt, Elvish, NESTED),
+        str::from_utf8(elvish.as_slice()).unwrap_or(""),
+    );
+    is(
+        rt,
+        script(rt, Bash, NESTED),
+        str::from_utf8(bash.as_slice()).unwrap_or(""),
+    );
 }
 
 #[test]

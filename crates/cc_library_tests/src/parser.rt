@@ -103,7 +103,8 @@ fn both<R: Abort + AllocGlobal>(
     let (found, parser, built) = called.expect(rt, "no candidates");
     let offered = values(alloc, found.as_slice()).expect(rt, "no text");
     let taken = taken(alloc, parser.try_get_matches_from(line)).expect(rt, "no text");
-    format!(in alloc; "{}:{offered}: {taken}", built.get_name())
+    let name = built.get_name();
+    format!(in alloc; "{name}:{offered}: {taken}")
 }
 
 // Fails unless `both` returns this text.
@@ -167,11 +168,8 @@ fn reached<R: Abort + AllocGlobal>(
     let (found, parser, reached) = called.expect(rt, "no candidates");
     let offered = values(alloc, found.as_slice()).expect(rt, "no text");
     let dry_run = is_dry_run(parser.try_get_matches_from(line));
-    format!(in alloc;
-        "{} {}:{offered}: {dry_run}",
-        reached.get_name(),
-        fits_parser(reached)
-    )
+    let (name, fits) = (reached.get_name(), fits_parser(reached));
+    format!(in alloc; "{name} {fits}:{offered}: {dry_run}")
 }
 
 fn is_dry_run(matches: Result<ArgMatches<'_>, clap::Error>) -> bool {
