@@ -4,7 +4,7 @@ use cc_base::Collected;
 use cc_candidates::Completers;
 use cc_env::CompleteEnv;
 use cc_fixtures::checks::is;
-use cc_fixtures::trees::{TESTED, read};
+use cc_fixtures::trees::{NESTED, read};
 use cc_fixtures::words::{environment, to_strings};
 use cc_paths::MemoryFolder;
 use std::alloc::Global;
@@ -21,7 +21,7 @@ fn a_registration_with_names_of_its_own(rt: HostRuntime) {
     let completer = String::from_str(alloc, "/p/dyn\\amic/foo").expect(&rt, "no text");
     let words = to_strings(alloc, &["app"]).expect(&rt, "no words");
     let env = environment(alloc, &[("V", "fish")]).expect(&rt, "no environment");
-    let program = CompleteEnv::with_factory(|alloc: Global| read(alloc, TESTED))
+    let program = CompleteEnv::with_factory(|alloc: Global| read(alloc, NESTED))
         .var("V")
         .bin(bin)
         .completer(completer);

@@ -17,9 +17,6 @@ pub const APP: &str = r#"{"name": "app", "args": [
     {"id": "verbose", "short": "v", "long": "verbose", "help": "Be loud", "action": "SetTrue"},
     {"id": "out", "long": "out", "action": "Set"}]}"#;
 
-/// A tree file: `app` with a positional whose id contains a quote.
-pub const QUOTED: &str = r#"{"name": "app", "disable_help_flag": true, "args": [{"id": "it's"}]}"#;
-
 /// A tree file: `app` with a child `run`, which is also shown as `r` and has a child `job`. Nothing
 /// is generated.
 pub const NESTED: &str = r#"{"name": "app", "disable_help_flag": true,
@@ -28,27 +25,9 @@ pub const NESTED: &str = r#"{"name": "app", "disable_help_flag": true,
             "visible_aliases": ["r"], "subcommands": [
                 {"name": "job", "disable_help_flag": true, "disable_help_subcommand": true}]}]}"#;
 
-/// A tree file: `app` with a child `test` that is also shown as `t`.
-pub const TESTED: &str = r#"{"name": "app", "subcommands": [
-    {"name": "test", "visible_aliases": ["t"]}]}"#;
-
-/// A tree file: `my-app` with a child `test`. `build` adds all that it can.
-pub const HELPED: &str = r#"{"name": "my-app", "subcommands": [{"name": "test"}]}"#;
-
 /// A tree file: `p` with the children `a-b` and `a`, which has a child `b`.
 pub const CLASHING: &str = r#"{"name": "p", "subcommands": [
     {"name": "a-b"}, {"name": "a", "subcommands": [{"name": "b"}]}]}"#;
-
-/// A tree file: `app` with an option `-c`, `--color`, whose values are `auto` and the hidden
-/// `never`, and a child `run`.
-pub const COLORED: &str = r#"{"name": "app", "args": [
-    {"id": "color", "short": "c", "long": "color", "help": "Colour", "value_names": ["WHEN"],
-        "possible_values": [{"name": "auto"}, {"name": "never", "hide": true}]}],
-    "subcommands": [{"name": "run"}]}"#;
-
-/// A tree file: `app` with a positional that is the path of a file, and without a flag.
-pub const FILE: &str = r#"{"name": "app", "disable_help_flag": true, "args": [
-    {"id": "file", "value_hint": "FilePath"}]}"#;
 
 /// Reads the command in the tree file `text`.
 ///
