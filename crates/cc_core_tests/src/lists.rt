@@ -51,18 +51,18 @@ fn push_flags(line: &mut String, alloc: Global, command: &Command) -> Result<(),
 fn below(alloc: Global, command: &Command) -> Result<String, Error> {
     let mut lines = String::new(alloc);
     if command.is_built() {
-        push_lines(&mut lines, utils::subcommands(alloc, command))?;
-        push_lines(&mut lines, utils::all_subcommands(alloc, command))?;
+        push_lines(&mut lines, utils::subcommands(alloc, command)?.as_slice())?;
+        push_lines(
+            &mut lines,
+            utils::all_subcommands(alloc, command)?.as_slice(),
+        )?;
     }
     Ok(lines)
 }
 
 // Adds a line for each name with its full name.
-fn push_lines(
-    lines: &mut String,
-    names: Result<Vec<(String, String)>, Error>,
-) -> Result<(), Error> {
-    for (name, full_name) in names? {
+fn push_lines(lines: &mut String, names: &[(String, String)]) -> Result<(), Error> {
+    for (name, full_name) in names {
         writeln!(lines, "{name}: {full_name}")?;
     }
     Ok(())

@@ -24,8 +24,8 @@ fn characters(alloc: Global) -> Result<String, AllocError> {
 // Returns the tree file of `app` with an option `--o`, whose value `v` has this help text.
 fn tree_file(alloc: Global, text: &str) -> Result<String, AllocError> {
     let mut help = String::new(alloc);
-    for byte in text.bytes() {
-        write!(help, "\\u{byte:04x}")?;
+    for byte in text.as_bytes() {
+        write!(help, "\\u{:04x}", *byte)?;
     }
     format!(in alloc;
         r#"{{"name": "app", "disable_help_flag": true, "args": [{{"id": "o", "long": "o",
@@ -46,10 +46,15 @@ fn script<R: Abort + AllocGlobal>(rt: &R, text: &str) -> Result<String, AllocErr
 
 // Returns the help text of the value in the line of the option, as zsh reads it.
 fn value_help(alloc: Global, script: &str) -> Result<Option<String>, Error> {
-    let mut lines = script.lines();
-    let Some(line) = lines.find(|line| line.starts_with("'--o")) else {
-        return Ok(None);
-    };
+    for line in script.lines() {
+        if line.starts_with("'--o") {
+            return help_in(alloc, line);
+        }
+    }
+    Ok(None)
+}
+
+fn help_in(alloc: Global, line: &str) -> Result<Option<String>, Error> {
     let Some((read, _)) = posix_word(alloc, line)? else {
         return Ok(None);
     };
