@@ -1,4 +1,3 @@
-pub mod Names
 pub mod Numbering
 pub mod Numbers
 pub mod Positions

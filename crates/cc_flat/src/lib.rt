@@ -9,13 +9,11 @@
 //!     .subcommand(Command::new(alloc, String::from_str(alloc, "run")?))?;
 //! let flat = Flat::new(alloc, &app)?;
 //! assert!(rt; flat.len() == 2);
-//! assert!(rt; flat.find_child(0, "run") == Some(1));
 //! assert!(rt; flat.parent(1) == Some(0));
 //! ```
 #![tactic(auto)]
 
 mod flat;
-mod lookup;
 mod preorder;
 
 pub use crate::flat::Flat;
