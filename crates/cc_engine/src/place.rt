@@ -23,7 +23,10 @@ pub(crate) fn place_at<'a>(command: &'a Command, words: &'a [String], index: usi
     ensures { IsPlace command.now (map string_bytes words.now) index result.command.now
         result.state result.word.now }
 {
-    let Walked { command: node, state } = walk(command, words_before(command, words, index));
+    let Walked {
+        command: node,
+        state,
+    } = walk(command, words_before(command, words, index));
     Place {
         command: node,
         state,

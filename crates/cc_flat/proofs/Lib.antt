@@ -1,5 +1,0 @@
-pub mod Numbering
-pub mod Numbers
-pub mod Positions
-mod PreorderExamples
-pub mod Trees
