@@ -115,7 +115,8 @@ fn push_child(
     };
     push_name(found, alloc, &names, child.get_name(), word)?;
     push_names(found, alloc, &names, child.get_visible_aliases(), word)?;
-    push_names(found, alloc, &aliases, child.get_aliases(), word)
+    push_names(found, alloc, &aliases, child.get_aliases(), word)?;
+    Ok(())
 }
 
 // What the candidates for some names of a child have in common.
