@@ -9,34 +9,35 @@ use cc_replies::{
     are_readable_entries, are_readable_lines, are_readable_values, are_readable_zsh_items,
 };
 use std::alloc::{AllocError, Global};
+use std::process::Abort;
 
-fn plain(alloc: Global) -> Result<CompletionCandidate, AllocError> {
-    Ok(CompletionCandidate::from(String::from_str(alloc, "a")?))
+// Returns a text. `expect` in place of `?` leaves nothing to drop, which is cheaper to prove.
+fn text<R: Abort + AllocGlobal>(rt: &R, text: &str) -> String {
+    String::from_str(rt.alloc(), text).expect(rt, "no text")
 }
 
-fn some(alloc: Global, text: &str) -> Result<Option<String>, AllocError> {
-    Ok(Some(String::from_str(alloc, text)?))
+fn plain<R: Abort + AllocGlobal>(rt: &R) -> CompletionCandidate {
+    CompletionCandidate::from(text(rt, "a"))
 }
 
 // Returns candidates in order, all after the plain one. Each differs from the plain one in one
 // field. The value counts first, then the help text, the id, the tag, the display order, and
 // whether the candidate is hidden.
-fn with_rising_orders(alloc: Global) -> Result<Vec<CompletionCandidate>, AllocError> {
-    let mut rising = Vec::new(alloc);
-    rising.push(plain(alloc)?.hide(true))?;
-    rising.push(plain(alloc)?.display_order(Some(0)))?;
-    rising.push(plain(alloc)?.tag(some(alloc, "t")?))?;
-    rising.push(plain(alloc)?.id(some(alloc, "i")?))?;
-    rising.push(plain(alloc)?.help(some(alloc, "h")?))?;
-    rising.push(CompletionCandidate::new(String::from_str(alloc, "b")?))?;
-    Ok(rising)
+fn rising<R: Abort + AllocGlobal>(rt: &R) -> [CompletionCandidate; 6] {
+    [
+        plain(rt).hide(true),
+        plain(rt).display_order(Some(0)),
+        plain(rt).tag(Some(text(rt, "t"))),
+        plain(rt).id(Some(text(rt, "i"))),
+        plain(rt).help(Some(text(rt, "h"))),
+        CompletionCandidate::new(text(rt, "b")),
+    ]
 }
 
 #[test]
 fn each_field_counts_in_turn(rt: HostRuntime) {
-    let rising = with_rising_orders(rt.alloc()).expect(&rt, "no candidates");
-    let mut last = plain(rt.alloc()).expect(&rt, "no candidate");
-    for candidate in rising {
+    let mut last = plain(&rt);
+    for candidate in rising(&rt) {
         assert!(rt; last < candidate && last != candidate && candidate == candidate);
         last = candidate;
     }
@@ -44,10 +45,8 @@ fn each_field_counts_in_turn(rt: HostRuntime) {
 
 #[test]
 fn a_prefix_goes_before_the_value(rt: HostRuntime) {
-    let candidate = plain(rt.alloc()).expect(&rt, "no candidate").hide(true);
-    let with_prefix = candidate
-        .add_prefix(rt.alloc(), "--o=")
-        .expect(&rt, "no candidate");
+    let with_prefix = plain(&rt).hide(true).add_prefix(rt.alloc(), "--o=");
+    let with_prefix = with_prefix.expect(&rt, "no candidate");
     same(&rt, with_prefix.get_value(), "--o=a");
     assert!(rt; with_prefix.is_hide_set());
 }
@@ -72,8 +71,7 @@ fn possible_values_are_candidates(rt: HostRuntime) {
 // zsh has marks of its own, and PowerShell shows the value instead of a help text with a tab.
 #[test]
 fn what_a_reply_may_hold_depends_on_the_shell(rt: HostRuntime) {
-    let help = some(rt.alloc(), "b\tc").expect(&rt, "no text");
-    let candidates = [plain(rt.alloc()).expect(&rt, "no candidate").help(help)];
+    let candidates = [plain(&rt).help(Some(text(&rt, "b\tc")))];
     assert!(rt; are_readable_values(&candidates, b'\n'));
     assert!(rt; are_readable_zsh_items(&candidates, b'\n'));
     assert!(rt; !are_readable_zsh_items(&candidates, b':'));

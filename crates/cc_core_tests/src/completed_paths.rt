@@ -47,13 +47,19 @@ fn other() -> MemoryFolder {
     )
 }
 
-// The completers of the files in `/w` and of the paths in `/o` whose names begin with `foo`.
-fn path_completers(alloc: Global) -> Result<Completers, Error> {
+// The completer of the files in `/w`.
+fn file_completer(alloc: Global) -> Result<Completers, Error> {
     let files = PathCompleter::file(work()).current_dir(String::from_str(alloc, "/w")?);
-    let own = PathCompleter::with_test(other(), BeginsWithFoo);
-    let own = own.current_dir(String::from_str(alloc, "/o")?);
     let mut completers = Completers::none(alloc);
     completers.add_completer(Box::new(alloc, files)?)?;
+    Ok(completers)
+}
+
+// It and the completer of the paths in `/o` whose names begin with `foo`.
+fn path_completers(alloc: Global) -> Result<Completers, Error> {
+    let mut completers = file_completer(alloc)?;
+    let own = PathCompleter::with_test(other(), BeginsWithFoo);
+    let own = own.current_dir(String::from_str(alloc, "/o")?);
     completers.add_completer(Box::new(alloc, own)?)?;
     Ok(completers)
 }
