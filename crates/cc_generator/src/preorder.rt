@@ -1,6 +1,6 @@
 //! Visits the nodes of a tree in preorder.
 
-ghost use Rattle.std.specs.Prelude.{◌≡◌};
+ghost use Rattle.std.specs.Prelude.{◌≡◌, ◌<◌, Some, length};
 ghost use Rattle.cc_generator.specs.Flat.{tree_at};
 ghost use Rattle.cc_generator.specs.Positions.{BeginsAt, IsAt, later_nodes, nodes_after};
 ghost use Rattle.cc_generator.specs.Preorder.{preorder};
@@ -40,6 +40,7 @@ impl<'a> Flat<'a> {
     /// Returns an iterator over the nodes below the root, siblings in their order: each node comes
     /// with its level, before everything below it.
     pub fn preorder<'f>(&'f self) -> Preorder<'f, 'a>
+        requires { 0 < length self.now }
         ensures { nodes_left result ≡ preorder 2 (tree_at self.now 0).children }
     {
         Preorder {
