@@ -101,10 +101,13 @@ fn push_taken_indexes(found: &mut Found, arguments: &[Arg]) -> Added
         (all_names named.Index arguments.now)) }
 {
     let alloc = found.allocator();
-    let mut counted = Vec::new(alloc);
-    push_counted(&mut counted, alloc, arguments)?;
     let mut given = Vec::new(alloc);
     push_all_names(&mut given, alloc, Named::Index, arguments)?;
+    if given.is_empty() {
+        return Ok(());
+    }
+    let mut counted = Vec::new(alloc);
+    push_counted(&mut counted, alloc, arguments)?;
     push_taken(found, Named::Index, &counted, &given)
 }
 
