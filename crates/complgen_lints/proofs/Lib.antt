@@ -1,6 +1,6 @@
 pub mod AddedFlags
-pub mod Joined
 pub mod Inherited
+pub mod Left
 pub mod PremisesFound
 pub mod Steps
 pub mod Taken

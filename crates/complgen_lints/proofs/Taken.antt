@@ -1,8 +1,6 @@
 -- The steps of a loop over names that looks for those that are already taken.
-use Rattle.std.proofs.Common.{◌≡◌, ◌∙◌, ap, ap₂, sym, ℕ, ◌+◌, ◌<◌, List, [], ◌∷◌, ◌++◌, length, drop, take, get_or, cond, Option, Some, None}
-use Rattle.std.specs.Str.{bytes_eq}
+use Rattle.std.proofs.Common.{◌≡◌, ◌∙◌, ap, ap₂, sym, ℕ, ◌+◌, ◌<◌, List, [], ◌∷◌, ◌++◌, length, drop, take, get_or, Option}
 use Rattle.std.proofs.lemmas.List.{append_assoc, drop_more, take_more}
-use Rattle.std.proofs.lemmas.List.Sums.{fold_push}
 use Rattle.complgen_lints.specs.PlacedNames.{owner_with, taken_by, taken_from}
 use Rattle.complgen_lints.specs.declared.names.Named.{Named}
 use Rattle.complgen_lints.specs.declared.names.PlacedName.{PlacedName}
@@ -16,18 +14,6 @@ one_more others names index name within is =
     ap (λ list. others ++ list) (take_more names index name within)
     ∙ ap (λ one. others ++ (take index names ++ one ∷ [])) (sym is)
     ∙ sym (append_assoc others (take index names) (name ∷ []))
-
--- the owners of names, with one more name
-pub next_owner : (others names : List PlacedName) (index : ℕ) (name : PlacedName) (word : List ℕ) (before new : Option (List ℕ)) →
-    index < length names → name ≡ get_or names index name →
-    before ≡ owner_with (others ++ take index names) word →
-    new ≡ cond (bytes_eq name.name word) (Some name.owner) before →
-    new ≡ owner_with (others ++ take (index + 1) names) word
-next_owner others names index name word before new within is known kept =
-    kept
-    ∙ ap (λ owner. cond (bytes_eq name.name word) (Some name.owner) owner) known
-    ∙ sym (fold_push (λ found name. cond (bytes_eq name.name word) (Some name.owner) found) None (others ++ take index names) name)
-    ∙ ap (λ names. owner_with names word) (sym (one_more others names index name within is))
 
 -- the findings, with that about one more name
 pub next_taken : (named : Named) (found new whole : List Warning) (others names : List PlacedName) (index : ℕ) (name : PlacedName) (owner : Option (List ℕ)) →

@@ -1,7 +1,7 @@
-use Rattle.std.proofs.Common.{◌≡◌, ◌++◌, ◌∙◌, ap, ap₂, cond, take, Some, rules}
-use Rattle.std.specs.Str.{bytes_eq}
+use Rattle.std.proofs.Common.{◌≡◌, ◌++◌, ◌∙◌, ap, arith, rules, take}
+use Rattle.std.proofs.lemmas.Grind.{common_steps}
 use Rattle.complgen_lints.specs.PlacedNames.{owner_in, owner_with, taken_by}
-use Rattle.complgen_lints.proofs.Taken.{next_owner, next_taken}
+use Rattle.complgen_lints.proofs.Taken.{next_taken}
 use Rattle.complgen_lints.proofs.names.push_taken.Goals as goal
 
 pub loop-name-preserved : goal.loop-name-preserved
@@ -15,12 +15,7 @@ loop-name-preserved c =
     ∙ c.loop-name.invariant.kept name.name in
     let added : c.push_if_taken.new.found ≡ c.loop-name.found ++ taken_by c.args.named c.in_ok-owner.owner name = search rules in
     record {
-      kept = λ word. next_owner others names index name word
-          (owner_in c.loop-name.seen word) (owner_in c.keep.new.seen word)
-          c.loop-name-test.true c.name-item.is (c.loop-name.invariant.kept word)
-          (c.in_ok-owner.ensures.kept word
-          ∙ ap₂ (λ text owner. cond (bytes_eq text word) (Some owner) (owner_in c.loop-name.seen word))
-          c.as_str.ensures c.as_str-in-loop-name.ensures);
+      kept = λ word. grind (arith, common_steps, c.loop-name.invariant.kept word, c.in_ok-owner.ensures.kept word);
       whole = next_taken c.args.named c.loop-name.found c.push_if_taken.new.found _ others names index name
           c.in_ok-owner.owner c.loop-name-test.true c.name-item.is known added c.loop-name.invariant.whole;
     }
