@@ -1,8 +1,9 @@
 pub mod AddedFlags
-pub mod Joined
-pub mod Conflicts
+pub mod Inherited
+pub mod Left
 pub mod PremisesFound
 pub mod Steps
+pub mod Taken
 pub mod TextsFound
 pub mod ValueLintsExamples
 pub mod Walked

@@ -72,20 +72,6 @@ by_notes : (found : Option (List ℕ)) (name : PlacedName) → are_notes (taken_
 by_notes None name = refl
 by_notes (Some command) name = refl
 
--- none of some texts is among those before it
-abbrev fresh : List (List ℕ) → List (List ℕ) → Bool
-fresh before [] = true
-fresh before (text ∷ others) = not (contains_name before text) && fresh (before ++ text ∷ []) others
-
-taken_notes : (before names : List PlacedName) →
-    are_notes (taken_from Child before names) ≡ fresh (texts before) (texts names)
-taken_notes before [] = refl
-taken_notes before (name ∷ names) =
-    notes_append (taken_by Child (owner_with before name.name) name) (taken_from Child (before ++ name ∷ []) names)
-    ∙ ap₂ (λ a b. a && b) (by_notes (owner_with before name.name) name ∙ ap not (owner_some before name.name))
-    (taken_notes (before ++ name ∷ []) names
-    ∙ ap (λ before. fresh before (texts names)) (map-append (λ name. name.name) before (name ∷ [])))
-
 same_or_none : (same : Bool) (c : Bool) → (not (same || false) && not c) ≡ not (same || c)
 same_or_none true c = refl
 same_or_none false c = refl
@@ -103,13 +89,21 @@ one_more before text =
     all_differ_append before (text ∷ [])
     ∙ ap (λ b. all_differ before && b) (and-true (list_all (λ name. not (contains_name (text ∷ []) name)) before) ∙ none_is text before)
 
-fresh_differ : (before others : List (List ℕ)) → (all_differ before && fresh before others) ≡ all_differ (before ++ others)
-fresh_differ before [] = and-true (all_differ before) ∙ ap all_differ (sym (append-nil before))
-fresh_differ before (text ∷ others) =
-    sym (and_assoc (all_differ before) (not (contains_name before text)) (fresh (before ++ text ∷ []) others))
-    ∙ ap (λ b. b && fresh (before ++ text ∷ []) others) (sym (one_more before text))
-    ∙ fresh_differ (before ++ text ∷ []) others
-    ∙ ap all_differ (append_assoc before (text ∷ []) others)
+-- nothing is found about names exactly if they differ from each other and from those before
+taken_notes : (before names : List PlacedName) →
+    (all_differ (texts before) && are_notes (taken_from Child before names)) ≡ all_differ (texts (before ++ names))
+taken_notes before [] = and-true (all_differ (texts before)) ∙ ap (λ names. all_differ (texts names)) (sym (append-nil before))
+taken_notes before (name ∷ names) =
+    let differ = all_differ (texts before) in
+    let found = taken_by Child (owner_with before name.name) name in
+    let more = taken_from Child (before ++ name ∷ []) names in
+    ap (λ b. differ && b) (notes_append found more
+    ∙ ap (λ b. b && are_notes more) (by_notes (owner_with before name.name) name ∙ ap not (owner_some before name.name)))
+    ∙ sym (and_assoc differ (not (contains_name (texts before) name.name)) (are_notes more))
+    ∙ ap (λ b. b && are_notes more) (sym (one_more (texts before) name.name)
+    ∙ ap all_differ (sym (map-append (λ name. name.name) before (name ∷ []))))
+    ∙ taken_notes (before ++ name ∷ []) names
+    ∙ ap (λ names. all_differ (texts names)) (append_assoc before (name ∷ []) names)
 
 -- the texts of parts that are names of one owner
 part_texts : (index : ℕ) (owner : List ℕ) (parts others : List Part) →
@@ -139,9 +133,7 @@ forest_texts index (more node below rest) =
 pub siblings_notes : (children : Forest) → are_notes (taken_names children) ≡ siblings_differ children
 unfolding siblings_differ
 siblings_notes children =
-    taken_notes [] (names_from 0 children)
-    ∙ fresh_differ [] (texts (names_from 0 children))
-    ∙ ap all_differ (forest_texts 0 children)
+    taken_notes [] (names_from 0 children) ∙ ap all_differ (forest_texts 0 children)
 
 -- ---- no kind of a text or a short is a note
 

@@ -1,9 +1,7 @@
 -- Names of arguments or subcommands with their places, and names that are already taken.
 use Rattle.std.specs.Prelude.{ℕ, List, [], ◌∷◌, ◌++◌, fold, if◌then◌else◌, Option, Some, None}
 use Rattle.std.specs.Borrow.{Bor}
-use Rattle.std.specs.BTreeMap.{BTreeMap, get_by}
-use Rattle.std.specs.Cmp.Lexicographic.{slice_cmp}
-use Rattle.std.specs.Ordering.{nat_cmp}
+use Rattle.std.specs.HashMap.{HashMap, get_by}
 use Rattle.std.specs.Str.{bytes_eq}
 use Rattle.complgen_lints.specs.Findings.{finding}
 use Rattle.complgen_lints.specs.Parts.{content_text}
@@ -34,8 +32,8 @@ owner_with names word =
     fold (λ found name. if bytes_eq name.name word then Some name.owner else found) None names
 
 -- the owner of a name in a map
-abbrev pub owner_in : BTreeMap (Bor (List ℕ)) (List ℕ) → List ℕ → Option (List ℕ)
-owner_in seen word = get_by (λ other. slice_cmp nat_cmp word other.now) seen
+unfoldable pub owner_in : {S : Type 0} → HashMap (Bor (List ℕ)) (List ℕ) S → List ℕ → Option (List ℕ)
+owner_in seen word = get_by (λ other. bytes_eq word other.now) seen
 
 -- a name that an earlier argument or child has
 abbrev pub taken_kind : Named → List ℕ → List ℕ → Kind

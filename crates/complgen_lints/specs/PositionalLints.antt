@@ -25,10 +25,14 @@ count_positionals arguments = fold counted_with 0 arguments
 abbrev pub is_outside : ℕ → ℕ → Bool
 is_outside count index = (index == 0) || nat_lt count index
 
-abbrev pub outside_list : ℕ → ℕ → Bool → Option ℕ → List Warning
-outside_list count argument true (Some index) = when (is_outside count index)
+abbrev pub outside_index : ℕ → ℕ → Bool → Option ℕ → List Warning
+outside_index count argument true (Some index) = when (is_outside count index)
     (finding (Argument argument) key.Index None (IndexOutOfRange (decimal index) (decimal count)))
-outside_list count argument _ _ = []
+outside_index count argument _ _ = []
+
+abbrev pub outside_list : ℕ → ℕ → Arg → List Warning
+outside_list count index argument =
+    outside_index count index (is_positional argument) argument.index
 
 -- the counted index of a positional without a set one, as a name
 abbrev pub counted_index : ℕ → ℕ → Arg → List PlacedName
@@ -42,13 +46,7 @@ counted_from number index [] = []
 counted_from number index (argument ∷ arguments) = counted_index number index argument
     ++ counted_from (next_index number argument) (suc index) arguments
 
--- for arguments with this number of positionals: indexes that no positional can have, then indexes
--- that another one has
-abbrev pub counted_list : ℕ → List Arg → List Warning
-counted_list count arguments = each_from (λ index argument. outside_list count index
-    (is_positional argument) argument.index) 0 arguments
-    ++ taken_from named.Index (counted_from 1 0 arguments)
-    (all_names named.Index arguments)
-
-abbrev pub positional_list : List Arg → List Warning
-positional_list arguments = counted_list (count_positionals arguments) arguments
+-- indexes that no positional can have, then indexes that another one has
+unfoldable pub positional_list : List Arg → List Warning
+positional_list arguments = each_from (outside_list (count_positionals arguments)) 0 arguments
+    ++ taken_from named.Index (counted_from 1 0 arguments) (all_names named.Index arguments)

@@ -20,14 +20,10 @@ named (Some Help) = codes "help"
 named (Some PossibleValues) = codes "help of this value"
 named _ = codes "name"
 
--- the short of the flag `help` or `version` at the key `short`, or else its long
-abbrev pub help_name : Option Key → List ℕ
-help_name (Some Short) = codes "h"
-help_name _ = codes "help"
-
-abbrev pub version_name : Option Key → List ℕ
-version_name (Some Short) = codes "V"
-version_name _ = codes "version"
+-- the short of a flag at the key `short`, or else its long
+abbrev pub name_at : Option Key → List ℕ → List ℕ → List ℕ
+name_at (Some Short) short long = short
+name_at _ short long = long
 
 -- the text of a kind that has the same text for every command
 abbrev pub fixed_text : Kind → List ℕ
@@ -114,8 +110,10 @@ other_text key (TakenId id) = codes "an earlier argument has the id `" ++ id ++ 
 other_text key (TakenLong long id) = taken_text (codes "argument") id (codes "long") long
 other_text key (TakenShort short id) = taken_text (codes "argument") id (codes "short") short
 other_text key (TakenIndex index id) = taken_text (codes "argument") id (codes "index") index
-other_text key TakenByHelp = generated_text (named key) (help_name key) (codes "help")
-other_text key TakenByVersion = generated_text (named key) (version_name key) (codes "version")
+other_text key TakenByHelp =
+    generated_text (named key) (name_at key (codes "h") (codes "help")) (codes "help")
+other_text key TakenByVersion =
+    generated_text (named key) (name_at key (codes "V") (codes "version")) (codes "version")
 other_text key (UnknownConflict id) = codes "no argument here has the id `" ++ id ++ codes "`"
 other_text key (IndexOutOfRange index count) = outside_text index count
 other_text key (RunsCommand words) = codes "pressing Tab here runs" ++ words

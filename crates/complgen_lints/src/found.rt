@@ -67,7 +67,8 @@ impl Found {
         Ok(())
     }
 
-    /// Adds a warning about `key` if `wrong` is true.
+    /// Adds a warning about `key` if `wrong` is true. Inlined, so that nothing is made if it is not.
+    #[inline(always)]
     pub(crate) fn note_if(&mut self, wrong: bool, spot: Spot, key: Key, kind: Kind) -> Added
         ensures { OnOk result (self.new ≡ self.old ++ when wrong (finding spot key None kind)) }
     {

@@ -8,7 +8,6 @@ ghost use Rattle.complgen_lints.specs.ArgumentNames.{all_names, index_name, name
 ghost use Rattle.complgen_lints.specs.Parts.{content_text};
 ghost use Rattle.complgen_lints.specs.PlacedNames.{named_part, owner_in, owner_with, placed_name};
 ghost use Rattle.complgen_lints.specs.PlacedNames.{spot_of, taken_by, taken_from, taken_kind};
-ghost use Rattle.complgen_lints.specs.Lists.{each_from};
 
 use crate::found::{Added, Found, Spot};
 use crate::parts::{Content, Part, push_long_parts, push_short_parts, push_text};
@@ -17,7 +16,9 @@ use crate::warning::Kind;
 use cc_arg::Arg;
 use cc_base::{Text, TextRef};
 use std::alloc::{AllocError, Global};
-use std::collections::BTreeMap;
+use std::borrow::CowStr;
+use std::collections::HashMap;
+use std::marker::Model;
 
 /// A kind of name. No two arguments of a command may share one, nor may two subcommands.
 #[derive(Clone, Copy)]
@@ -29,6 +30,29 @@ pub(crate) enum Named {
     Child,
 }
 
+/// The text of a name: borrowed, or made from a short or an index. Clauses see only its bytes.
+#[derive(Drop)]
+pub(crate) struct Name<'a> {
+    text: CowStr<'a, Global>,
+}
+
+impl<'a> Model for Name<'a> {
+    ghost use Rattle.std.specs.Prelude.{ℕ, List};
+    ghost use Rattle.std.specs.Cow.{cow_str_bytes};
+
+    ghost Value = { List ℕ };
+
+    ghost view = { λ name. cow_str_bytes name.text };
+}
+
+impl<'a> Name<'a> {
+    fn as_str(&self) -> &str
+        ensures { result.now ≡ self.now }
+    {
+        self.text.as_str()
+    }
+}
+
 /// A name of an argument or subcommand, with its place and owner.
 #[derive(Drop)]
 pub(crate) struct PlacedName<'a> {
@@ -37,14 +61,16 @@ pub(crate) struct PlacedName<'a> {
     pub(crate) key: Key,
     /// The index of an item in the key's list, counted from 0.
     pub(crate) item: Option<usize>,
-    pub(crate) name: Text,
+    pub(crate) name: Name<'a>,
     /// The id of the argument, or the name of the subcommand, which is not an alias.
     pub(crate) owner: TextRef<'a>,
 }
 
-/// Adds the names of the kind `named` that `argument` has. Adds none for `Named::Child`.
+/// Adds the names of the kind `named` that `argument` has. Adds none for `Named::Child`. Uses the room
+/// of `parts`.
 pub(crate) fn push_names_of<'a>(
     names: &mut Vec<PlacedName<'a>>,
+    parts: &mut Vec<Part<'a>>,
     alloc: Global,
     named: Named,
     index: usize,
@@ -54,15 +80,15 @@ pub(crate) fn push_names_of<'a>(
         ≡ names.old.items ++ names_of named index argument.now) }
 {
     let id = argument.get_id();
-    let mut parts = Vec::new(alloc);
+    parts.clear();
     match named {
-        Named::Id => push_text(&mut parts, Key::Id, None, id)?,
-        Named::Long => push_long_parts(&mut parts, argument)?,
-        Named::Short => push_short_parts(&mut parts, argument)?,
+        Named::Id => push_text(parts, Key::Id, None, id)?,
+        Named::Long => push_long_parts(parts, argument)?,
+        Named::Short => push_short_parts(parts, argument)?,
         Named::Index => return push_some_index(names, alloc, index, argument),
         Named::Child => {}
     }
-    push_named_parts(names, alloc, index, id, &parts)
+    push_named_parts(names, alloc, index, id, parts)
 }
 
 /// Adds the names of the kind `named` that `arguments` have.
@@ -75,8 +101,9 @@ pub(crate) fn push_all_names<'a>(
     ensures { OnOk result (names.new.items
         ≡ names.old.items ++ all_names named arguments.now) }
 {
+    let mut parts = Vec::new(alloc);
     for (index, argument) in arguments.iter().enumerate() {
-        push_names_of(names, alloc, named, index, argument)?;
+        push_names_of(names, &mut parts, alloc, named, index, argument)?;
     }
     Ok(())
 }
@@ -87,29 +114,30 @@ pub(crate) fn push_named_parts<'a>(
     alloc: Global,
     index: usize,
     owner: &'a str,
-    parts: &[Part<'_>],
+    parts: &[Part<'a>],
 ) -> Added
     ensures { OnOk result (names.new.items
         ≡ names.old.items ++ map (named_part index owner.now) parts.now) }
 {
     for part in parts {
-        let name = text_of(alloc, &part.content)?;
+        let name = name_of(alloc, &part.content)?;
         push_name(names, index, part.key, part.item, name, owner)?;
     }
     Ok(())
 }
 
-fn text_of(alloc: Global, content: &Content<'_>) -> Result<Text, AllocError>
-    ensures { IfOk result (λ text. text ≡ content_text content.now) }
+fn name_of<'a>(alloc: Global, content: &Content<'a>) -> Result<Name<'a>, AllocError>
+    ensures { IfOk result (λ name. name ≡ content_text content.now) }
 {
-    match content {
-        Content::Text(text) => Text::copy_of(alloc, text.as_str()),
+    let text = match content {
+        Content::Text(text) => CowStr::Borrowed(text.as_str()),
         Content::Short(short) => {
             let mut text = String::new(alloc);
             text.push(*short)?;
-            Ok(Text::from(text))
+            CowStr::Owned(text)
         }
-    }
+    };
+    Ok(Name { text })
 }
 
 fn push_name<'a>(
@@ -117,11 +145,11 @@ fn push_name<'a>(
     index: usize,
     key: Key,
     item: Option<usize>,
-    name: Text,
+    name: Name<'a>,
     owner: &'a str,
 ) -> Added
     ensures { OnOk result (names.new.items
-        ≡ names.old.items ++ placed_name index key item name owner.now ∷ []) }
+        ≡ names.old.items ++ placed_name index key item name.entry owner.now ∷ []) }
 {
     let owner = TextRef::new(owner);
     names.push(PlacedName {
@@ -164,14 +192,8 @@ pub(crate) fn push_index<'a>(
     ensures { OnOk result (names.new.items
         ≡ names.old.items ++ index_name argument index id.now ∷ []) }
 {
-    push_name(
-        names,
-        argument,
-        Key::Index,
-        None,
-        number_text(alloc, index)?,
-        id,
-    )
+    let text = CowStr::Owned(number_text(alloc, index)?.into_string());
+    push_name(names, argument, Key::Index, None, Name { text }, id)
 }
 
 /// Returns `number` in decimal digits.
@@ -181,8 +203,7 @@ pub(crate) fn number_text(alloc: Global, number: usize) -> Result<Text, AllocErr
     Ok(Text::from(format!(in alloc; "{number}")?))
 }
 
-/// Adds a finding for each of `names` that equals an earlier one of them, or one of `others`. Looks
-/// names up in a `BTreeMap`, so that n names take n log n steps.
+/// Adds a finding for each of `names` that equals an earlier one of them, or one of `others`.
 pub(crate) fn push_taken(
     found: &mut Found,
     named: Named,
@@ -199,15 +220,16 @@ pub(crate) fn push_taken(
     Ok(())
 }
 
-/// Returns a map from each name to its last owner in `names`.
-pub(crate) fn seen_of<'a>(
+// Returns a map from each name to its last owner in `names`.
+#[tactic(auto, unfolding(crate::specs::PlacedNames::owner_in))]
+fn seen_of<'a>(
     alloc: Global,
     names: &'a [PlacedName<'_>],
-) -> Result<BTreeMap<&'a str, TextRef<'a>>, AllocError>
+) -> Result<HashMap<&'a str, TextRef<'a>>, AllocError>
     ensures { IfOk result (λ seen. (word : List ℕ)
         → owner_in seen word ≡ owner_with names.now word) }
 {
-    let mut seen = BTreeMap::new(alloc);
+    let mut seen = HashMap::new(alloc);
     for name in names {
         keep(&mut seen, name.name.as_str(), name.owner.as_str())?;
     }
@@ -215,8 +237,9 @@ pub(crate) fn seen_of<'a>(
 }
 
 // Makes `owner` the owner of `name` in `seen`, and returns its previous owner.
+#[tactic(auto, unfolding(crate::specs::PlacedNames::owner_in))]
 fn keep<'a>(
-    seen: &mut BTreeMap<&'a str, TextRef<'a>>,
+    seen: &mut HashMap<&'a str, TextRef<'a>>,
     name: &'a str,
     owner: &'a str,
 ) -> Result<Option<TextRef<'a>>, AllocError>

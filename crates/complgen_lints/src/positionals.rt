@@ -1,7 +1,6 @@
 //! Finds indexes of positionals that are out of range or taken.
 
 ghost use Rattle.std.specs.Prelude.{◌≡◌, ◌<◌, ◌-◌, ◌^◌, ◌++◌, IfOk, OnOk, decimal};
-ghost use Rattle.cc_arg.specs.Arguments.{is_positional};
 ghost use Rattle.cc_command.specs.Built.{next_index};
 ghost use Rattle.complgen_lints.specs.ArgumentNames.{all_names};
 ghost use Rattle.complgen_lints.specs.PlacedNames.{taken_from};
@@ -21,6 +20,7 @@ use std::alloc::{AllocError, Global};
 
 /// Adds findings about the indexes of the positionals among `arguments`: first those out of range,
 /// then those that another positional has.
+#[tactic(auto, unfolding(crate::specs::PositionalLints::positional_list))]
 pub(crate) fn push_positionals(found: &mut Found, arguments: &[Arg]) -> Added
     ensures { OnOk result (found.new ≡ found.old ++ positional_list arguments.now) }
 {
@@ -53,8 +53,7 @@ fn counted_with(count: usize, argument: &Arg) -> usize
 // Adds a finding for each index that is 0, or greater than `count`, the number of positionals.
 fn push_outside(found: &mut Found, count: usize, arguments: &[Arg]) -> Added
     ensures { OnOk result (found.new ≡ found.old
-        ++ each_from (λ index argument. outside_list count index (is_positional argument)
-        argument.index) 0 arguments.now) }
+        ++ each_from (outside_list count) 0 arguments.now) }
 {
     for (index, argument) in arguments.iter().enumerate() {
         push_if_outside(found, count, index, argument)?;
@@ -64,7 +63,7 @@ fn push_outside(found: &mut Found, count: usize, arguments: &[Arg]) -> Added
 
 fn push_if_outside(found: &mut Found, count: usize, argument_index: usize, argument: &Arg) -> Added
     ensures { OnOk result (found.new ≡ found.old
-        ++ outside_list count argument_index (is_positional argument.now) argument.now.index) }
+        ++ outside_list count argument_index argument.now) }
 {
     if !argument.is_positional() {
         return Ok(());
@@ -101,10 +100,13 @@ fn push_taken_indexes(found: &mut Found, arguments: &[Arg]) -> Added
         (all_names named.Index arguments.now)) }
 {
     let alloc = found.allocator();
-    let mut counted = Vec::new(alloc);
-    push_counted(&mut counted, alloc, arguments)?;
     let mut given = Vec::new(alloc);
     push_all_names(&mut given, alloc, Named::Index, arguments)?;
+    if given.is_empty() {
+        return Ok(());
+    }
+    let mut counted = Vec::new(alloc);
+    push_counted(&mut counted, alloc, arguments)?;
     push_taken(found, Named::Index, &counted, &given)
 }
 

@@ -1,30 +1,33 @@
 //! Finds names that two arguments of a command have, also if it inherits one of them, and conflicts
 //! with ids that no argument has.
 
-ghost use Rattle.std.specs.Prelude.{◌≡◌, ◌++◌, IfOk, OnOk, map};
+ghost use Rattle.std.specs.Prelude.{◌≡◌, ◌++◌, IfOk, OnOk, bytes_eq, map};
+ghost use Rattle.std.specs.List.{list_any};
 ghost use Rattle.complgen_lints.specs.ArgumentNames.{all_names, taken_of};
-ghost use Rattle.complgen_lints.specs.Scopes.{all_conflicts, conflict_kind, conflict_list};
-ghost use Rattle.complgen_lints.specs.Scopes.{conflicts_of, has_conflicts, have_conflicts};
-ghost use Rattle.complgen_lints.specs.Scopes.{inherited_with, is_known_in, passed_on};
-ghost use Rattle.complgen_lints.specs.Scopes.{together_list};
-ghost use Rattle.complgen_lints.specs.Lists.{each_from};
+ghost use Rattle.cc_command.specs.Names.{has_id};
+ghost use Rattle.complgen_lints.specs.Scopes.{all_conflicts, conflict_list, conflicts_of};
+ghost use Rattle.complgen_lints.specs.Scopes.{inherited_with, is_known, passed_on, together_list};
 
 use crate::found::{Added, Found, Spot};
-use crate::names::{Named, PlacedName, push_all_names, push_names_of, push_taken, seen_of};
+use crate::names::{Named, PlacedName, push_all_names, push_names_of, push_taken};
 use crate::place::Key;
 use crate::warning::Kind;
 use cc_arg::{Arg, conflicting_ids};
-use cc_base::{Text, TextRef};
+use cc_base::Text;
 use cc_command::{Command, has_id};
 use std::alloc::{AllocError, Global};
-use std::collections::BTreeMap;
 
-/// Adds warnings about the arguments of `command` together with those that it inherits.
+/// Adds warnings about the arguments of `command` together with those that it inherits: about taken
+/// ids, then longs, then shorts, and then about unknown conflicts.
 pub(crate) fn push_scope(found: &mut Found, inherited: &[&Arg], command: &Command) -> Added
     ensures { OnOk result (found.new ≡ found.old ++ together_list
         (map (λ other. other.now) inherited.now) command.now.node.arguments) }
 {
-    push_together(found, inherited, command.get_arguments())
+    let arguments = command.get_arguments();
+    push_taken_of(found, Named::Id, &[], arguments)?;
+    push_taken_of(found, Named::Long, inherited, arguments)?;
+    push_taken_of(found, Named::Short, inherited, arguments)?;
+    push_conflicts(found, inherited, arguments)
 }
 
 /// Returns `others` without those whose id one of `arguments` has.
@@ -60,17 +63,6 @@ pub(crate) fn push_globals<'a>(inherited: &mut Vec<&'a Arg>, arguments: &'a [Arg
     Ok(())
 }
 
-// Adds findings about taken ids, then longs, then shorts, and then about unknown conflicts.
-fn push_together(found: &mut Found, inherited: &[&Arg], arguments: &[Arg]) -> Added
-    ensures { OnOk result (found.new ≡ found.old
-        ++ together_list (map (λ other. other.now) inherited.now) arguments.now) }
-{
-    push_taken_of(found, Named::Id, &[], arguments)?;
-    push_taken_of(found, Named::Long, inherited, arguments)?;
-    push_taken_of(found, Named::Short, inherited, arguments)?;
-    push_conflicts_if_any(found, inherited, arguments)
-}
-
 fn push_taken_of(found: &mut Found, named: Named, inherited: &[&Arg], arguments: &[Arg]) -> Added
     ensures { OnOk result (found.new ≡ found.old
         ++ taken_of named (map (λ other. other.now) inherited.now) arguments.now) }
@@ -92,106 +84,69 @@ fn push_inherited_names<'a>(
     ensures { OnOk result (names.new.items ≡ names.old.items
         ++ all_names named (map (λ other. other.now) inherited.now)) }
 {
+    let mut parts = Vec::new(alloc);
     for (index, argument) in inherited.iter().enumerate() {
-        push_names_of(names, alloc, named, index, argument)?;
+        push_names_of(names, &mut parts, alloc, named, index, argument)?;
     }
     Ok(())
 }
 
-// Adds findings about unknown conflicts. Collects ids only if an argument has conflicts.
-fn push_conflicts_if_any(found: &mut Found, inherited: &[&Arg], arguments: &[Arg]) -> Added
+// Adds a finding for each conflict with an id that no argument has.
+fn push_conflicts(found: &mut Found, inherited: &[&Arg], arguments: &[Arg]) -> Added
     ensures { OnOk result (found.new ≡ found.old
         ++ all_conflicts (map (λ other. other.now) inherited.now) arguments.now) }
-{
-    if !have_conflicts(arguments) {
-        return Ok(());
-    }
-    push_all_conflicts(found, inherited, arguments)
-}
-
-fn have_conflicts(arguments: &[Arg]) -> bool
-    ensures { result ≡ have_conflicts arguments.now }
-{
-    arguments.iter().any(has_conflicts)
-}
-
-fn has_conflicts(argument: &Arg) -> bool
-    ensures { result ≡ has_conflicts argument.now.conflicts }
-{
-    !conflicting_ids(argument).is_empty()
-}
-
-fn push_all_conflicts(found: &mut Found, inherited: &[&Arg], arguments: &[Arg]) -> Added
-    ensures { OnOk result (found.new ≡ found.old
-        ++ all_conflicts (map (λ other. other.now) inherited.now) arguments.now) }
-{
-    let alloc = found.allocator();
-    let mut names = Vec::new(alloc);
-    push_inherited_names(&mut names, alloc, Named::Id, inherited)?;
-    push_all_names(&mut names, alloc, Named::Id, arguments)?;
-    let seen = seen_of(alloc, &names)?;
-    push_conflicts(found, &seen, arguments)
-}
-
-fn push_conflicts(found: &mut Found, seen: &BTreeMap<&str, TextRef<'_>>, arguments: &[Arg]) -> Added
-    ensures { OnOk result (found.new ≡ found.old
-        ++ each_from (conflicts_of (is_known_in seen.now)) 0 arguments.now) }
 {
     for (index, argument) in arguments.iter().enumerate() {
-        push_conflicts_of(found, seen, index, argument)?;
+        push_conflicts_of(found, inherited, arguments, index, argument)?;
     }
     Ok(())
 }
 
 fn push_conflicts_of(
     found: &mut Found,
-    seen: &BTreeMap<&str, TextRef<'_>>,
-    argument_index: usize,
+    inherited: &[&Arg],
+    arguments: &[Arg],
+    index: usize,
     argument: &Arg,
 ) -> Added
-    ensures { OnOk result (found.new ≡ found.old
-        ++ conflicts_of (is_known_in seen.now) argument_index argument.now) }
+    ensures { OnOk result (found.new ≡ found.old ++ conflicts_of
+        (is_known (map (λ other. other.now) inherited.now) arguments.now) index argument.now) }
 {
     let ids = conflicting_ids(argument);
-    for (index, id) in ids.iter().enumerate() {
-        let kind = conflict_kind(found.allocator(), seen, id.as_str())?;
-        push_conflict(found, argument_index, index, kind)?;
+    for (item, id) in ids.iter().enumerate() {
+        let known = is_known(inherited, arguments, id.as_str());
+        push_unless_known(found, known, index, item, id.as_str())?;
     }
     Ok(())
 }
 
-fn push_conflict(found: &mut Found, argument: usize, item: usize, kind: Option<Kind>) -> Added
-    ensures { OnOk result (found.new ≡ found.old ++ conflict_list argument item kind) }
+fn push_unless_known(found: &mut Found, known: bool, index: usize, item: usize, id: &str) -> Added
+    ensures { OnOk result (found.new ≡ found.old ++ conflict_list known index item id.now) }
 {
-    match kind {
-        Some(kind) => found.note(
-            Spot::Argument(argument),
-            Key::ConflictsWith,
-            Some(item),
-            kind,
-        ),
-        None => Ok(()),
+    if known {
+        return Ok(());
     }
+    let kind = Kind::UnknownConflict(Text::copy_of(found.allocator(), id)?);
+    found.note(Spot::Argument(index), Key::ConflictsWith, Some(item), kind)
 }
 
-// Returns what is wrong with `id`, a conflict of an argument, if anything is.
-fn conflict_kind(
-    alloc: Global,
-    seen: &BTreeMap<&str, TextRef<'_>>,
-    id: &str,
-) -> Result<Option<Kind>, AllocError>
-    ensures { IfOk result (λ kind. kind ≡ conflict_kind (is_known_in seen.now id.now) id.now) }
-{
-    if is_known(seen, id) {
-        return Ok(None);
-    }
-    Ok(Some(Kind::UnknownConflict(Text::copy_of(alloc, id)?)))
-}
-
-// Returns whether `id` is in `seen`, or is the id of a flag that building may add.
+// Returns whether an argument has this id, or it is the id of a flag that building may add.
 #[tactic(auto, unfolding(cc_command::specs::Texts::fixed_texts))]
-fn is_known(seen: &BTreeMap<&str, TextRef<'_>>, id: &str) -> bool
-    ensures { result ≡ is_known_in seen.now id.now }
+fn is_known(inherited: &[&Arg], arguments: &[Arg], id: &str) -> bool
+    ensures { result ≡ is_known (map (λ other. other.now) inherited.now) arguments.now id.now }
 {
-    seen.get(id).is_some() || (id == "help" || id == "version")
+    (inherits_id(inherited, id) || has_id(arguments, id)) || (id == "help" || id == "version")
+}
+
+fn inherits_id(inherited: &[&Arg], id: &str) -> bool
+    ensures { result ≡ has_id (map (λ other. other.now) inherited.now) id.now }
+{
+    has_borrowed(inherited, id)
+}
+
+// Returns whether one of `arguments` has this id.
+fn has_borrowed(arguments: &[&Arg], id: &str) -> bool
+    ensures { result ≡ list_any (λ argument. bytes_eq argument.now.id id.now) arguments.now }
+{
+    arguments.iter().any(|argument| argument.get_id() == id)
 }

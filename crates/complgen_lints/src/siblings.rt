@@ -6,7 +6,7 @@ ghost use Rattle.complgen_lints.specs.SiblingNames.{names_from, names_of, taken_
 
 use crate::found::{Added, Found};
 use crate::names::{Named, PlacedName, push_named_parts, push_taken};
-use crate::parts::push_name_parts;
+use crate::parts::{Part, push_name_parts};
 use cc_command::Command;
 use std::alloc::Global;
 
@@ -24,21 +24,24 @@ fn push_names<'a>(names: &mut Vec<PlacedName<'a>>, alloc: Global, children: &'a 
     ensures { OnOk result (names.new.items
         ≡ names.old.items ++ names_from 0 (forest_of children.now)) }
 {
+    let mut parts = Vec::new(alloc);
     for (index, child) in children.iter().enumerate() {
-        push_names_of(names, alloc, index, child)?;
+        push_names_of(names, &mut parts, alloc, index, child)?;
     }
     Ok(())
 }
 
+// Adds the names of `child`. Uses the room of `parts`.
 fn push_names_of<'a>(
     names: &mut Vec<PlacedName<'a>>,
+    parts: &mut Vec<Part<'a>>,
     alloc: Global,
     index: usize,
     child: &'a Command,
 ) -> Added
     ensures { OnOk result (names.new.items ≡ names.old.items ++ names_of index child.now.node) }
 {
-    let mut parts = Vec::new(alloc);
-    push_name_parts(&mut parts, child)?;
-    push_named_parts(names, alloc, index, child.get_name(), &parts)
+    parts.clear();
+    push_name_parts(parts, child)?;
+    push_named_parts(names, alloc, index, child.get_name(), parts)
 }

@@ -41,25 +41,37 @@ pub(crate) fn push_text_findings(found: &mut Found, lint: TextLint, command: &Co
     let mut parts = Vec::new(found.allocator());
     push_command_parts(&mut parts, lint, command)?;
     push_parts(found, lint, Spot::Command, &parts)?;
-    push_arguments(found, lint, command.get_arguments())
+    push_arguments(found, &mut parts, lint, command.get_arguments())
 }
 
-fn push_arguments(found: &mut Found, lint: TextLint, arguments: &[Arg]) -> Added
+fn push_arguments<'a>(
+    found: &mut Found,
+    parts: &mut Vec<Part<'a>>,
+    lint: TextLint,
+    arguments: &'a [Arg],
+) -> Added
     ensures { OnOk result (found.new
         ≡ found.old ++ each_from (argument_list lint) 0 arguments.now) }
 {
     for (index, argument) in arguments.iter().enumerate() {
-        push_argument(found, lint, index, argument)?;
+        push_argument(found, parts, lint, index, argument)?;
     }
     Ok(())
 }
 
-fn push_argument(found: &mut Found, lint: TextLint, index: usize, argument: &Arg) -> Added
+// Adds what `lint` finds in `argument`. Uses the room of `parts`.
+fn push_argument<'a>(
+    found: &mut Found,
+    parts: &mut Vec<Part<'a>>,
+    lint: TextLint,
+    index: usize,
+    argument: &'a Arg,
+) -> Added
     ensures { OnOk result (found.new ≡ found.old ++ argument_list lint index argument.now) }
 {
-    let mut parts = Vec::new(found.allocator());
-    push_argument_parts(&mut parts, lint, argument)?;
-    push_parts(found, lint, Spot::Argument(index), &parts)
+    parts.clear();
+    push_argument_parts(parts, lint, argument)?;
+    push_parts(found, lint, Spot::Argument(index), parts)
 }
 
 // Adds the parts of `command` that `lint` examines.

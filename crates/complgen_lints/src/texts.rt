@@ -3,11 +3,11 @@
 ghost use Rattle.std.specs.Prelude.{◌≡◌, Some};
 ghost use Rattle.std.specs.Fmt.{DisplaysOnOk};
 ghost use Rattle.complgen_lints.specs.Texts.{ended_text, fixed_text, generated_text, harm_text};
-ghost use Rattle.complgen_lints.specs.Texts.{help_name, hyphen_text, is_not_plain_text, kind_text};
-ghost use Rattle.complgen_lints.specs.Texts.{loud_value_text, named, not_plain_text, other_text};
-ghost use Rattle.complgen_lints.specs.Texts.{outside_text};
-ghost use Rattle.complgen_lints.specs.Texts.{plain_rule, short_text, sign_text, taken_text};
-ghost use Rattle.complgen_lints.specs.Texts.{unplain_text, version_name, warning_text, zsh_sign};
+ghost use Rattle.complgen_lints.specs.Texts.{hyphen_text, is_not_plain_text, kind_text};
+ghost use Rattle.complgen_lints.specs.Texts.{loud_value_text, name_at, named, not_plain_text};
+ghost use Rattle.complgen_lints.specs.Texts.{other_text, outside_text, plain_rule, short_text};
+ghost use Rattle.complgen_lints.specs.Texts.{sign_text, taken_text, unplain_text, warning_text};
+ghost use Rattle.complgen_lints.specs.Texts.{zsh_sign};
 
 use crate::place::Key;
 use crate::running::{may_run_name, may_run_value};
@@ -178,8 +178,10 @@ fn write_other<W: fmt::Write>(
         Kind::TakenIndex(index, id) => {
             write_taken("argument", id.as_str(), "index", index.as_str(), f)
         }
-        Kind::TakenByHelp => write_generated(named(key), help_name(key), "help", f),
-        Kind::TakenByVersion => write_generated(named(key), version_name(key), "version", f),
+        Kind::TakenByHelp => write_generated(named(key), name_at(key, "h", "help"), "help", f),
+        Kind::TakenByVersion => {
+            write_generated(named(key), name_at(key, "V", "version"), "version", f)
+        }
         Kind::UnknownConflict(id) => write!(f, "no argument here has the id `{}`", id.as_str()),
         Kind::IndexOutOfRange(index, count) => write_outside(index.as_str(), count.as_str(), f),
         Kind::RunsCommand(words) => write!(f, "pressing Tab here runs{}", words.as_str()),
@@ -246,23 +248,13 @@ fn named(key: Option<Key>) -> &'static str
     }
 }
 
-// Returns the short of the generated help flag if `key` is `short`, or else its long.
-fn help_name(key: Option<Key>) -> &'static str
-    ensures { result.now ≡ help_name key }
+// Returns the short of a flag if `key` is `short`, or else its long.
+fn name_at(key: Option<Key>, short: &'static str, long: &'static str) -> &'static str
+    ensures { result.now ≡ name_at key short.now long.now }
 {
     match key {
-        Some(Key::Short) => "h",
-        _ => "help",
-    }
-}
-
-// Returns the short of the generated version flag if `key` is `short`, or else its long.
-fn version_name(key: Option<Key>) -> &'static str
-    ensures { result.now ≡ version_name key }
-{
-    match key {
-        Some(Key::Short) => "V",
-        _ => "version",
+        Some(Key::Short) => short,
+        _ => long,
     }
 }
 

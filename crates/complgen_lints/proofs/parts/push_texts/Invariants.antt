@@ -1,10 +1,6 @@
-use Rattle.std.proofs.Common.{◌≡◌, ◌++◌, drop}
 use Rattle.complgen_lints.specs.Parts.{listed_text}
-use Rattle.complgen_lints.specs.Lists.{each_from}
+use Rattle.complgen_lints.proofs.Left.{Left}
 use Rattle.complgen_lints.proofs.parts.push_texts.Given as goal
 
--- the items so far and the remaining ones make the whole
 abbrev pub invariant-loop-item : goal.invariant-loop-item
-invariant-loop-item l =
-    l.parts.items ++ each_from (listed_text l.key) l.item (drop l.item l.texts)
-    ≡ l.initial.parts.items ++ each_from (listed_text l.key) 0 l.texts
+invariant-loop-item l = Left (listed_text l.key) l.initial.parts.items l.parts.items l.item l.texts
