@@ -1,7 +1,7 @@
 -- The text that bash reads from the lines of its reply.
 use Rattle.std.proofs.Common.{◌≡◌, ◌==◌, ◌&&◌, ◌||◌, ℕ, Bool, true, false, cond, not, List, [], ◌∷◌, ◌++◌, Option, Some, None, option_map, codes, inl, inr, refl, sym, ◌∙◌, ap, ap₂, subst, arith}
-use Rattle.std.proofs.lemmas.Bool.{and_parts, cases_Bool, ne_eqb}
-use Rattle.std.proofs.lemmas.Bool.Decides.{Decides-eqb, nat_tests}
+use Rattle.std.proofs.lemmas.Bool.{and_parts, ne_eqb}
+use Rattle.std.proofs.lemmas.Bool.Decides.{nat_tests}
 use Rattle.std.specs.Char.{is_ascii_control}
 use Rattle.std.specs.List.{AllByRecursion, list_all}
 use Rattle.std.specs.Option.{option_and_then}
@@ -12,9 +12,10 @@ use Rattle.cc_base.proofs.Members.{AllByRecursion-weaker}
 use Rattle.cc_candidates.specs.declared.candidate.CompletionCandidate.{CompletionCandidate}
 use Rattle.cc_quote.specs.BashDouble.{is_double_marked}
 use Rattle.cc_quote.specs.Escapes.{marked}
-use Rattle.cc_replies.specs.BashWords.{BashWordsRead, OpenQuote, Bare, Single, Double, bare_read, bare_text, bare_word_read, bash_line_word, bash_text, bash_value_read, bash_word_line, double_read, exclamation, holds, holds_rest, home_start, is_bare_byte, is_bare_escaped, is_bare_marked, is_bash_insertable, is_double_kept, is_single_lost, single_read, start_text, word_read}
+use Rattle.cc_replies.specs.BashWords.{BashWordsRead, Cursor, OpenQuote, Bare, Single, Double, bare_read, bare_text, bare_word_read, bash_line_word, bash_text, bash_value_read, bash_word_line, double_read, exclamation, holds, holds_rest, home_start, is_bare_byte, is_bare_escaped, is_bare_marked, is_bash_insertable, is_double_kept, is_single_lost, single_read, start_text, word_read}
 use Rattle.cc_replies.specs.Reply.{lines_from}
 use Rattle.cc_replies.specs.SafeValues.{is_in_locale, is_safe_text, read_in_locale}
+use Rattle.cc_replies.proofs.Beginnings.{follows}
 use Rattle.cc_replies.proofs.FirstLines.{IsWithout}
 use Rattle.cc_replies.proofs.ReplyReadings.{false_not, marked_without, without}
 use Rattle.cc_replies.proofs.SafeReadings.{IsUncontrolled, ReadsLine, feed_first, lines_back, safe_uncontrolled, uncontrolled_without}
@@ -80,16 +81,6 @@ single_reads (byte ∷ text) h =
     ∙ ap (option_map (λ word. byte ∷ word)) (single_reads text parts.1)
 
 -- ---- a bare word from its start
-
--- a beginning and the text after it make up the text
-follows : (front text rest : List ℕ) → after front text ≡ Some rest → text ≡ front ++ rest
-unfolding after
-follows [] text rest e = cc
-follows (byte ∷ front) [] rest e = cc
-follows (byte ∷ front) (first ∷ text) rest e = elim (cases_Bool (byte == first)) [
-  | inl is ↦ ap₂ (λ b t. b ∷ t) (sym ((Decides-eqb byte first).0 is)) (follows front text rest (sym (ap (λ b. choose b (after front text) None) is) ∙ e))
-  | inr isnt ↦ let none : None ≡ Some rest = sym (ap (λ b. choose b (after front text) None) isnt) ∙ e in cc
-]
 
 all_right : {X : Type 0} (P : X → Type 0) → (xs ys : List X) → AllByRecursion P (xs ++ ys) → AllByRecursion P ys
 all_right P [] ys h = h
@@ -166,19 +157,20 @@ text_without (byte ∷ kept) Bare rest h = marked_without line_feed is_bare_mark
 -- ---- the law
 
 -- the text of a value that bash can insert
-pub record IsWritten (ascii_only : Bool) (kept : List ℕ) (quote : OpenQuote) (value : List ℕ) : Type 0 where
+pub record IsWritten (cursor : Cursor) (value : List ℕ) : Type 0 where
   pub rest : List ℕ
-  pub found : after kept value ≡ Some rest
-  pub held : holds quote rest ≡ true
-  pub one_line : IsWithout line_feed (bash_text kept quote rest)
-  pub reads : bash_value_read ascii_only kept quote (bash_text kept quote rest) ≡ Some value
+  pub found : after cursor.kept value ≡ Some rest
+  pub held : holds cursor.quote rest ≡ true
+  pub one_line : IsWithout line_feed (bash_text cursor.kept cursor.quote rest)
+  pub reads : bash_value_read cursor (bash_text cursor.kept cursor.quote rest) ≡ Some value
 
-pub is_written : (ascii_only : Bool) (kept : List ℕ) (quote : OpenQuote) (value : List ℕ) → is_bash_insertable ascii_only kept quote value ≡ true
-    → IsWritten ascii_only kept quote value
+pub is_written : (cursor : Cursor) (value : List ℕ) → is_bash_insertable cursor value ≡ true → IsWritten cursor value
 unfolding bash_value_read
-is_written ascii_only kept quote value e =
-    let both = and_parts (is_safe_text value && is_in_locale ascii_only value) (holds_rest quote (after kept value)) e in
-    let safe = and_parts (is_safe_text value) (is_in_locale ascii_only value) both.0 in
+is_written cursor value e =
+    let kept : List ℕ = cursor.kept in
+    let quote : OpenQuote = cursor.quote in
+    let both = and_parts (is_safe_text value && is_in_locale cursor.ascii_only value) (holds_rest quote (after kept value)) e in
+    let safe = and_parts (is_safe_text value) (is_in_locale cursor.ascii_only value) both.0 in
     elim (option_cases (after kept value)) [
       | inl found ↦
           let rest : List ℕ = found.0 in
@@ -191,28 +183,28 @@ is_written ascii_only kept quote value e =
             held = held;
             one_line = text_without kept quote rest clean;
             reads =
-                ap (λ read. option_and_then (read_in_locale ascii_only) (option_map (λ rest. kept ++ rest) read)) (text_reads kept quote rest clean held)
-                ∙ ap (read_in_locale ascii_only) (sym whole)
+                ap (λ read. option_and_then (read_in_locale cursor.ascii_only) (option_map (λ rest. kept ++ rest) read)) (text_reads kept quote rest clean held)
+                ∙ ap (read_in_locale cursor.ascii_only) (sym whole)
                 ∙ ap (λ b. cond b (Some value) None) safe.1;
           }
       | inr none ↦ let both : false ≡ true = sym (ap (holds_rest quote) none) ∙ both.1 in cc
     ]
 
-word_reads : (ascii_only : Bool) (kept : List ℕ) (quote : OpenQuote) (value : List ℕ) → is_bash_insertable ascii_only kept quote value ≡ true
-    → ReadsLine (IsWithout line_feed) (bash_value_read ascii_only kept quote) (bash_word_line kept quote value) (Some value)
+word_reads : (cursor : Cursor) (value : List ℕ) → is_bash_insertable cursor value ≡ true
+    → ReadsLine (IsWithout line_feed) (bash_value_read cursor) (bash_word_line cursor value) (Some value)
 unfolding bash_word_line
-word_reads ascii_only kept quote value e =
-    let written = is_written ascii_only kept quote value e in
+word_reads cursor value e =
+    let written = is_written cursor value e in
     record {
-      body = bash_text kept quote written.rest;
-      whole = ap (λ found. elim found [ Some rest ↦ bash_text kept quote rest ++ codes "\n" | None ↦ [] ]) written.found;
+      body = bash_text cursor.kept cursor.quote written.rest;
+      whole = ap (λ found. elim found [ Some rest ↦ bash_text cursor.kept cursor.quote rest ++ codes "\n" | None ↦ [] ]) written.found;
       one_line = written.one_line;
       reads = written.reads;
     }
 
-pub words_read_back : (ascii_only : Bool) (kept : List ℕ) (quote : OpenQuote) (candidates : List CompletionCandidate) → BashWordsRead ascii_only kept quote candidates
+pub words_read_back : (cursor : Cursor) (candidates : List CompletionCandidate) → BashWordsRead cursor candidates
 unfolding BashWordsRead lines_from
-words_read_back ascii_only kept quote candidates =
-    lines_back (IsWithout line_feed) (lines_from []) refl feed_first (bash_value_read ascii_only kept quote) (λ candidate. Some candidate.value)
-    (λ candidate. is_bash_insertable ascii_only kept quote candidate.value)
-    (λ candidate. bash_word_line kept quote candidate.value) (λ candidate e. word_reads ascii_only kept quote candidate.value e) candidates
+words_read_back cursor candidates =
+    lines_back (IsWithout line_feed) (lines_from []) refl feed_first (bash_value_read cursor) (λ candidate. Some candidate.value)
+    (λ candidate. is_bash_insertable cursor candidate.value)
+    (λ candidate. bash_word_line cursor candidate.value) (λ candidate e. word_reads cursor candidate.value e) candidates
