@@ -5,7 +5,7 @@ use Rattle.std.proofs.Math.Seq.{get_or-append_seam, take-append_seam}
 use Rattle.std.proofs.lemmas.List.{length-append}
 use Rattle.std.proofs.lemmas.Option.{unwrap_or-slice_get}
 use Rattle.cc_command.specs.Tree.{Forest, none, more, Tree}
-use Rattle.cc_flat.specs.Preorder.{Levelled, preorder}
+use Rattle.cc_generator.specs.Preorder.{Levelled, preorder}
 use Rattle.cc_bash.specs.Labels.{Labelled, child_label, labelled_node, labelled_under}
 use Rattle.cc_bash.specs.Nodes.{last_label, next_labelled, next_path}
 

@@ -2,7 +2,7 @@
 use Rattle.std.specs.Prelude.{ℕ, ◌-◌, List, [], ◌∷◌, ◌++◌, length, take, slice_get, unwrap_or, if◌then◌else◌}
 use Rattle.cc_arg.specs.declared.parts.ArgParts.{ArgParts as Arg}
 use Rattle.cc_arg.specs.Arguments.{is_positional}
-use Rattle.cc_flat.specs.Preorder.{Levelled}
+use Rattle.cc_generator.specs.Preorder.{Levelled}
 use Rattle.cc_bash.specs.Arms.{long_words, short_words, value_names}
 use Rattle.cc_bash.specs.CaseTable.{Case}
 use Rattle.cc_bash.specs.Labels.{Labelled, labelled_node}

@@ -20,8 +20,7 @@ use crate::texts::{
 };
 use cc_base::{Error, Sink, Text, put_piece, put_pieces};
 use cc_command::{Command, full_name};
-use cc_flat::Flat;
-use cc_generator::Generator;
+use cc_generator::{Flat, Generator};
 use cc_quote::{Replace, escape_text};
 use std::alloc::{AllocError, Global};
 

@@ -2,15 +2,14 @@
 
 ghost use Rattle.std.specs.Prelude.{◌≡◌, ◌<◌, length, map, IfOk, OnOk};
 ghost use Rattle.std.specs.String.{string_bytes};
-ghost use Rattle.cc_flat.specs.Flat.{tree_at};
-ghost use Rattle.cc_flat.specs.Nodes.{levelled_of};
+ghost use Rattle.cc_generator.specs.Flat.{tree_at};
+ghost use Rattle.cc_generator.specs.Nodes.{levelled_of};
 ghost use Rattle.cc_bash.specs.Labels.{child_label, labelled_node, labelled_under, sort_text};
 ghost use Rattle.cc_bash.specs.Nodes.{labelled_of, last_label, next_labelled, next_path};
 
 use cc_base::Text;
 use cc_command::{Command, full_name};
-use cc_flat::{Flat, LevelledNode};
-use cc_generator::SharedKey;
+use cc_generator::{Flat, LevelledNode, SharedKey};
 use cc_quote::{Replace, escape_text, push_escaped};
 use std::alloc::{AllocError, Global};
 

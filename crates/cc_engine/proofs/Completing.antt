@@ -12,20 +12,20 @@ use Rattle.cc_engine.proofs.Begins.{begins_or_is_completed}
 use Rattle.cc_engine.proofs.Laws.{is_sorted, shows_visible}
 use Rattle.cc_engine.proofs.OneFinishing.{finishes_once}
 
--- the place to which the words before the index lead, by the list of nodes
-pub is_place : (root top node position : Tree) (state : State) (words before : List (List ℕ)) (index : ℕ) (word : List ℕ)
+-- the place to which the words before the index lead
+pub is_place : (root node : Tree) (state : State) (words before : List (List ℕ)) (index : ℕ) (word : List ℕ)
     → IsUtf8 (get_or words index [])
-    → top ≡ root → node ≡ position → before ≡ words_before root.node words index → word ≡ get_or words index []
-    → WordsLeadTo top before position state → WordsLeadOnlyTo top before position state
-    → (HasNoHiddenAlias top before → position ≡ visible_end top before) → IsPlace root words index node state word
-is_place root top node position state words before index word valid is_root is_position is_before is_word leads only visible =
-    rw is_position (record {
-      leads = rw (is_root, is_before) at leads;
-      only = rw (is_root, is_before) at only;
-      visible = rw (is_root, is_before) at visible;
+    → before ≡ words_before root.node words index → word ≡ get_or words index []
+    → WordsLeadTo root before node state → WordsLeadOnlyTo root before node state
+    → (HasNoHiddenAlias root before → node ≡ visible_end root before) → IsPlace root words index node state word
+is_place root node state words before index word valid is_before is_word leads only visible =
+    record {
+      leads = rw is_before at leads;
+      only = rw is_before at only;
+      visible = rw is_before at visible;
       is_word = is_word;
       is_text = valid;
-    })
+    }
 
 -- what is offered for a word at its place, with what is so of it
 pub completes : (sources : MayReturn) (root tree : Tree) (state : State) (words : List (List ℕ)) (index : ℕ) (word : List ℕ)

@@ -50,7 +50,7 @@ pub fn asked_argument(
     if !in_range(command, words.len(), index) {
         return Err(Error::NoCompletion);
     }
-    let place = place_at(alloc, command, words, index)?;
+    let place = place_at(command, words, index);
     let asked = asked_at(alloc, place.command, &place.state, place.word)?;
     Ok(copy_of_some(alloc, asked)?)
 }

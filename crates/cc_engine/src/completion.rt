@@ -51,7 +51,7 @@ pub fn complete_from<L: Lookup>(
     if !in_range(command, words.len(), index) {
         return Err(Error::NoCompletion);
     }
-    let place = place_at(alloc, command, words.as_slice(), index)?;
+    let place = place_at(command, words.as_slice(), index);
     Ok(offer_candidates(alloc, place.command, &place.state, place.word, lookup)?)
 }
 

@@ -1,12 +1,10 @@
 //! The place in a command to which the words before an index lead.
 
-ghost use Rattle.std.specs.Prelude.{◌≡◌, ◌<◌, [], get_or, length, map, string_bytes, true, IfOk};
+ghost use Rattle.std.specs.Prelude.{◌≡◌, ◌<◌, [], get_or, length, map, string_bytes, true};
 ghost use Rattle.cc_engine.specs.Completion.{IsPlace, is_in_range, names_before, words_before};
 
 use cc_command::Command;
-use cc_flat::Flat;
 use cc_walk::{State, Walked, walk};
-use std::alloc::{AllocError, Global};
 
 /// A word of a command line, with the place to which the words before it lead.
 #[derive(Drop)]
@@ -20,27 +18,20 @@ pub(crate) struct Place<'a> {
 }
 
 /// Returns the place of the word at an index in range, in a command line of a built command.
-///
-/// # Errors
-///
-/// `AllocError` if an allocation fails.
-pub(crate) fn place_at<'a>(
-    alloc: Global,
-    command: &'a Command,
-    words: &'a [String],
-    index: usize,
-) -> Result<Place<'a>, AllocError>
+pub(crate) fn place_at<'a>(command: &'a Command, words: &'a [String], index: usize) -> Place<'a>
     requires { is_in_range command.now.node (length words.now) index ≡ true }
-    ensures { IfOk result (λ place. IsPlace command.now (map string_bytes words.now) index
-        place.command.now place.state place.word.now) }
+    ensures { IsPlace command.now (map string_bytes words.now) index result.command.now
+        result.state result.word.now }
 {
-    let flat = Flat::new(alloc, command)?;
-    let Walked { node, state } = walk(&flat, words_before(command, words, index));
-    Ok(Place {
-        command: flat.command(node),
+    let Walked {
+        command: node,
+        state,
+    } = walk(command, words_before(command, words, index));
+    Place {
+        command: node,
         state,
         word: word_at(words, index),
-    })
+    }
 }
 
 fn names_before(command: &Command) -> usize

@@ -3,7 +3,7 @@
 ghost use Rattle.std.specs.Prelude.{◌<◌, flat_map, length};
 ghost use Rattle.cc_base.specs.Writes.{Writes};
 ghost use Rattle.cc_command.specs.Names.{full_name};
-ghost use Rattle.cc_flat.specs.Flat.{tree_at};
+ghost use Rattle.cc_generator.specs.Flat.{tree_at};
 ghost use Rattle.cc_generator.specs.Visits.{where_entered};
 ghost use Rattle.cc_fish.specs.Script.{body_text, fish_script, script_text, visit_text};
 
@@ -13,8 +13,7 @@ use crate::keys::FishKeys;
 use crate::lines::write_visit;
 use cc_base::{Error, Sink};
 use cc_command::{Command, full_name};
-use cc_flat::Flat;
-use cc_generator::{Generator, PathStep, PathSteps};
+use cc_generator::{Flat, Generator, PathStep, PathSteps};
 use std::alloc::Global;
 
 /// The generator of fish scripts. The script of a program `N` goes into the file `N.fish`.

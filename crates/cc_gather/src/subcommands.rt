@@ -103,36 +103,44 @@ fn push_child(
         ++ filter (begins word.now) (child_candidates parent.now.node child.now.node)) }
 {
     let hidden = child.is_hide_set();
-    push_name(found, alloc, parent, child, child.get_name(), hidden, word)?;
-    push_names(
-        found,
-        alloc,
+    let names = Names {
         parent,
         child,
-        child.get_visible_aliases(),
         hidden,
-        word,
-    )?;
-    push_names(found, alloc, parent, child, child.get_aliases(), true, word)?;
+    };
+    let aliases = Names {
+        parent,
+        child,
+        hidden: true,
+    };
+    push_name(found, alloc, &names, child.get_name(), word)?;
+    push_names(found, alloc, &names, child.get_visible_aliases(), word)?;
+    push_names(found, alloc, &aliases, child.get_aliases(), word)?;
     Ok(())
+}
+
+// What the candidates for some names of a child have in common.
+#[derive(Drop)]
+struct Names<'a> {
+    parent: &'a Command,
+    child: &'a Command,
+    hidden: bool,
 }
 
 // Adds a candidate for each of the names that begins with the word.
 fn push_names(
     found: &mut Vec<CompletionCandidate>,
     alloc: Global,
-    parent: &Command,
-    child: &Command,
+    of: &Names<'_>,
     names: &[Text],
-    hidden: bool,
     word: &str,
 ) -> Result<(), AllocError>
     ensures { OnOk result (found.new.items ≡ found.old.items
-        ++ filter (begins word.now)
-        (map (child_candidate parent.now.node child.now.node hidden) names.now)) }
+        ++ filter (begins word.now) (map (child_candidate of.now.parent.now.node of.now.child.now.node
+        of.now.hidden) names.now)) }
 {
     for name in names {
-        push_name(found, alloc, parent, child, name.as_str(), hidden, word)?;
+        push_name(found, alloc, of, name.as_str(), word)?;
     }
     Ok(())
 }
@@ -141,45 +149,44 @@ fn push_names(
 fn push_name(
     found: &mut Vec<CompletionCandidate>,
     alloc: Global,
-    parent: &Command,
-    child: &Command,
+    of: &Names<'_>,
     name: &str,
-    hidden: bool,
     word: &str,
 ) -> Result<(), AllocError>
     ensures { OnOk result (found.new.items ≡ found.old.items
-        ++ filter (begins word.now)
-        (child_candidate parent.now.node child.now.node hidden name.now ∷ [])) }
+        ++ filter (begins word.now) (child_candidate of.now.parent.now.node of.now.child.now.node
+        of.now.hidden name.now ∷ [])) }
 {
     if !begins_with(name, word) {
         return Ok(());
     }
-    found.push(child_candidate(alloc, parent, child, name, hidden)?)?;
+    found.push(child_candidate(alloc, of, name)?)?;
     Ok(())
 }
 
-// Creates the candidate for a name of a child.
+// Creates the candidate for a name.
 fn child_candidate(
     alloc: Global,
-    parent: &Command,
-    child: &Command,
+    of: &Names<'_>,
     name: &str,
-    hidden: bool,
 ) -> Result<CompletionCandidate, AllocError>
     ensures { IfOk result (λ candidate. candidate
-        ≡ child_candidate parent.now.node child.now.node hidden name.now) }
+        ≡ child_candidate of.now.parent.now.node of.now.child.now.node of.now.hidden name.now) }
 {
-    let heading = parent.get_subcommand_help_heading().unwrap_or("Commands");
+    let heading = of
+        .parent
+        .get_subcommand_help_heading()
+        .unwrap_or("Commands");
     let tag = String::from_str(alloc, heading)?;
     let mut id = String::from_str(alloc, "command::")?;
-    id.push_str(child.get_name())?;
-    let help = copy_of_some(alloc, child.get_about())?;
+    id.push_str(of.child.get_name())?;
+    let help = copy_of_some(alloc, of.child.get_about())?;
     Ok(
         CompletionCandidate::new(String::from_str(alloc, name)?)
             .help(help)
             .id(Some(id))
             .tag(Some(tag))
-            .display_order(Some(child.get_display_order()))
-            .hide(hidden),
+            .display_order(Some(of.child.get_display_order()))
+            .hide(of.hidden),
     )
 }

@@ -3,7 +3,7 @@ use Rattle.std.proofs.Common.{◌≡◌, ℕ, suc, ◌+◌, ◌-◌, ◌<◌, Li
 use Rattle.std.specs.List.{flat_map, range_with_len}
 use Rattle.std.proofs.lemmas.List.{nil_from_length, reverse-append, reverse-reverse}
 use Rattle.std.proofs.lemmas.List.Concat.{flat_map-append}
-use Rattle.cc_flat.specs.Flat.{numbers_between}
+use Rattle.cc_generator.specs.Flat.{numbers_between}
 use Rattle.cc_generator.specs.Stack.{from_stack}
 
 module _ {A B : Type 0} (from_item : A → List B) where

@@ -7,7 +7,7 @@ use Rattle.std.proofs.lemmas.List.Elements.{All-nil, All-cons, All-pop, All-push
 use Rattle.std.proofs.lemmas.List.Sorted.{All-permutation, IsPermutation-reverse}
 use Rattle.cc_command.specs.declared.node.Node.{Node}
 use Rattle.cc_command.specs.Tree.{Tree, forest_of}
-use Rattle.cc_flat.specs.Flat.{Entry, HasItsChildren, children_at, entry_at, tree_at, trees_at}
+use Rattle.cc_generator.specs.Flat.{Entry, HasItsChildren, children_at, entry_at, tree_at, trees_at}
 use Rattle.cc_generator.specs.Stack.{from_stack}
 use Rattle.cc_generator.specs.StepStack.{AreListed, IsListed, entries_at, step_item, step_items, steps_of}
 use Rattle.cc_generator.specs.Visits.{keyed, keys_below, Step, enter, leave, steps_below, steps_from}

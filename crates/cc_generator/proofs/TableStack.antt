@@ -8,7 +8,7 @@ use Rattle.std.proofs.lemmas.List.Elements.{All-nil, All-pop, All-append, All-ma
 use Rattle.std.proofs.lemmas.List.Sorted.{All-permutation, IsPermutation-reverse}
 use Rattle.cc_command.specs.declared.node.Node.{Node}
 use Rattle.cc_command.specs.Tree.{Tree, forest_of}
-use Rattle.cc_flat.specs.Flat.{Entry, HasItsChildren, children_at, entry_at, numbers_between, tree_at, trees_at}
+use Rattle.cc_generator.specs.Flat.{Entry, HasItsChildren, children_at, entry_at, numbers_between, tree_at, trees_at}
 use Rattle.cc_generator.specs.Stack.{from_stack}
 use Rattle.cc_generator.specs.TableStack.{AreListed, IsListed, item_at, items_at, table_items, tables_of}
 use Rattle.cc_generator.specs.Visits.{keyed, keys_below, tables_below, tables_from, table_visits, under_each}

@@ -1,7 +1,13 @@
 pub mod ArgumentNames
+pub mod EntryCode
+pub mod Flat
 pub mod Generators
 pub mod Meaning
+pub mod Nodes
+pub mod Numbered
 pub mod Paths
+pub mod Positions
+pub mod Preorder
 pub mod Stack
 pub mod StepStack
 pub mod Subcommands

@@ -1,7 +1,7 @@
 -- The stack of an iterator in path order, and the steps that it still gives.
 use Rattle.std.specs.Prelude.{ℕ, ◌<◌, List, [], ◌∷◌, Bool, length, map, false, if◌then◌else◌}
 use Rattle.std.specs.List.{flat_map, All}
-use Rattle.cc_flat.specs.Flat.{Entry, tree_at}
+use Rattle.cc_generator.specs.Flat.{Entry, tree_at}
 use Rattle.cc_generator.specs.Visits.{keyed, keys_below, Step, leave, steps_from}
 use Rattle.cc_generator.specs.declared.path_steps.StepItem.{StepItem}
 

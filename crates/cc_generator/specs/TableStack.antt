@@ -1,7 +1,7 @@
 -- The stack of an iterator in table order, and the visits that it still gives.
 use Rattle.std.specs.Prelude.{ℕ, ◌<◌, List, length, map}
 use Rattle.std.specs.List.{flat_map, All}
-use Rattle.cc_flat.specs.Flat.{Entry, tree_at}
+use Rattle.cc_generator.specs.Flat.{Entry, tree_at}
 use Rattle.cc_generator.specs.Visits.{Keyed, tables_from}
 use Rattle.cc_generator.specs.declared.table_visits.TableItem.{TableItem}
 

@@ -1,5 +1,7 @@
 //! The parts that all generators of completion scripts share:
 //!
+//! - the nodes of a command tree in one numbered list ([`Flat`]), also in preorder, so that a walk
+//!   over the tree needs no recursion;
 //! - the trait [`Generator`], and the call [`generate`], which builds a command and writes its
 //!   script;
 //! - the lists of names in [`utils`];
@@ -31,8 +33,7 @@
 //! ```rattle
 //! use cc_base::Text;
 //! use cc_command::Command;
-//! use cc_flat::Flat;
-//! use cc_generator::{Joined, TableVisits};
+//! use cc_generator::{Flat, Joined, TableVisits};
 //! use std::alloc::{AllocError, Global};
 //!
 //! // Returns the key of the first visit, which is `app`.
@@ -48,16 +49,20 @@
 //! ```
 #![tactic(auto)]
 
+mod flat;
 mod generator;
 mod keys;
 mod path_steps;
+mod preorder;
 mod stack;
 mod table_visits;
 pub mod utils;
 mod visit;
 
+pub use crate::flat::Flat;
 pub use crate::generator::{Generator, generate};
 pub use crate::keys::{Joined, KeyScheme, SharedKey};
 pub use crate::path_steps::{PathStep, PathSteps};
+pub use crate::preorder::{LevelledNode, Preorder};
 pub use crate::table_visits::TableVisits;
 pub use crate::visit::Visit;

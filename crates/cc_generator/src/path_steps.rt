@@ -1,14 +1,14 @@
 //! The visits of a tree in path order, with a step at the start and at the end of each node.
 
 ghost use Rattle.std.specs.Prelude.{◌≡◌, ◌++◌, ◌<◌, length, IfOk, OnOk};
-ghost use Rattle.cc_flat.specs.Flat.{HasItsChildren, children_at};
+ghost use Rattle.cc_generator.specs.Flat.{HasItsChildren, children_at};
 ghost use Rattle.cc_generator.specs.StepStack.{entries_at, step_items};
 
+use crate::flat::Flat;
 use crate::keys::{KeyScheme, push_keys_below};
 use crate::stack::push_reversed;
 use crate::visit::{Visit, visit_at};
 use cc_base::Text;
-use cc_flat::Flat;
 use std::alloc::{AllocError, Global};
 use std::marker::Model;
 
@@ -67,7 +67,7 @@ impl<'f, 'a, K: KeyScheme> Model for PathSteps<'f, 'a, K> {
 impl<'f, 'a, K: KeyScheme> PathSteps<'f, 'a, K> {
     ghost use Rattle.std.specs.Prelude.{◌≡◌, ◌++◌, ◌<◌, [], length, IfOk, IfNone};
     ghost use Rattle.std.specs.Option.{option_map, option_to_list};
-    ghost use Rattle.cc_flat.specs.Flat.{tree_at};
+    ghost use Rattle.cc_generator.specs.Flat.{tree_at};
     ghost use Rattle.cc_generator.specs.Visits.{path_steps, steps_below};
     ghost use Rattle.cc_generator.specs.Meaning.{step_of};
 

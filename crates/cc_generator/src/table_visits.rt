@@ -2,14 +2,14 @@
 
 ghost use Rattle.std.specs.Prelude.{◌≡◌, ◌++◌, ◌<◌, length, reverse, IfOk, OnOk};
 ghost use Rattle.std.specs.Prelude.{is_ok, if◌then◌else◌};
-ghost use Rattle.cc_flat.specs.Flat.{HasItsChildren, children_at};
+ghost use Rattle.cc_generator.specs.Flat.{HasItsChildren, children_at};
 ghost use Rattle.cc_generator.specs.TableStack.{items_at, table_items};
 
+use crate::flat::Flat;
 use crate::keys::{KeyScheme, SharedKey, push_keys_below};
 use crate::stack::push_reversed;
 use crate::visit::{Visit, visit_at};
 use cc_base::Text;
-use cc_flat::Flat;
 use std::alloc::{AllocError, Global};
 use std::marker::Model;
 
@@ -42,7 +42,7 @@ pub struct TableVisits<'f, 'a, K: KeyScheme> {
 
 impl<'f, 'a, K: KeyScheme> Model for TableVisits<'f, 'a, K> {
     ghost use Rattle.std.specs.Prelude.{ℕ, List, ◌++◌, ◌<◌, length, reverse};
-    ghost use Rattle.cc_flat.specs.Flat.{tree_at};
+    ghost use Rattle.cc_generator.specs.Flat.{tree_at};
     ghost use Rattle.cc_generator.specs.Visits.{Keyed, under_each};
     ghost use Rattle.cc_generator.specs.VisitCode.{visits_code};
 
@@ -67,7 +67,7 @@ impl<'f, 'a, K: KeyScheme> Model for TableVisits<'f, 'a, K> {
 impl<'f, 'a, K: KeyScheme> TableVisits<'f, 'a, K> {
     ghost use Rattle.std.specs.Prelude.{◌≡◌, ◌++◌, ◌<◌, [], length, IfOk, IfNone};
     ghost use Rattle.std.specs.Option.{option_map, option_to_list};
-    ghost use Rattle.cc_flat.specs.Flat.{tree_at};
+    ghost use Rattle.cc_generator.specs.Flat.{tree_at};
     ghost use Rattle.cc_generator.specs.Visits.{table_visits};
     ghost use Rattle.cc_generator.specs.Meaning.{visit_of};
 

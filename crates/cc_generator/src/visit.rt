@@ -1,13 +1,13 @@
 //! A visit of a node.
 
 ghost use Rattle.std.specs.Prelude.{◌≡◌, ◌<◌, length};
-ghost use Rattle.cc_flat.specs.Flat.{tree_at};
+ghost use Rattle.cc_generator.specs.Flat.{tree_at};
 ghost use Rattle.cc_generator.specs.Meaning.{visit_of};
 ghost use Rattle.cc_generator.specs.Visits.{keyed};
 
+use crate::flat::Flat;
 use cc_base::Text;
 use cc_command::Command;
-use cc_flat::Flat;
 
 /// A node of a command tree under one of its keys.
 #[derive(Drop)]

@@ -6,8 +6,7 @@ ghost use Rattle.cc_tables.specs.Script.{head_text, named_text, node_text, tree_
 
 use cc_base::{Error, Sink, Text, TextRef, put_around, put_piece};
 use cc_command::{Command, full_name};
-use cc_flat::Flat;
-use cc_generator::{Joined, KeyScheme, TableVisits};
+use cc_generator::{Flat, Joined, KeyScheme, TableVisits};
 use std::alloc::{AllocError, Global};
 use std::io::ErrorKind;
 

@@ -2,13 +2,10 @@
 //! the next positional, and the option that may still take values.
 //!
 //! ```rattle
-//! use cc_flat::Flat;
 //! use cc_walk::{positional_at, walk};
 //!
-//! let flat = Flat::new(alloc, &app)?;
-//! let walked = walk(&flat, words.as_slice());
-//! let command = flat.command(walked.node);
-//! let next = positional_at(command.get_arguments(), walked.state.position);
+//! let walked = walk(&app, words.as_slice());
+//! let next = positional_at(walked.command.get_arguments(), walked.state.position);
 //! ```
 #![tactic(auto)]
 

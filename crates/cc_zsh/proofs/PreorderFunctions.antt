@@ -2,7 +2,7 @@
 use Rattle.std.proofs.Common.{◌≡◌, ℕ, suc, ◌∷◌, ◌++◌, map, refl, ap, ap₂, ◌∙◌}
 use Rattle.std.proofs.lemmas.List.{map-append}
 use Rattle.cc_command.specs.Tree.{Forest, none, more}
-use Rattle.cc_flat.specs.Preorder.{Levelled, preorder}
+use Rattle.cc_generator.specs.Preorder.{Levelled, preorder}
 use Rattle.cc_zsh.specs.Functions.{Function, function_of, functions_below}
 
 -- the function of a node

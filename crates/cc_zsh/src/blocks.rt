@@ -6,7 +6,7 @@ ghost use Rattle.std.specs.List.{flat_map};
 ghost use Rattle.std.specs.String.{string_bytes};
 ghost use Rattle.cc_base.specs.Writes.{Writes, as_write};
 ghost use Rattle.cc_command.specs.ArgumentLists.{positionals};
-ghost use Rattle.cc_flat.specs.Flat.{tree_at};
+ghost use Rattle.cc_generator.specs.Flat.{tree_at};
 ghost use Rattle.cc_generator.specs.Meaning.{step_of, visit_of};
 ghost use Rattle.cc_zsh.specs.Nested.{arm_begins, arms_text, below_text, block_text, case_text, children_text, index_text, nested_begins, nested_ends, root_text};
 ghost use Rattle.cc_zsh.specs.Steps.{enter_text, leave_text, step_text};
@@ -20,8 +20,7 @@ use crate::texts::{
 };
 use cc_base::{Error, Sink, Text, put_around, put_piece, put_pieces};
 use cc_command::{Command, full_name};
-use cc_flat::Flat;
-use cc_generator::{KeyScheme, PathStep, PathSteps, Visit};
+use cc_generator::{Flat, KeyScheme, PathStep, PathSteps, Visit};
 use std::alloc::{AllocError, Global};
 use std::io::ErrorKind;
 

@@ -9,7 +9,7 @@ ghost use Rattle.cc_base.specs.Sorting.{in_order};
 ghost use Rattle.cc_base.specs.Writes.{Writes, as_write};
 ghost use Rattle.cc_command.specs.Names.{visible_names};
 ghost use Rattle.cc_command.specs.Tree.{forest_of};
-ghost use Rattle.cc_flat.specs.Flat.{tree_at};
+ghost use Rattle.cc_generator.specs.Flat.{tree_at};
 ghost use Rattle.cc_zsh.specs.Functions.{entries_of, entries_text, entry, entry_text, function_below, function_of, function_text, functions_below, is_again, once_after, sorted_functions};
 ghost use Rattle.cc_zsh.specs.Named.{function_named};
 ghost use Rattle.cc_zsh.specs.Script.{functions_text};
@@ -20,7 +20,7 @@ use crate::texts::{
 };
 use cc_base::{Error, Sink, put_around, put_piece};
 use cc_command::{Command, full_name};
-use cc_flat::Flat;
+use cc_generator::Flat;
 use cc_quote::{ZshHelpEscape, put_escaped};
 use std::alloc::{AllocError, Global};
 use std::cmp::Ordering;

@@ -3,7 +3,7 @@
 ghost use Rattle.std.specs.Prelude.{◌<◌, length};
 ghost use Rattle.cc_base.specs.Writes.{Writes, as_write};
 ghost use Rattle.cc_command.specs.Names.{full_name};
-ghost use Rattle.cc_flat.specs.Flat.{tree_at};
+ghost use Rattle.cc_generator.specs.Flat.{tree_at};
 ghost use Rattle.cc_zsh.specs.Script.{begin_text, end_text, zsh_script};
 
 use crate::blocks::write_root;
@@ -13,8 +13,7 @@ use crate::texts::{
 };
 use cc_base::{Error, Sink, put_piece, put_pieces};
 use cc_command::{Command, full_name};
-use cc_flat::Flat;
-use cc_generator::Generator;
+use cc_generator::{Flat, Generator};
 use std::alloc::Global;
 use std::io::ErrorKind;
 

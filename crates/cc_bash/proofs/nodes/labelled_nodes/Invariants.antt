@@ -1,6 +1,6 @@
 use Rattle.std.proofs.Common.{◌≡◌, ◌++◌, map}
-use Rattle.cc_flat.specs.Flat.{tree_at}
-use Rattle.cc_flat.specs.Nodes.{nodes_left}
+use Rattle.cc_generator.specs.Flat.{tree_at}
+use Rattle.cc_generator.specs.Nodes.{nodes_left}
 use Rattle.cc_bash.specs.Labels.{labelled_under}
 use Rattle.cc_bash.specs.Nodes.{labelled_of}
 use Rattle.cc_bash.proofs.LabelledPath.{labelled_along}

@@ -7,8 +7,8 @@ use Rattle.cc_engine.proofs.completion.complete_from.Goals as goal
 pub returns-clause-candidates : goal.returns-clause-candidates
 returns-clause-candidates g c =
     completes_words _ _ _ _ c.args.index _ (ap (map string_bytes) c.as_slice.ensures.value)
-    (completes _ _ _ _ _ _ _ _ c.in_ok-place.ensures c.in_ok-offer_candidates.ensures)
+    (completes _ _ _ _ _ _ _ _ c.place_at-place.ensures c.in_ok-offer_candidates.ensures)
 
 pub returns-clause-differ : goal.returns-clause-differ
 returns-clause-differ g c =
-    candidates_differ _ _ _ _ _ (completes _ _ _ _ _ _ _ _ c.in_ok-place.ensures c.in_ok-offer_candidates.ensures)
+    candidates_differ _ _ _ _ _ (completes _ _ _ _ _ _ _ _ c.place_at-place.ensures c.in_ok-offer_candidates.ensures)

@@ -5,5 +5,5 @@ use Rattle.cc_engine.proofs.place.place_at.Goals as goal
 
 pub returns : goal.returns
 returns c =
-    is_place c.args.command.now _ _ _ _ (map string_bytes c.args.words.now) _ c.args.index _ (text_at c.args.words.now c.args.index)
-    c.in_ok-flat.ensures.root c.command.ensures c.words_before.ensures c.word_at.ensures c.walk-node.ensures.leads c.walk-node.ensures.only c.walk-node.ensures.visible
+    is_place c.args.command.now _ _ (map string_bytes c.args.words.now) _ c.args.index _ (text_at c.args.words.now c.args.index)
+    c.words_before.ensures c.word_at.ensures c.walk-state.ensures.leads c.walk-state.ensures.only c.walk-state.ensures.visible

@@ -6,5 +6,5 @@ use Rattle.cc_gather.proofs.subcommands.push_names.Goals as goal
 
 pub loop-name-preserved : goal.loop-name-preserved
 loop-name-preserved c =
-    mapped_added (begins c.args.word.now) (child_candidate c.args.parent.now.node c.args.child.now.node c.args.hidden) c.loop-name.found.items c.push_name.new.found.items _ c.args.names.now
+    mapped_added (begins c.args.word.now) (child_candidate c.args.of.now.parent.now.node c.args.of.now.child.now.node c.args.of.now.hidden) c.loop-name.found.items c.push_name.new.found.items _ c.args.names.now
     c.loop-name.name-index c.name-item.result c.as_str.result.now c.loop-name-test.true (c.as_str.ensures.text ∙ c.name-item.is) c.loop-name.invariant c.in_ok-push_name.ensures

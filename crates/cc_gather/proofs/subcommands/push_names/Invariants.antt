@@ -6,5 +6,5 @@ use Rattle.cc_gather.proofs.subcommands.push_names.Given as goal
 
 abbrev pub invariant-loop-name : goal.invariant-loop-name
 invariant-loop-name l =
-    l.found.items ++ filter (begins l.word) (map (child_candidate l.parent.node l.child.node l.hidden) (drop l.name-index l.names))
-    ≡ l.initial.found.items ++ filter (begins l.word) (map (child_candidate l.parent.node l.child.node l.hidden) l.names)
+    l.found.items ++ filter (begins l.word) (map (child_candidate l.of.parent.now.node l.of.child.now.node l.of.hidden) (drop l.name-index l.names))
+    ≡ l.initial.found.items ++ filter (begins l.word) (map (child_candidate l.of.parent.now.node l.of.child.now.node l.of.hidden) l.names)

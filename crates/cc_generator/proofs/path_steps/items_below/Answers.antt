@@ -1,5 +1,5 @@
 use Rattle.std.proofs.Common.{rules}
-use Rattle.cc_flat.specs.Flat.{tree_at}
+use Rattle.cc_generator.specs.Flat.{tree_at}
 use Rattle.cc_generator.specs.Visits.{keys_below}
 use Rattle.cc_generator.specs.StepStack.{entries_at}
 use Rattle.cc_generator.proofs.FromStack.{items_more}

@@ -1,5 +1,5 @@
 use Rattle.std.proofs.Common.{◌≡◌, ◌++◌}
-use Rattle.cc_flat.specs.Flat.{children_at, numbers_between}
+use Rattle.cc_generator.specs.Flat.{children_at, numbers_between}
 use Rattle.cc_generator.specs.StepStack.{step_items}
 use Rattle.cc_generator.proofs.path_steps.items_below.Given as goal
 

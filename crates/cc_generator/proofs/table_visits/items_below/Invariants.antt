@@ -1,5 +1,5 @@
 use Rattle.std.proofs.Common.{◌≡◌, ◌++◌}
-use Rattle.cc_flat.specs.Flat.{children_at, numbers_between}
+use Rattle.cc_generator.specs.Flat.{children_at, numbers_between}
 use Rattle.cc_generator.specs.TableStack.{table_items}
 use Rattle.cc_generator.proofs.table_visits.items_below.Given as goal
 

@@ -1,5 +1,4 @@
-use Rattle.std.proofs.Common.{map, string_bytes, ◌≡◌, ◌<◌, ◌≤◌, ◌+◌, length, drop}
-use Rattle.cc_flat.specs.Flat.{tree_at}
+use Rattle.std.proofs.Common.{map, string_bytes, ◌≡◌, ◌≤◌, ◌+◌, drop}
 use Rattle.cc_walk.specs.Machine.{walk}
 use Rattle.cc_walk.specs.NodeStates.{node_state_of}
 use Rattle.cc_walk.proofs.Whole.{walked}
@@ -7,7 +6,6 @@ use Rattle.cc_walk.proofs.walked.walk.Given as goal
 
 abbrev pub invariant-loop-word : goal.invariant-loop-word
 invariant-loop-word l = record {
-  within : l.walked.node < length l.flat;
   position : l.walked.state.position ≤ l.word-index + 1;
-  rest : walk (node_state_of l.flat l.walked) (map string_bytes (drop l.word-index l.words)) ≡ walked (tree_at l.flat 0) (map string_bytes l.words);
+  rest : walk (node_state_of l.walked) (map string_bytes (drop l.word-index l.words)) ≡ walked l.root (map string_bytes l.words);
 }

@@ -1,7 +1,7 @@
 use Rattle.std.proofs.Common.{◌≡◌, ◌++◌, map}
-use Rattle.cc_flat.specs.Nodes.{nodes_left}
+use Rattle.cc_generator.specs.Nodes.{nodes_left}
 use Rattle.cc_zsh.specs.Functions.{functions_below}
-use Rattle.cc_flat.specs.Flat.{tree_at}
+use Rattle.cc_generator.specs.Flat.{tree_at}
 use Rattle.cc_zsh.specs.Named.{function_named}
 use Rattle.cc_zsh.proofs.PreorderFunctions.{function_at}
 use Rattle.cc_zsh.proofs.functions.commands_below.Given as goal

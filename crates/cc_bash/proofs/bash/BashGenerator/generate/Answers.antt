@@ -1,6 +1,6 @@
 use Rattle.std.proofs.Common.{◌≡◌, [], ◌∷◌, map, Some, None, sym, ◌∙◌, ap, rules}
 use Rattle.std.specs.Prelude.{codes, string_bytes}
-use Rattle.cc_flat.specs.Flat.{tree_at}
+use Rattle.cc_generator.specs.Flat.{tree_at}
 use Rattle.cc_command.specs.Tree.{Tree}
 use Rattle.cc_bash.specs.Labels.{first_again, root_label}
 use Rattle.cc_base.specs.Bytes.{dash}

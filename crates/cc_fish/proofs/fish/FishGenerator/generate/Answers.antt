@@ -1,6 +1,6 @@
 use Rattle.std.proofs.Common.{◌≡◌, rules}
 use Rattle.cc_command.specs.Tree.{Tree}
-use Rattle.cc_flat.specs.Flat.{tree_at}
+use Rattle.cc_generator.specs.Flat.{tree_at}
 use Rattle.cc_fish.proofs.ScriptRead.{generated}
 use Rattle.cc_fish.proofs.fish.FishGenerator.generate.Goals as goal
 

@@ -1,5 +1,5 @@
 use Rattle.std.proofs.Common.{ℕ, List, ◌∷◌, ◌++◌, ap, refl, reverse, sym, ◌∙◌, rules}
-use Rattle.cc_flat.specs.Flat.{Entry, tree_at}
+use Rattle.cc_generator.specs.Flat.{Entry, tree_at}
 use Rattle.cc_generator.specs.Stack.{from_stack}
 use Rattle.cc_generator.specs.TableStack.{tables_of}
 use Rattle.cc_generator.specs.Visits.{Keyed, under_each}

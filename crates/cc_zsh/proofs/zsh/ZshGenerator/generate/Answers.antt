@@ -1,6 +1,6 @@
 use Rattle.std.proofs.Common.{◌≡◌, rules}
 use Rattle.cc_command.specs.Tree.{Tree}
-use Rattle.cc_flat.specs.Flat.{tree_at}
+use Rattle.cc_generator.specs.Flat.{tree_at}
 use Rattle.cc_zsh.proofs.ReadsBack.{generated}
 use Rattle.cc_zsh.proofs.zsh.ZshGenerator.generate.Goals as goal
 

@@ -1,6 +1,0 @@
-pub mod Names
-pub mod Numbering
-pub mod Numbers
-pub mod Positions
-mod PreorderExamples
-pub mod Trees

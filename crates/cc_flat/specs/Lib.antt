@@ -1,7 +1,0 @@
-pub mod EntryCode
-pub mod Flat
-pub mod Lookup
-pub mod Nodes
-pub mod Numbered
-pub mod Positions
-pub mod Preorder
