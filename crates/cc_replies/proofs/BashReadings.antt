@@ -1,5 +1,5 @@
 -- The text that bash reads from the lines of its reply.
-use Rattle.std.proofs.Common.{◌≡◌, ◌==◌, ◌&&◌, ◌||◌, ℕ, Bool, true, false, cond, not, List, [], ◌∷◌, ◌++◌, Option, Some, None, option_map, codes, inl, inr, refl, sym, ◌∙◌, ap, ap₂, subst, arith}
+use Rattle.std.proofs.Common.{◌≡◌, ◌⊎◌, ◌==◌, ◌&&◌, ◌||◌, ℕ, Bool, true, false, cond, not, List, [], ◌∷◌, ◌++◌, Option, Some, None, option_map, codes, inl, inr, refl, sym, ◌∙◌, ap, subst, arith}
 use Rattle.std.proofs.lemmas.Bool.{and_parts, ne_eqb}
 use Rattle.std.proofs.lemmas.Bool.Decides.{nat_tests}
 use Rattle.std.specs.Char.{is_ascii_control}
@@ -82,9 +82,13 @@ single_reads (byte ∷ text) h =
 
 -- ---- a bare word from its start
 
-all_right : {X : Type 0} (P : X → Type 0) → (xs ys : List X) → AllByRecursion P (xs ++ ys) → AllByRecursion P ys
-all_right P [] ys h = h
-all_right P (x ∷ xs) ys h = all_right P xs ys h.1
+-- a text without control characters has none after a beginning
+clean_after : (front rest text : List ℕ) → text ≡ front ++ rest → IsUncontrolled text → IsUncontrolled rest
+clean_after front rest text is h = right front (subst (λ t. IsUncontrolled t) is h)
+  where
+    right : (front : List ℕ) → IsUncontrolled (front ++ rest) → IsUncontrolled rest
+    right [] h = h
+    right (byte ∷ front) h = right front h.1
 
 -- an escaped word never begins with `~/`, because its `~` is escaped
 no_home : (word : List ℕ) → after home_start (marked is_bare_marked word) ≡ None
@@ -98,20 +102,12 @@ no_home (byte ∷ word) = by_test (is_bare_marked byte) refl
         let other : (126 == byte) ≡ false = ne_eqb 126 byte (λ same. let both : true ≡ false = ap is_bare_marked same ∙ e in cc) in
         ap (λ b. choose b (after (codes "/") (marked is_bare_marked word)) None) other
 
-start_reads : (word : List ℕ) → IsUncontrolled word → bare_word_read (start_text word) ≡ Some word
-unfolding bare_word_read start_text after
-start_reads word h = elim (option_cases (after home_start word)) [
-  | inl found ↦
-      let below : List ℕ = found.0 in
-      let whole : word ≡ home_start ++ below = follows home_start word below found.1 in
-      let clean : IsUncontrolled below = all_right (λ byte. is_ascii_control byte ≡ false) home_start below (subst (λ t. IsUncontrolled t) whole h) in
-      ap (λ found. bare_word_read (written found)) found.1
-      ∙ ap (option_map (λ word. home_start ++ word)) (bare_reads below clean)
-      ∙ ap Some (sym whole)
-  | inr none ↦
-      ap (λ found. bare_word_read (written found)) none
-      ∙ ap (λ found. reading (marked is_bare_marked word) found) (no_home word)
-      ∙ bare_reads word h
+-- such a word is `~/` and the text below it, or has no unescaped `~`
+pub start_cases : (word : List ℕ) → ((below : List ℕ) × (word ≡ home_start ++ below) × (start_text word ≡ home_start ++ marked is_bare_marked below)) ⊎ (start_text word ≡ marked is_bare_marked word)
+unfolding start_text
+start_cases word = elim (option_cases (after home_start word)) [
+  | inl found ↦ inl (found.0, follows home_start word found.0 found.1, ap written found.1)
+  | inr none ↦ inr (ap written none)
 ]
   where
     written : Option (List ℕ) → List ℕ
@@ -120,6 +116,16 @@ start_reads word h = elim (option_cases (after home_start word)) [
       | None ↦ marked is_bare_marked word
     ]
 
+start_reads : (word : List ℕ) → IsUncontrolled word → bare_word_read (start_text word) ≡ Some word
+unfolding bare_word_read after
+start_reads word h = elim (start_cases word) [
+  | inl home ↦
+      ap bare_word_read home.2
+      ∙ ap (option_map (λ word. home_start ++ word)) (bare_reads home.0 (clean_after home_start home.0 word home.1 h))
+      ∙ ap Some (sym home.1)
+  | inr bare ↦ ap bare_word_read bare ∙ ap (reading (marked is_bare_marked word)) (no_home word) ∙ bare_reads word h
+]
+  where
     reading : List ℕ → Option (List ℕ) → Option (List ℕ)
     reading line found = elim found [
       | Some rest ↦ option_map (λ word. home_start ++ word) (bare_read rest)
@@ -136,15 +142,11 @@ text_reads [] Bare rest h k = start_reads rest h
 text_reads (byte ∷ kept) Bare rest h k = bare_reads rest h
 
 start_without : (word : List ℕ) → IsUncontrolled word → IsWithout line_feed (start_text word)
-unfolding start_text
-start_without word h = elim (option_cases (after home_start word)) [
-  | inl found ↦
-      let clean : IsUncontrolled found.0 = all_right (λ byte. is_ascii_control byte ≡ false) home_start found.0 (subst (λ t. IsUncontrolled t) (follows home_start word found.0 found.1) h) in
-      subst (λ found. IsWithout line_feed (elim found [ Some below ↦ home_start ++ marked is_bare_marked below | None ↦ marked is_bare_marked word ])) (sym found.1)
-      (refl, (refl, marked_without line_feed is_bare_marked found.0 refl (uncontrolled_without line_feed refl found.0 clean)))
-  | inr none ↦
-      subst (λ found. IsWithout line_feed (elim found [ Some below ↦ home_start ++ marked is_bare_marked below | None ↦ marked is_bare_marked word ])) (sym none)
-      (marked_without line_feed is_bare_marked word refl (uncontrolled_without line_feed refl word h))
+start_without word h = elim (start_cases word) [
+  | inl home ↦
+      subst (IsWithout line_feed) (sym home.2)
+      (refl, (refl, marked_without line_feed is_bare_marked home.0 refl (uncontrolled_without line_feed refl home.0 (clean_after home_start home.0 word home.1 h))))
+  | inr bare ↦ subst (IsWithout line_feed) (sym bare) (marked_without line_feed is_bare_marked word refl (uncontrolled_without line_feed refl word h))
 ]
 
 text_without : (kept : List ℕ) (quote : OpenQuote) (rest : List ℕ) → IsUncontrolled rest → IsWithout line_feed (bash_text kept quote rest)
@@ -175,7 +177,7 @@ is_written cursor value e =
       | inl found ↦
           let rest : List ℕ = found.0 in
           let whole : value ≡ kept ++ rest = follows kept value rest found.1 in
-          let clean : IsUncontrolled rest = all_right (λ byte. is_ascii_control byte ≡ false) kept rest (subst (λ t. IsUncontrolled t) whole (safe_uncontrolled value safe.0)) in
+          let clean : IsUncontrolled rest = clean_after kept rest value whole (safe_uncontrolled value safe.0) in
           let held : holds quote rest ≡ true = sym (ap (holds_rest quote) found.1) ∙ both.1 in
           record {
             rest = rest;

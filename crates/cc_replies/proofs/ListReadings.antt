@@ -20,7 +20,7 @@ use Rattle.cc_replies.specs.BashList.{BashListRead, HasTwo, bash_list_in, bash_l
 use Rattle.cc_replies.specs.BashWords.{Cursor, OpenQuote, Bare, Single, Double, bare_read, bare_text, bare_word_read, bash_line_word, bash_text, bash_value_read, bash_word_line, bash_words_reply, double_read, holds, home_start, is_bare_marked, is_bash_insertable, is_single_lost, single_read, start_text, word_read}
 use Rattle.cc_replies.specs.Reply.{Shown, lines_from}
 use Rattle.cc_replies.specs.SafeValues.{is_in_locale, read_in_locale, safe_help}
-use Rattle.cc_replies.proofs.BashReadings.{is_written}
+use Rattle.cc_replies.proofs.BashReadings.{is_written, start_cases}
 use Rattle.cc_replies.proofs.Characters.{take_chars_all}
 use Rattle.cc_replies.proofs.FirstLines.{IsWithout}
 use Rattle.cc_replies.proofs.ReplyReadings.{IsHelpWithout, false_not}
@@ -68,24 +68,16 @@ bare_goes : (text : List ℕ) → GoesOn Bare (marked is_bare_marked text)
 bare_goes text = marked_goes Bare is_bare_marked refl refl refl (λ byte. refl) text
 
 start_goes : (word : List ℕ) → GoesOn Bare (start_text word)
-unfolding start_text word_cut
-start_goes word rest = elim (option_cases (after home_start word)) [
-  | inl found ↦
-      let below : List ℕ = marked is_bare_marked found.0 in
-      subst (λ found. word_cut Bare false (written found ++ rest) ≡ with_front (written found) (word_cut Bare false rest)) (sym found.1)
-      (ap (λ cut. with_front (codes "~") (with_front (codes "/") cut)) (bare_goes found.0 rest)
+unfolding word_cut
+start_goes word rest = elim (start_cases word) [
+  | inl home ↦
+      let below : List ℕ = marked is_bare_marked home.0 in
+      subst (λ text. word_cut Bare false (text ++ rest) ≡ with_front text (word_cut Bare false rest)) (sym home.2)
+      (ap (λ cut. with_front (codes "~") (with_front (codes "/") cut)) (bare_goes home.0 rest)
       ∙ ap (with_front (codes "~")) (with_front-append (47 ∷ []) below (word_cut Bare false rest))
       ∙ with_front-append (126 ∷ []) (codes "/" ++ below) (word_cut Bare false rest))
-  | inr none ↦
-      subst (λ found. word_cut Bare false (written found ++ rest) ≡ with_front (written found) (word_cut Bare false rest)) (sym none)
-      (bare_goes word rest)
+  | inr bare ↦ subst (λ text. word_cut Bare false (text ++ rest) ≡ with_front text (word_cut Bare false rest)) (sym bare) (bare_goes word rest)
 ]
-  where
-    written : Option (List ℕ) → List ℕ
-    written found = elim found [
-      | Some below ↦ home_start ++ marked is_bare_marked below
-      | None ↦ marked is_bare_marked word
-    ]
 
 single_goes : (text : List ℕ) → list_all (λ byte. not (is_single_lost byte)) text ≡ true → GoesOn Single text
 unfolding word_cut
