@@ -14,12 +14,11 @@ use Rattle.cc_registrations.specs.SafeFish.{SafeFishReads, safe_fish}
 use Rattle.cc_registrations.specs.SafePowershell.{SafePowershellReads, safe_powershell}
 use Rattle.cc_registrations.specs.SafeZsh.{SafeZshReads, safe_zsh}
 use Rattle.cc_replies.specs.BashList.{BashListRead, bash_list_reply}
-use Rattle.cc_replies.specs.BashWords.{is_double}
-use Rattle.cc_replies.specs.Environment.{asks_safely, ascii_only_of, kept_of, quote_of, width_of}
+use Rattle.cc_replies.specs.BashWords.{Cursor, is_double}
+use Rattle.cc_replies.specs.Environment.{asks_safely, cursor_of}
 use Rattle.cc_replies.specs.PowershellWords.{PowershellWordsRead, powershell_words_reply}
 use Rattle.cc_replies.specs.SafeReplies.{SafeLinesRead, SafeValuesRead, SafeZshRead}
 use Rattle.cc_replies.specs.SafeReplies.{safe_lines_reply, safe_values_reply, safe_zsh_reply}
-use Rattle.cc_replies.specs.declared.bash_words.OpenQuote.{OpenQuote}
 use Rattle.cc_replies.specs.declared.environment.EnvValues.{EnvValues}
 
 -- the safe adapter for a shell
@@ -51,28 +50,21 @@ SafeReads Zsh variable name bins completer = SafeZshReads variable name bins com
 
 -- ---- replies
 
--- The reply of some candidates. In bash and zsh, the locale may be safe for ASCII only. bash has
--- kept this text of the word, this quote is open there, and it lists the candidates in a terminal of
--- this width, or may insert them if that is 0. In PowerShell, the quote is `"` if a `"` reaches
--- programs.
-abbrev pub safe_reply : Builtin → Bool → List ℕ → OpenQuote → ℕ → List CompletionCandidate → List ℕ
-safe_reply Bash ascii_only kept quote width found =
-    bash_list_reply ascii_only kept quote width found
-safe_reply Elvish ascii_only kept quote width found = safe_values_reply found
-safe_reply Fish ascii_only kept quote width found = safe_lines_reply found
-safe_reply Powershell ascii_only kept quote width found =
-    powershell_words_reply (is_double quote) found
-safe_reply Zsh ascii_only kept quote width found = safe_zsh_reply ascii_only found
+-- the reply of some candidates, by the shell's line
+abbrev pub safe_reply : Builtin → Cursor → List CompletionCandidate → List ℕ
+safe_reply Bash cursor found = bash_list_reply cursor found
+safe_reply Elvish cursor found = safe_values_reply found
+safe_reply Fish cursor found = safe_lines_reply found
+safe_reply Powershell cursor found = powershell_words_reply (is_double cursor.quote) found
+safe_reply Zsh cursor found = safe_zsh_reply cursor.ascii_only found
 
 -- its reading
-abbrev pub SafeReplyReads : Builtin → Bool → List ℕ → OpenQuote → ℕ → List CompletionCandidate → Type 0
-SafeReplyReads Bash ascii_only kept quote width found =
-    BashListRead ascii_only kept quote width found
-SafeReplyReads Elvish ascii_only kept quote width found = SafeValuesRead found
-SafeReplyReads Fish ascii_only kept quote width found = SafeLinesRead found
-SafeReplyReads Powershell ascii_only kept quote width found =
-    PowershellWordsRead (is_double quote) found
-SafeReplyReads Zsh ascii_only kept quote width found = SafeZshRead ascii_only found
+abbrev pub SafeReplyReads : Builtin → Cursor → List CompletionCandidate → Type 0
+SafeReplyReads Bash cursor found = BashListRead cursor found
+SafeReplyReads Elvish cursor found = SafeValuesRead found
+SafeReplyReads Fish cursor found = SafeLinesRead found
+SafeReplyReads Powershell cursor found = PowershellWordsRead (is_double cursor.quote) found
+SafeReplyReads Zsh cursor found = SafeZshRead cursor.ascii_only found
 
 -- ---- requests
 
@@ -84,14 +76,12 @@ wanted_when false shell env words wanted index = (builtin_spec shell).Wants env 
 
 -- the reply, by the same choice
 abbrev pub reply_when : Bool → Builtin → EnvValues → List CompletionCandidate → List ℕ
-reply_when true shell env found =
-    safe_reply shell (ascii_only_of env) (kept_of env) (quote_of env) (width_of env) found
+reply_when true shell env found = safe_reply shell (cursor_of env) found
 reply_when false shell env found = (builtin_spec shell).reply env found
 
 -- the reading of the reply, by the same choice
 abbrev pub ReplyReadsWhen : Bool → Builtin → EnvValues → List CompletionCandidate → Type 0
-ReplyReadsWhen true shell env found =
-    SafeReplyReads shell (ascii_only_of env) (kept_of env) (quote_of env) (width_of env) found
+ReplyReadsWhen true shell env found = SafeReplyReads shell (cursor_of env) found
 ReplyReadsWhen false shell env found = (builtin_spec shell).ReplyReads env found
 
 -- the specification of a safe adapter

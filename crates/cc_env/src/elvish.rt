@@ -3,7 +3,7 @@
 ghost use Rattle.cc_env.specs.Builtins.{elvish_spec};
 
 use crate::env_completer::{EnvCompleter, LookupCompleter};
-use crate::reply::{Values, reply_at};
+use crate::reply::{Values, WantedWords, reply_at};
 use cc_base::{Error, Sink};
 use cc_candidates::Completers;
 use cc_command::Command;
@@ -74,8 +74,11 @@ impl LookupCompleter for Elvish {
         lookup: &L,
         sink: &mut W,
     ) -> Result<(), Error> {
-        let index = env.index();
+        let wanted = WantedWords {
+            words,
+            index: env.index(),
+        };
         let format = Values(env.separator());
-        reply_at(alloc, command, words, index, lookup, &format, sink)
+        reply_at(alloc, command, wanted, lookup, &format, sink)
     }
 }

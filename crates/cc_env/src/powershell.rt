@@ -3,7 +3,7 @@
 ghost use Rattle.cc_env.specs.Builtins.{powershell_spec};
 
 use crate::env_completer::{EnvCompleter, LookupCompleter};
-use crate::reply::{Lines, last_index, reply_at};
+use crate::reply::{Lines, WantedWords, reply_at};
 use cc_base::{Error, Sink};
 use cc_candidates::Completers;
 use cc_command::Command;
@@ -74,7 +74,13 @@ impl LookupCompleter for Powershell {
         lookup: &L,
         sink: &mut W,
     ) -> Result<(), Error> {
-        let index = last_index(words.as_slice());
-        reply_at(alloc, command, words, index, lookup, &Lines, sink)
+        reply_at(
+            alloc,
+            command,
+            WantedWords::at_last(words),
+            lookup,
+            &Lines,
+            sink,
+        )
     }
 }

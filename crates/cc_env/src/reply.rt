@@ -1,7 +1,7 @@
 //! The candidates for a word, written as a shell reads them. All adapters share this.
 
-ghost use Rattle.std.specs.Prelude.{◌≡◌, ◌-◌, ℕ, IfErr, List, length, map, string_bytes};
-ghost use Rattle.cc_env.specs.WantedWords.{WantsThese};
+ghost use Rattle.std.specs.Prelude.{ℕ, IfErr, List, map, string_bytes};
+ghost use Rattle.cc_env.specs.WantedWords.{WantsAtLast, WantsThese};
 ghost use Rattle.cc_env.specs.Replies.{Replies};
 ghost use Rattle.cc_env.specs.SafeShells.{safe_reply};
 ghost use Rattle.cc_base.specs.Writes.{IsWrite, Writes};
@@ -15,7 +15,7 @@ use cc_candidates::CompletionCandidate;
 use cc_command::Command;
 use cc_engine::{Lookup, complete_from};
 use cc_replies::{
-    OpenQuote, write_bash_list, write_lines, write_powershell_words, write_safe_lines,
+    Cursor, write_bash_list, write_lines, write_powershell_words, write_safe_lines,
     write_safe_values, write_safe_zsh_items, write_values, write_zsh_items,
 };
 use std::alloc::Global;
@@ -77,41 +77,45 @@ impl ReplyFormat for Lines {
 pub(crate) struct SafeReply<'s> {
     /// The shell.
     pub(crate) shell: Builtin,
-    /// Whether the shell's locale is safe for nothing but ASCII.
-    pub(crate) ascii_only: bool,
-    /// The text that bash has kept of the word.
-    pub(crate) kept: &'s str,
-    /// The quote that is open there; in PowerShell `"` if a `"` reaches programs.
-    pub(crate) quote: OpenQuote,
-    /// The width of the terminal in which bash lists the texts, or 0 if it may insert them.
-    pub(crate) width: usize,
+    /// The shell's line.
+    pub(crate) cursor: Cursor<'s>,
 }
 
 impl ReplyFormat for SafeReply<'_> {
-    ghost text = { λ format found. safe_reply format.shell format.ascii_only format.kept.now
-        format.quote format.width found };
+    ghost text = { λ format found. safe_reply format.shell format.cursor found };
 
     fn write<W: Sink>(&self, found: &[CompletionCandidate], sink: &mut W) -> Result<(), Error> {
         match self.shell {
-            Builtin::Bash => {
-                write_bash_list(
-                    sink,
-                    self.ascii_only,
-                    self.kept,
-                    self.quote,
-                    self.width,
-                    found,
-                )
-            }
+            Builtin::Bash => write_bash_list(sink, &self.cursor, found),
             Builtin::Elvish => write_safe_values(sink, found),
             Builtin::Fish => write_safe_lines(sink, found),
-            Builtin::Powershell => write_powershell_words(sink, self.quote.is_double(), found),
-            Builtin::Zsh => write_safe_zsh_items(sink, self.ascii_only, found),
+            Builtin::Powershell => {
+                write_powershell_words(sink, self.cursor.quote.is_double(), found)
+            }
+            Builtin::Zsh => write_safe_zsh_items(sink, self.cursor.ascii_only, found),
         }
     }
 }
 
-/// Writes the candidates for the word at `index` in `format`.
+/// The words of a command line, and the index of the one to complete.
+#[derive(Drop)]
+pub(crate) struct WantedWords {
+    pub(crate) words: Vec<String>,
+    pub(crate) index: usize,
+}
+
+impl WantedWords {
+    /// Asks for the last word; for index 0 if there are no words.
+    pub(crate) fn at_last(words: Vec<String>) -> WantedWords
+        ensures { WantsAtLast (map string_bytes words.items)
+            (map string_bytes result.words.items) result.index }
+    {
+        let index = words.len().saturating_sub(1);
+        WantedWords { words, index }
+    }
+}
+
+/// Writes the candidates for the wanted word in `format`.
 ///
 /// # Errors
 ///
@@ -119,23 +123,15 @@ impl ReplyFormat for SafeReply<'_> {
 pub(crate) fn reply_at<L: Lookup, F: ReplyFormat, W: Sink>(
     alloc: Global,
     command: &mut Command,
-    words: Vec<String>,
-    index: usize,
+    wanted: WantedWords,
     lookup: &L,
     format: &F,
     sink: &mut W,
 ) -> Result<(), Error>
     ensures { Replies W.taken W.failed result sink.old sink.new command.old command.new
-        (WantsThese (map string_bytes words.items) index) (Completes (L.may_return lookup.now)
+        (WantsThese (map string_bytes wanted.words.items) wanted.index) (Completes (L.may_return lookup.now)
         command.new) (F.text format.now) }
 {
-    let found = complete_from(alloc, command, words, index, lookup)?;
+    let found = complete_from(alloc, command, wanted.words, wanted.index, lookup)?;
     format.write(found.as_slice(), sink)
-}
-
-/// Returns the index of the last word; 0 if there are no words.
-pub(crate) fn last_index(words: &[String]) -> usize
-    ensures { result ≡ length (map string_bytes words.now) - 1 }
-{
-    words.len().saturating_sub(1)
 }

@@ -1,18 +1,14 @@
 //! The safe adapters: nothing of a name, a candidate or a typed word is evaluated by the shell.
 
-ghost use Rattle.std.specs.Prelude.{◌≡◌, map, string_bytes};
-ghost use Rattle.cc_env.specs.Replies.{Replies};
-ghost use Rattle.cc_env.specs.SafeShells.{SafeReads, safe_of, safe_registration, safe_reply};
-ghost use Rattle.cc_env.specs.SafeShells.{safe_spec};
-ghost use Rattle.cc_env.specs.WantedWords.{WantsAtLast};
+ghost use Rattle.std.specs.Prelude.{◌≡◌, map};
+ghost use Rattle.cc_env.specs.SafeShells.{SafeReads, safe_of, safe_registration, safe_spec};
 ghost use Rattle.cc_base.specs.Writes.{Writes};
-ghost use Rattle.cc_engine.specs.Completion.{Completes};
-ghost use Rattle.cc_replies.specs.Environment.{ascii_only_of, kept_of, quote_of, width_of};
+ghost use Rattle.cc_replies.specs.Environment.{cursor_of};
 
 use crate::builtin::Builtin;
 use crate::env_completer::{EnvCompleter, LookupCompleter};
-use crate::reply::{SafeReply, last_index, reply_at};
-use cc_base::{Error, Sink};
+use crate::reply::{SafeReply, WantedWords, reply_at};
+use cc_base::{Error, Sink, TextRef};
 use cc_candidates::Completers;
 use cc_command::Command;
 use cc_engine::{Lookup, Sources};
@@ -20,7 +16,7 @@ use cc_paths::Folder;
 use cc_registrations::{
     write_safe_bash, write_safe_elvish, write_safe_fish, write_safe_powershell, write_safe_zsh,
 };
-use cc_replies::EnvValues;
+use cc_replies::{Cursor, EnvValues};
 use std::alloc::Global;
 
 /// The safe adapter for a shell.
@@ -95,30 +91,21 @@ impl SafeShell {
         }
     }
 
-    // Writes the candidates for the last word as texts that the shell inserts.
-    fn reply_safely<L: Lookup, W: Sink>(
-        &self,
-        alloc: Global,
-        command: &mut Command,
-        words: Vec<String>,
-        env: &EnvValues,
-        lookup: &L,
-        sink: &mut W,
-    ) -> Result<(), Error>
-        ensures { Replies W.taken W.failed result sink.old sink.new command.old command.new
-            (WantsAtLast (map string_bytes words.items)) (Completes (L.may_return lookup.now)
-            command.new) (safe_reply self.now.shell (ascii_only_of env.now) (kept_of env.now)
-            (quote_of env.now) (width_of env.now)) }
+    // Returns the format of a reply: texts that the shell inserts as the values that they mean.
+    fn reply_format<'e>(&self, env: &'e EnvValues) -> SafeReply<'e>
+        ensures shell { result.shell ≡ self.now.shell }
+        ensures cursor { result.cursor ≡ cursor_of env.now }
     {
-        let index = last_index(&words);
-        let format = SafeReply {
-            shell: self.shell,
+        let cursor = Cursor {
             ascii_only: env.ascii_only(),
-            kept: env.kept(),
+            kept: TextRef::new(env.kept()),
             quote: env.open_quote(),
             width: env.list_width(),
         };
-        reply_at(alloc, command, words, index, lookup, &format, sink)
+        SafeReply {
+            shell: self.shell,
+            cursor,
+        }
     }
 }
 
@@ -177,7 +164,15 @@ impl LookupCompleter for SafeShell {
         sink: &mut W,
     ) -> Result<(), Error> {
         if env.asks_safely() {
-            return self.reply_safely(alloc, command, words, env, lookup, sink);
+            let format = self.reply_format(env);
+            return reply_at(
+                alloc,
+                command,
+                WantedWords::at_last(words),
+                lookup,
+                &format,
+                sink,
+            );
         }
         self.shell
             .write_complete_from(alloc, command, words, env, lookup, sink)

@@ -5,7 +5,7 @@ ghost use Rattle.cc_env.specs.WantedWords.{with_next};
 ghost use Rattle.cc_env.specs.Builtins.{zsh_spec};
 
 use crate::env_completer::{EnvCompleter, LookupCompleter};
-use crate::reply::{ZshItems, reply_at};
+use crate::reply::{WantedWords, ZshItems, reply_at};
 use cc_base::{Error, Sink};
 use cc_candidates::Completers;
 use cc_command::Command;
@@ -78,8 +78,9 @@ impl LookupCompleter for Zsh {
     ) -> Result<(), Error> {
         let index = env.index();
         let words = with_next(alloc, words, index)?;
+        let wanted = WantedWords { words, index };
         let format = ZshItems(env.separator());
-        reply_at(alloc, command, words, index, lookup, &format, sink)
+        reply_at(alloc, command, wanted, lookup, &format, sink)
     }
 }
 

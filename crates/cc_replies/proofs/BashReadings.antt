@@ -1,7 +1,7 @@
 -- The text that bash reads from the lines of its reply.
-use Rattle.std.proofs.Common.{◌≡◌, ◌==◌, ◌&&◌, ◌||◌, ℕ, Bool, true, false, cond, not, List, [], ◌∷◌, ◌++◌, Option, Some, None, option_map, codes, inl, inr, refl, sym, ◌∙◌, ap, ap₂, subst, arith}
-use Rattle.std.proofs.lemmas.Bool.{and_parts, cases_Bool, ne_eqb}
-use Rattle.std.proofs.lemmas.Bool.Decides.{Decides-eqb, nat_tests}
+use Rattle.std.proofs.Common.{◌≡◌, ◌⊎◌, ◌==◌, ◌&&◌, ◌||◌, ℕ, Bool, true, false, cond, not, List, [], ◌∷◌, ◌++◌, Option, Some, None, option_map, codes, inl, inr, refl, sym, ◌∙◌, ap, subst, arith}
+use Rattle.std.proofs.lemmas.Bool.{and_parts, ne_eqb}
+use Rattle.std.proofs.lemmas.Bool.Decides.{nat_tests}
 use Rattle.std.specs.Char.{is_ascii_control}
 use Rattle.std.specs.List.{AllByRecursion, list_all}
 use Rattle.std.specs.Option.{option_and_then}
@@ -12,9 +12,10 @@ use Rattle.cc_base.proofs.Members.{AllByRecursion-weaker}
 use Rattle.cc_candidates.specs.declared.candidate.CompletionCandidate.{CompletionCandidate}
 use Rattle.cc_quote.specs.BashDouble.{is_double_marked}
 use Rattle.cc_quote.specs.Escapes.{marked}
-use Rattle.cc_replies.specs.BashWords.{BashWordsRead, OpenQuote, Bare, Single, Double, bare_read, bare_text, bare_word_read, bash_line_word, bash_text, bash_value_read, bash_word_line, double_read, exclamation, holds, holds_rest, home_start, is_bare_byte, is_bare_escaped, is_bare_marked, is_bash_insertable, is_double_kept, is_single_lost, single_read, start_text, word_read}
+use Rattle.cc_replies.specs.BashWords.{BashWordsRead, Cursor, OpenQuote, Bare, Single, Double, bare_read, bare_text, bare_word_read, bash_line_word, bash_text, bash_value_read, bash_word_line, double_read, exclamation, holds, holds_rest, home_start, is_bare_byte, is_bare_escaped, is_bare_marked, is_bash_insertable, is_double_kept, is_single_lost, single_read, start_text, word_read}
 use Rattle.cc_replies.specs.Reply.{lines_from}
 use Rattle.cc_replies.specs.SafeValues.{is_in_locale, is_safe_text, read_in_locale}
+use Rattle.cc_replies.proofs.Beginnings.{follows}
 use Rattle.cc_replies.proofs.FirstLines.{IsWithout}
 use Rattle.cc_replies.proofs.ReplyReadings.{false_not, marked_without, without}
 use Rattle.cc_replies.proofs.SafeReadings.{IsUncontrolled, ReadsLine, feed_first, lines_back, safe_uncontrolled, uncontrolled_without}
@@ -81,19 +82,13 @@ single_reads (byte ∷ text) h =
 
 -- ---- a bare word from its start
 
--- a beginning and the text after it make up the text
-follows : (front text rest : List ℕ) → after front text ≡ Some rest → text ≡ front ++ rest
-unfolding after
-follows [] text rest e = cc
-follows (byte ∷ front) [] rest e = cc
-follows (byte ∷ front) (first ∷ text) rest e = elim (cases_Bool (byte == first)) [
-  | inl is ↦ ap₂ (λ b t. b ∷ t) (sym ((Decides-eqb byte first).0 is)) (follows front text rest (sym (ap (λ b. choose b (after front text) None) is) ∙ e))
-  | inr isnt ↦ let none : None ≡ Some rest = sym (ap (λ b. choose b (after front text) None) isnt) ∙ e in cc
-]
-
-all_right : {X : Type 0} (P : X → Type 0) → (xs ys : List X) → AllByRecursion P (xs ++ ys) → AllByRecursion P ys
-all_right P [] ys h = h
-all_right P (x ∷ xs) ys h = all_right P xs ys h.1
+-- a text without control characters has none after a beginning
+clean_after : (front rest text : List ℕ) → text ≡ front ++ rest → IsUncontrolled text → IsUncontrolled rest
+clean_after front rest text is h = right front (subst (λ t. IsUncontrolled t) is h)
+  where
+    right : (front : List ℕ) → IsUncontrolled (front ++ rest) → IsUncontrolled rest
+    right [] h = h
+    right (byte ∷ front) h = right front h.1
 
 -- an escaped word never begins with `~/`, because its `~` is escaped
 no_home : (word : List ℕ) → after home_start (marked is_bare_marked word) ≡ None
@@ -107,20 +102,12 @@ no_home (byte ∷ word) = by_test (is_bare_marked byte) refl
         let other : (126 == byte) ≡ false = ne_eqb 126 byte (λ same. let both : true ≡ false = ap is_bare_marked same ∙ e in cc) in
         ap (λ b. choose b (after (codes "/") (marked is_bare_marked word)) None) other
 
-start_reads : (word : List ℕ) → IsUncontrolled word → bare_word_read (start_text word) ≡ Some word
-unfolding bare_word_read start_text after
-start_reads word h = elim (option_cases (after home_start word)) [
-  | inl found ↦
-      let below : List ℕ = found.0 in
-      let whole : word ≡ home_start ++ below = follows home_start word below found.1 in
-      let clean : IsUncontrolled below = all_right (λ byte. is_ascii_control byte ≡ false) home_start below (subst (λ t. IsUncontrolled t) whole h) in
-      ap (λ found. bare_word_read (written found)) found.1
-      ∙ ap (option_map (λ word. home_start ++ word)) (bare_reads below clean)
-      ∙ ap Some (sym whole)
-  | inr none ↦
-      ap (λ found. bare_word_read (written found)) none
-      ∙ ap (λ found. reading (marked is_bare_marked word) found) (no_home word)
-      ∙ bare_reads word h
+-- such a word is `~/` and the text below it, or has no unescaped `~`
+pub start_cases : (word : List ℕ) → ((below : List ℕ) × (word ≡ home_start ++ below) × (start_text word ≡ home_start ++ marked is_bare_marked below)) ⊎ (start_text word ≡ marked is_bare_marked word)
+unfolding start_text
+start_cases word = elim (option_cases (after home_start word)) [
+  | inl found ↦ inl (found.0, follows home_start word found.0 found.1, ap written found.1)
+  | inr none ↦ inr (ap written none)
 ]
   where
     written : Option (List ℕ) → List ℕ
@@ -129,6 +116,16 @@ start_reads word h = elim (option_cases (after home_start word)) [
       | None ↦ marked is_bare_marked word
     ]
 
+start_reads : (word : List ℕ) → IsUncontrolled word → bare_word_read (start_text word) ≡ Some word
+unfolding bare_word_read after
+start_reads word h = elim (start_cases word) [
+  | inl home ↦
+      ap bare_word_read home.2
+      ∙ ap (option_map (λ word. home_start ++ word)) (bare_reads home.0 (clean_after home_start home.0 word home.1 h))
+      ∙ ap Some (sym home.1)
+  | inr bare ↦ ap bare_word_read bare ∙ ap (reading (marked is_bare_marked word)) (no_home word) ∙ bare_reads word h
+]
+  where
     reading : List ℕ → Option (List ℕ) → Option (List ℕ)
     reading line found = elim found [
       | Some rest ↦ option_map (λ word. home_start ++ word) (bare_read rest)
@@ -145,15 +142,11 @@ text_reads [] Bare rest h k = start_reads rest h
 text_reads (byte ∷ kept) Bare rest h k = bare_reads rest h
 
 start_without : (word : List ℕ) → IsUncontrolled word → IsWithout line_feed (start_text word)
-unfolding start_text
-start_without word h = elim (option_cases (after home_start word)) [
-  | inl found ↦
-      let clean : IsUncontrolled found.0 = all_right (λ byte. is_ascii_control byte ≡ false) home_start found.0 (subst (λ t. IsUncontrolled t) (follows home_start word found.0 found.1) h) in
-      subst (λ found. IsWithout line_feed (elim found [ Some below ↦ home_start ++ marked is_bare_marked below | None ↦ marked is_bare_marked word ])) (sym found.1)
-      (refl, (refl, marked_without line_feed is_bare_marked found.0 refl (uncontrolled_without line_feed refl found.0 clean)))
-  | inr none ↦
-      subst (λ found. IsWithout line_feed (elim found [ Some below ↦ home_start ++ marked is_bare_marked below | None ↦ marked is_bare_marked word ])) (sym none)
-      (marked_without line_feed is_bare_marked word refl (uncontrolled_without line_feed refl word h))
+start_without word h = elim (start_cases word) [
+  | inl home ↦
+      subst (IsWithout line_feed) (sym home.2)
+      (refl, (refl, marked_without line_feed is_bare_marked home.0 refl (uncontrolled_without line_feed refl home.0 (clean_after home_start home.0 word home.1 h))))
+  | inr bare ↦ subst (IsWithout line_feed) (sym bare) (marked_without line_feed is_bare_marked word refl (uncontrolled_without line_feed refl word h))
 ]
 
 text_without : (kept : List ℕ) (quote : OpenQuote) (rest : List ℕ) → IsUncontrolled rest → IsWithout line_feed (bash_text kept quote rest)
@@ -166,24 +159,25 @@ text_without (byte ∷ kept) Bare rest h = marked_without line_feed is_bare_mark
 -- ---- the law
 
 -- the text of a value that bash can insert
-pub record IsWritten (ascii_only : Bool) (kept : List ℕ) (quote : OpenQuote) (value : List ℕ) : Type 0 where
+pub record IsWritten (cursor : Cursor) (value : List ℕ) : Type 0 where
   pub rest : List ℕ
-  pub found : after kept value ≡ Some rest
-  pub held : holds quote rest ≡ true
-  pub one_line : IsWithout line_feed (bash_text kept quote rest)
-  pub reads : bash_value_read ascii_only kept quote (bash_text kept quote rest) ≡ Some value
+  pub found : after cursor.kept value ≡ Some rest
+  pub held : holds cursor.quote rest ≡ true
+  pub one_line : IsWithout line_feed (bash_text cursor.kept cursor.quote rest)
+  pub reads : bash_value_read cursor (bash_text cursor.kept cursor.quote rest) ≡ Some value
 
-pub is_written : (ascii_only : Bool) (kept : List ℕ) (quote : OpenQuote) (value : List ℕ) → is_bash_insertable ascii_only kept quote value ≡ true
-    → IsWritten ascii_only kept quote value
+pub is_written : (cursor : Cursor) (value : List ℕ) → is_bash_insertable cursor value ≡ true → IsWritten cursor value
 unfolding bash_value_read
-is_written ascii_only kept quote value e =
-    let both = and_parts (is_safe_text value && is_in_locale ascii_only value) (holds_rest quote (after kept value)) e in
-    let safe = and_parts (is_safe_text value) (is_in_locale ascii_only value) both.0 in
+is_written cursor value e =
+    let kept : List ℕ = cursor.kept in
+    let quote : OpenQuote = cursor.quote in
+    let both = and_parts (is_safe_text value && is_in_locale cursor.ascii_only value) (holds_rest quote (after kept value)) e in
+    let safe = and_parts (is_safe_text value) (is_in_locale cursor.ascii_only value) both.0 in
     elim (option_cases (after kept value)) [
       | inl found ↦
           let rest : List ℕ = found.0 in
           let whole : value ≡ kept ++ rest = follows kept value rest found.1 in
-          let clean : IsUncontrolled rest = all_right (λ byte. is_ascii_control byte ≡ false) kept rest (subst (λ t. IsUncontrolled t) whole (safe_uncontrolled value safe.0)) in
+          let clean : IsUncontrolled rest = clean_after kept rest value whole (safe_uncontrolled value safe.0) in
           let held : holds quote rest ≡ true = sym (ap (holds_rest quote) found.1) ∙ both.1 in
           record {
             rest = rest;
@@ -191,28 +185,28 @@ is_written ascii_only kept quote value e =
             held = held;
             one_line = text_without kept quote rest clean;
             reads =
-                ap (λ read. option_and_then (read_in_locale ascii_only) (option_map (λ rest. kept ++ rest) read)) (text_reads kept quote rest clean held)
-                ∙ ap (read_in_locale ascii_only) (sym whole)
+                ap (λ read. option_and_then (read_in_locale cursor.ascii_only) (option_map (λ rest. kept ++ rest) read)) (text_reads kept quote rest clean held)
+                ∙ ap (read_in_locale cursor.ascii_only) (sym whole)
                 ∙ ap (λ b. cond b (Some value) None) safe.1;
           }
       | inr none ↦ let both : false ≡ true = sym (ap (holds_rest quote) none) ∙ both.1 in cc
     ]
 
-word_reads : (ascii_only : Bool) (kept : List ℕ) (quote : OpenQuote) (value : List ℕ) → is_bash_insertable ascii_only kept quote value ≡ true
-    → ReadsLine (IsWithout line_feed) (bash_value_read ascii_only kept quote) (bash_word_line kept quote value) (Some value)
+word_reads : (cursor : Cursor) (value : List ℕ) → is_bash_insertable cursor value ≡ true
+    → ReadsLine (IsWithout line_feed) (bash_value_read cursor) (bash_word_line cursor value) (Some value)
 unfolding bash_word_line
-word_reads ascii_only kept quote value e =
-    let written = is_written ascii_only kept quote value e in
+word_reads cursor value e =
+    let written = is_written cursor value e in
     record {
-      body = bash_text kept quote written.rest;
-      whole = ap (λ found. elim found [ Some rest ↦ bash_text kept quote rest ++ codes "\n" | None ↦ [] ]) written.found;
+      body = bash_text cursor.kept cursor.quote written.rest;
+      whole = ap (λ found. elim found [ Some rest ↦ bash_text cursor.kept cursor.quote rest ++ codes "\n" | None ↦ [] ]) written.found;
       one_line = written.one_line;
       reads = written.reads;
     }
 
-pub words_read_back : (ascii_only : Bool) (kept : List ℕ) (quote : OpenQuote) (candidates : List CompletionCandidate) → BashWordsRead ascii_only kept quote candidates
+pub words_read_back : (cursor : Cursor) (candidates : List CompletionCandidate) → BashWordsRead cursor candidates
 unfolding BashWordsRead lines_from
-words_read_back ascii_only kept quote candidates =
-    lines_back (IsWithout line_feed) (lines_from []) refl feed_first (bash_value_read ascii_only kept quote) (λ candidate. Some candidate.value)
-    (λ candidate. is_bash_insertable ascii_only kept quote candidate.value)
-    (λ candidate. bash_word_line kept quote candidate.value) (λ candidate e. word_reads ascii_only kept quote candidate.value e) candidates
+words_read_back cursor candidates =
+    lines_back (IsWithout line_feed) (lines_from []) refl feed_first (bash_value_read cursor) (λ candidate. Some candidate.value)
+    (λ candidate. is_bash_insertable cursor candidate.value)
+    (λ candidate. bash_word_line cursor candidate.value) (λ candidate e. word_reads cursor candidate.value e) candidates

@@ -1,52 +1,14 @@
 -- A text is cut at a mark, and whitespace is cut off.
-use Rattle.std.specs.Borrow.{Bor}
-use Rattle.std.specs.Cmp.Lexicographic.{pointwise}
-use Rattle.std.specs.Option.{MatchOption, option_copied}
-use Rattle.std.specs.Prelude.{nat_eq}
-use Rattle.std.proofs.Common.{◌≡◌, ◌≢◌, ◌==◌, ◌≤◌, ◌<◌, ◌+◌, ℕ, Bool, true, false, cond, List, [], ◌∷◌, ◌++◌, length, take, drop, get_or, Option, Some, None, inl, inr, refl, sym, ◌∙◌, ap, subst, arith, append_assoc, append-nil, reverse}
+use Rattle.std.proofs.Common.{◌≡◌, ◌==◌, ◌≤◌, ◌<◌, ◌+◌, ℕ, true, false, List, [], ◌∷◌, ◌++◌, length, take, drop, get_or, Option, Some, None, inl, inr, refl, sym, ◌∙◌, ap, subst, arith, append_assoc, append-nil, reverse}
 use Rattle.std.proofs.lemmas.Bool.{eq-eqb}
-use Rattle.std.proofs.lemmas.Bool.Decides.{Decides-eqb, eqb_tells}
+use Rattle.std.proofs.lemmas.Bool.Decides.{eqb_tells}
 use Rattle.std.proofs.lemmas.List.{drop_all, drop_more, nil_from_length, reverse-append, reverse-reverse, take_more}
-use Rattle.std.proofs.lemmas.Slice.Eq.{strip_prefix_is}
-use Rattle.cc_base.proofs.Cases.{choose, option_cases}
+use Rattle.cc_base.proofs.Cases.{choose}
 use Rattle.cc_base.proofs.Finding.{Cut, after-none, cut_at-none, no_blank_first, with_front-append, with_front-nil}
 use Rattle.cc_base.specs.Bytes.{is_blank, line_feed}
 use Rattle.cc_base.specs.Found.{after, cut_at, pieces_from, with_front, without_blanks}
 use Rattle.cc_replies.specs.GivenLines.{without_last_blanks}
 use Rattle.cc_replies.proofs.FirstLines.{other_side}
-
--- ---- a given beginning
-
-after_cons : (byte first : ℕ) (front text : List ℕ) (b : Bool) → (byte == first) ≡ b → after (byte ∷ front) (first ∷ text) ≡ cond b (after front text) None
-unfolding after
-after_cons byte first front text true e = rw (after, e) refl
-after_cons byte first front text false e = rw (after, e) refl
-
-after-found : (front rest : List ℕ) → after front (front ++ rest) ≡ Some rest
-unfolding after
-after-found [] rest = refl
-after-found (byte ∷ front) rest = after_cons byte byte front (front ++ rest) true (eq-eqb byte byte refl) ∙ after-found front rest
-
-after-text : (front text rest : List ℕ) → after front text ≡ Some rest → text ≡ front ++ rest
-unfolding after
-after-text [] text rest h = cc
-after-text (byte ∷ front) [] rest h = cc
-after-text (byte ∷ front) (first ∷ text) rest h = elim (eqb_tells byte first) [
-  | inl same ↦
-      let e : text ≡ front ++ rest = after-text front text rest (sym (after_cons byte first front text true same.0) ∙ h) in
-      cc
-  | inr other ↦ let e : None ≡ Some rest = sym (after_cons byte first front text false other.0) ∙ h in cc
-]
-
-stripped_by : (front text : List ℕ) (r : Option (Bor (List ℕ))) → MatchOption r ((rest : List ℕ) → text ≢ front ++ rest) (λ x. text ≡ front ++ x.now) → option_copied r ≡ after front text
-stripped_by front text (Some x) h = sym (ap (after front) h ∙ after-found front x.now)
-stripped_by front text None h = elim (option_cases (after front text)) [
-  | inl found ↦ absurd (h found.0 (after-text front text found.0 found.1))
-  | inr none ↦ sym none
-]
-
-pub after_stripped : (front text : List ℕ) (r : Option (Bor (List ℕ))) → MatchOption r (pointwise nat_eq (take (length front) text) front ≡ false) (λ x. (pointwise nat_eq (take (length front) text) front ≡ true) × (x.now ≡ drop (length front) text) × (length x.now + length front ≡ length text)) → option_copied r ≡ after front text
-after_stripped front text r h = stripped_by front text r (strip_prefix_is Decides-eqb text front r h)
 
 -- ---- the first occurrence of a mark
 

@@ -1,7 +1,8 @@
 -- The first line of a text.
 use Rattle.cc_base.specs.Bytes.{line_feed}
-use Rattle.std.proofs.Common.{◌≡◌, ◌≢◌, ◌==◌, ℕ, true, false, suc, ◌<◌, List, [], ◌∷◌, ◌++◌, Some, None, get_or, length, refl, sym, ◌∙◌, ap, subst, arith, append-nil}
+use Rattle.std.proofs.Common.{◌≡◌, ◌≢◌, ◌==◌, ℕ, true, false, suc, ◌<◌, List, [], ◌∷◌, ◌++◌, Bor, Option, Some, None, unwrap_or, get_or, length, refl, sym, ◌∙◌, ap, subst, arith, append-nil}
 use Rattle.std.specs.List.{AllByRecursion}
+use Rattle.std.specs.Option.{MatchOption}
 use Rattle.std.proofs.lemmas.Bool.{ne_eqb, cases_Bool}
 use Rattle.std.proofs.lemmas.Bool.Decides.{Decides-eqb}
 use Rattle.std.proofs.Common.{inl, inr}
@@ -9,12 +10,12 @@ use Rattle.cc_base.specs.Found.{after, with_front, cut_at}
 use Rattle.cc_replies.specs.Reply.{carriage_return, without_return, first_line}
 use Rattle.cc_base.proofs.Finding.{Cut, Lacks, after-none, cut_at-none, past_lacking}
 
-pub return_off : (line : List ℕ) → without_return (line ++ carriage_return ∷ []) ≡ line
+return_off : (line : List ℕ) → without_return (line ++ carriage_return ∷ []) ≡ line
 unfolding without_return
 return_off (byte ∷ next ∷ line) = ap (λ t. byte ∷ t) (return_off (next ∷ line))
 return_off _ = refl
 
-pub no_return : (line : List ℕ) → ((front : List ℕ) → line ≢ front ++ carriage_return ∷ []) → without_return line ≡ line
+no_return : (line : List ℕ) → ((front : List ℕ) → line ≢ front ++ carriage_return ∷ []) → without_return line ≡ line
 unfolding without_return
 no_return [] h = refl
 no_return (byte ∷ []) h = elim (cases_Bool (byte == carriage_return)) [
@@ -22,6 +23,13 @@ no_return (byte ∷ []) h = elim (cases_Bool (byte == carriage_return)) [
   | inr isnt ↦ rw (without_return, isnt) refl
 ]
 no_return (byte ∷ next ∷ line) h = ap (λ t. byte ∷ t) (no_return (next ∷ line) (λ front e. h (byte ∷ front) (ap (λ t. byte ∷ t) e)))
+
+-- what a search for a carriage return at the end leaves of the line
+pub return_cut : (line : Bor (List ℕ)) (found : Option (Bor (List ℕ)))
+    → MatchOption found ((front : List ℕ) → line.now ≢ front ++ carriage_return ∷ []) (λ front. line.now ≡ front.now ++ carriage_return ∷ [])
+    → (unwrap_or found line).now ≡ without_return line.now
+return_cut line (Some front) is = sym (ap without_return is ∙ return_off front.now)
+return_cut line None isnt = sym (no_return line.now isnt)
 
 -- a text without the byte at any index lacks the byte
 pub lacks_by_index : (special : ℕ) (text : List ℕ) → ((k : ℕ) → k < length text → get_or text k 0 ≢ special) → Lacks special text

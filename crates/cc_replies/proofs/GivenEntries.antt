@@ -58,21 +58,17 @@ help_some description text help utf8 same shown some =
 abbrev pub IsEntry : Entry → List ℕ → List ℕ → Type 0
 IsEntry entry value description = entry ≡ record { value = value; description = description }
 
+-- it counts if its value does
+given_when : (entry : Entry) (value description : List ℕ) (counts : Bool) → IsEntry entry value description → (is_utf8 value && is_given_text value) ≡ counts
+    → cond counts (record { value = value; description = description } ∷ []) [] ≡ if_given entry
+given_when entry value description counts is e =
+    sym (ap if_given is ∙ ap (λ b. cond b (record { value = value; description = description } ∷ []) []) e)
+
 pub not_text : (entry : Entry) (value description : List ℕ) → IsEntry entry value description → is_utf8 value ≡ false → [] ≡ if_given entry
-not_text entry value description is refused =
-    sym (ap if_given is ∙ ap (λ b. cond (b && is_given_text value) (record { value = value; description = description } ∷ []) []) refused)
+not_text entry value description is refused = given_when entry value description false is (ap (λ b. b && is_given_text value) refused)
 
-pub not_given : (entry : Entry) (value text description : List ℕ) → IsEntry entry value description → text ≡ value → is_utf8 value ≡ true → is_given_text text ≡ false → [] ≡ if_given entry
-not_given entry value text description is same utf8 refused =
-    sym (ap if_given is
-    ∙ ap (λ b. cond (b && is_given_text value) (record { value = value; description = description } ∷ []) []) utf8
-    ∙ ap (λ t. cond (is_given_text t) (record { value = value; description = description } ∷ []) []) (sym same)
-    ∙ ap (λ b. cond b (record { value = value; description = description } ∷ []) []) refused)
-
-pub is_given : (entry : Entry) (value text description : List ℕ) → IsEntry entry value description → text ≡ value → is_utf8 value ≡ true → is_given_text text ≡ true → record { value = text; description = description } ∷ [] ≡ if_given entry
-is_given entry value text description is same utf8 fits =
-    ap (λ t. record { value = t; description = description } ∷ []) same
-    ∙ sym (ap if_given is
-    ∙ ap (λ b. cond (b && is_given_text value) (record { value = value; description = description } ∷ []) []) utf8
-    ∙ ap (λ t. cond (is_given_text t) (record { value = value; description = description } ∷ []) []) (sym same)
-    ∙ ap (λ b. cond b (record { value = value; description = description } ∷ []) []) fits)
+pub is_given : (entry : Entry) (value text description : List ℕ) (counts : Bool) → IsEntry entry value description → text ≡ value → is_utf8 value ≡ true → is_given_text text ≡ counts
+    → cond counts (record { value = text; description = description } ∷ []) [] ≡ if_given entry
+is_given entry value text description counts is same utf8 fits =
+    ap (λ t. cond counts (record { value = t; description = description } ∷ []) []) same
+    ∙ given_when entry value description counts is (ap (λ b. b && is_given_text value) utf8 ∙ ap is_given_text (sym same) ∙ fits)

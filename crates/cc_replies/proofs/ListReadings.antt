@@ -1,6 +1,7 @@
 -- The lines of bash's list are read back, and two of them differ.
 use Rattle.std.proofs.Common.{◌≡◌, ◌≢◌, ◌⊎◌, ◌==◌, ◌&&◌, ◌-◌, ℕ, zero, suc, Bool, true, false, cond, List, [], ◌∷◌, ◌++◌, Option, Some, None, map, filter, option_map, replicate, codes, inl, inr, refl, sym, ◌∙◌, ap, ap₂, subst, arith, append-nil, append_assoc, flat_map, ◌||◌}
 use Rattle.std.proofs.lemmas.Bool.{and_parts, ne_eqb, or_parts}
+use Rattle.std.proofs.lemmas.List.Folds.{Any-from_list_any}
 use Rattle.std.proofs.lemmas.Slice.Eq.{bytes_eq-Decides}
 use Rattle.std.specs.List.{find, list_all, list_any}
 use Rattle.std.specs.Option.{option_and_then}
@@ -9,31 +10,23 @@ use Rattle.std.specs.Fmt.{char_count, take_chars}
 use Rattle.cc_base.specs.Bytes.{backslash, backtick, dollar, line_feed, single_quote}
 use Rattle.cc_base.specs.Found.{after, with_front}
 use Rattle.cc_base.proofs.Cases.{choose, option_cases}
-use Rattle.cc_base.proofs.Members.{AllByRecursion-append, Contains-from_IsIn, IsIn, IsIn-map, map-IsIn}
+use Rattle.cc_base.proofs.Finding.{with_front-append, with_front-nil}
+use Rattle.cc_base.proofs.Lines.{regroup_six}
+use Rattle.cc_base.proofs.Members.{AllByRecursion-append, Contains-from_IsIn, IsIn, IsIn-from_Contains, IsIn-map, map-IsIn}
 use Rattle.cc_candidates.specs.declared.candidate.CompletionCandidate.{CompletionCandidate}
 use Rattle.cc_quote.specs.BashDouble.{is_double_marked}
 use Rattle.cc_quote.specs.Escapes.{marked}
 use Rattle.cc_replies.specs.BashList.{BashListRead, HasTwo, bash_list_in, bash_list_reply, before_closing, closed_word, closing_quote, cut_description, described_text, description_of, description_read, has_other, has_two, is_escape, is_listed_word, list_line, list_line_read, list_room, longest_word, shown_in, shown_with, space, width_left, word_cut, word_end}
-use Rattle.cc_replies.specs.BashWords.{OpenQuote, Bare, Single, Double, bare_read, bare_text, bare_word_read, bash_line_word, bash_text, bash_value_read, bash_word_line, bash_words_reply, double_read, holds, home_start, is_bare_marked, is_bash_insertable, is_single_lost, single_read, start_text, word_read}
+use Rattle.cc_replies.specs.BashWords.{Cursor, OpenQuote, Bare, Single, Double, bare_read, bare_text, bare_word_read, bash_line_word, bash_text, bash_value_read, bash_word_line, bash_words_reply, double_read, holds, home_start, is_bare_marked, is_bash_insertable, is_single_lost, single_read, start_text, word_read}
 use Rattle.cc_replies.specs.Reply.{Shown, lines_from}
 use Rattle.cc_replies.specs.SafeValues.{is_in_locale, read_in_locale, safe_help}
-use Rattle.cc_replies.proofs.BashReadings.{is_written}
+use Rattle.cc_replies.proofs.BashReadings.{is_written, start_cases}
 use Rattle.cc_replies.proofs.Characters.{take_chars_all}
 use Rattle.cc_replies.proofs.FirstLines.{IsWithout}
 use Rattle.cc_replies.proofs.ReplyReadings.{IsHelpWithout, false_not}
 use Rattle.cc_replies.proofs.SafeReadings.{ReadsLine, feed_first, lines_back, safe_help_without}
 
 -- ---- the end of a word
-
-with_front_nil : (cut : Option (List ℕ × List ℕ)) → with_front [] cut ≡ cut
-unfolding with_front
-with_front_nil None = refl
-with_front_nil (Some (before, rest)) = refl
-
-with_front_more : (byte : ℕ) (front : List ℕ) (cut : Option (List ℕ × List ℕ)) → with_front (byte ∷ []) (with_front front cut) ≡ with_front (byte ∷ front) cut
-unfolding with_front
-with_front_more byte front None = refl
-with_front_more byte front (Some (before, rest)) = refl
 
 -- no word ends within the text
 abbrev GoesOn : OpenQuote → List ℕ → Type 0
@@ -47,7 +40,7 @@ module _ (quote : OpenQuote) (is_marked : ℕ → Bool) (ends : is_marked (word_
 
   marked_goes : (text : List ℕ) → GoesOn quote (marked is_marked text)
   unfolding word_cut
-  marked_goes [] rest = sym (with_front_nil (word_cut quote false rest))
+  marked_goes [] rest = sym (with_front-nil (word_cut quote false rest))
   marked_goes (byte ∷ text) rest = by_test (is_marked byte) refl (marked_goes text rest)
     where
       end : Option (List ℕ × List ℕ)
@@ -63,46 +56,38 @@ module _ (quote : OpenQuote) (is_marked : ℕ → Bool) (ends : is_marked (word_
           ap (λ b. choose b (Some ([], byte ∷ after_byte)) (with_front (backslash ∷ []) (word_cut quote (is_escape quote backslash) (byte ∷ after_byte)))) apart
           ∙ ap (λ b. with_front (backslash ∷ []) (word_cut quote b (byte ∷ after_byte))) (escape backslash)
           ∙ ap (λ cut. with_front (backslash ∷ []) (with_front (byte ∷ []) cut)) below
-          ∙ ap (with_front (backslash ∷ [])) (with_front_more byte (marked is_marked text) end)
-          ∙ with_front_more backslash (byte ∷ marked is_marked text) end
+          ∙ ap (with_front (backslash ∷ [])) (with_front-append (byte ∷ []) (marked is_marked text) end)
+          ∙ with_front-append (backslash ∷ []) (byte ∷ marked is_marked text) end
       by_test false e below =
           ap (λ b. choose b (Some ([], after_byte)) (with_front (byte ∷ []) (word_cut quote (is_escape quote byte) after_byte))) (other byte (word_end quote) ends e)
           ∙ ap (λ b. with_front (byte ∷ []) (word_cut quote b after_byte)) (escape byte ∙ other byte backslash escapes e)
           ∙ ap (with_front (byte ∷ [])) below
-          ∙ with_front_more byte (marked is_marked text) end
+          ∙ with_front-append (byte ∷ []) (marked is_marked text) end
 
 bare_goes : (text : List ℕ) → GoesOn Bare (marked is_bare_marked text)
 bare_goes text = marked_goes Bare is_bare_marked refl refl refl (λ byte. refl) text
 
 start_goes : (word : List ℕ) → GoesOn Bare (start_text word)
-unfolding start_text word_cut
-start_goes word rest = elim (option_cases (after home_start word)) [
-  | inl found ↦
-      let below : List ℕ = marked is_bare_marked found.0 in
-      subst (λ found. word_cut Bare false (written found ++ rest) ≡ with_front (written found) (word_cut Bare false rest)) (sym found.1)
-      (ap (λ cut. with_front (codes "~") (with_front (codes "/") cut)) (bare_goes found.0 rest)
-      ∙ ap (with_front (codes "~")) (with_front_more 47 below (word_cut Bare false rest))
-      ∙ with_front_more 126 (codes "/" ++ below) (word_cut Bare false rest))
-  | inr none ↦
-      subst (λ found. word_cut Bare false (written found ++ rest) ≡ with_front (written found) (word_cut Bare false rest)) (sym none)
-      (bare_goes word rest)
+unfolding word_cut
+start_goes word rest = elim (start_cases word) [
+  | inl home ↦
+      let below : List ℕ = marked is_bare_marked home.0 in
+      subst (λ text. word_cut Bare false (text ++ rest) ≡ with_front text (word_cut Bare false rest)) (sym home.2)
+      (ap (λ cut. with_front (codes "~") (with_front (codes "/") cut)) (bare_goes home.0 rest)
+      ∙ ap (with_front (codes "~")) (with_front-append (47 ∷ []) below (word_cut Bare false rest))
+      ∙ with_front-append (126 ∷ []) (codes "/" ++ below) (word_cut Bare false rest))
+  | inr bare ↦ subst (λ text. word_cut Bare false (text ++ rest) ≡ with_front text (word_cut Bare false rest)) (sym bare) (bare_goes word rest)
 ]
-  where
-    written : Option (List ℕ) → List ℕ
-    written found = elim found [
-      | Some below ↦ home_start ++ marked is_bare_marked below
-      | None ↦ marked is_bare_marked word
-    ]
 
 single_goes : (text : List ℕ) → list_all (λ byte. not (is_single_lost byte)) text ≡ true → GoesOn Single text
 unfolding word_cut
-single_goes [] h rest = sym (with_front_nil (word_cut Single false rest))
+single_goes [] h rest = sym (with_front-nil (word_cut Single false rest))
 single_goes (byte ∷ text) h rest =
     let parts = and_parts (not (is_single_lost byte)) (list_all (λ byte. not (is_single_lost byte)) text) h in
     let first = or_parts (byte == single_quote || byte == dollar) (byte == backtick) (false_not (is_single_lost byte) parts.0) in
     ap (λ b. choose b (Some ([], text ++ rest)) (with_front (byte ∷ []) (word_cut Single false (text ++ rest)))) (or_parts (byte == single_quote) (byte == dollar) first.0).0
     ∙ ap (with_front (byte ∷ [])) (single_goes text parts.1 rest)
-    ∙ with_front_more byte text (word_cut Single false rest)
+    ∙ with_front-append (byte ∷ []) text (word_cut Single false rest)
 
 text_goes : (kept : List ℕ) (quote : OpenQuote) (rest : List ℕ) → holds quote rest ≡ true → GoesOn quote (bash_text kept quote rest)
 unfolding bash_text bare_text
@@ -163,16 +148,8 @@ find_in {X} test (y ∷ xs) x e = by_test (test y) refl e (find_in test xs x)
     by_test true is e below = (inl (ap got e), subst (λ z. test z ≡ true) (ap got e) is)
     by_test false is e below = (inr (below e).0, (below e).1)
 
-abbrev Passing : {X : Type 0} → (X → Bool) → List X → Type 0
-Passing {X} test xs = (x : X) × (IsIn xs x × (test x ≡ true))
-
-any_in : {X : Type 0} (test : X → Bool) (xs : List X) → list_any test xs ≡ true → Passing test xs
-any_in test [] e = cc
-any_in test (y ∷ xs) e = by_test (test y) refl e (any_in test xs)
-  where
-    by_test : (b : Bool) → test y ≡ b → (b || list_any test xs) ≡ true → (list_any test xs ≡ true → Passing test xs) → Passing test (y ∷ xs)
-    by_test true is e below = (y, (inl refl, is))
-    by_test false is e below = ((below e).0, (inr (below e).1.0, (below e).1.1))
+any_in : {X : Type 0} (test : X → Bool) (xs : List X) → list_any test xs ≡ true → (x : X) × (IsIn xs x × (test x ≡ true))
+any_in test xs e = let any = Any-from_list_any test xs e in (any.1, (IsIn-from_Contains xs any.1 (any.0, any.2, any.3), any.4))
 
 IsIn-filter : {X : Type 0} (test : X → Bool) (xs : List X) (x : X) → IsIn xs x → test x ≡ true → IsIn (filter test xs) x
 IsIn-filter test [] x h e = absurd h
@@ -206,12 +183,16 @@ two_words passes candidates e = elim (option_cases (find (λ candidate. passes c
 abbrev shown_as : List ℕ → Option (List ℕ) → Shown
 shown_as value description = record { value = value; help = description }
 
-module _ (ascii_only : Bool) (kept : List ℕ) (quote : OpenQuote) where
+abbrev value_in : Option Shown → List ℕ
+value_in None = []
+value_in (Some shown) = shown.value
+
+module _ (cursor : Cursor) where
   abbrev read : List ℕ → Option Shown
-  read line = list_line_read ascii_only kept quote line
+  read line = list_line_read cursor line
 
   abbrev value_of : List ℕ → Option (List ℕ)
-  value_of line = bash_value_read ascii_only kept quote line
+  value_of line = bash_value_read cursor line
 
   -- a line by where its word ends
   abbrev tells : List ℕ → Option (List ℕ × List ℕ) → Option Shown
@@ -220,24 +201,21 @@ module _ (ascii_only : Bool) (kept : List ℕ) (quote : OpenQuote) where
     | None ↦ option_map (λ value. shown_as value None) (value_of line)
   ]
 
-  word_alone : (text value : List ℕ) → GoesOn quote text → value_of text ≡ Some value → read text ≡ Some (shown_as value None)
+  word_alone : (text value : List ℕ) → GoesOn cursor.quote text → value_of text ≡ Some value → read text ≡ Some (shown_as value None)
   unfolding list_line_read word_cut with_front
   word_alone text value goes reads =
-      ap (tells text) (ap (word_cut quote false) (sym (append-nil text)) ∙ goes [])
+      ap (tells text) (ap (word_cut cursor.quote false) (sym (append-nil text)) ∙ goes [])
       ∙ ap (option_map (λ value. shown_as value None)) reads
 
-  regrouped : (a b c d e f : List ℕ) → a ++ b ++ c ++ d ++ e ++ f ≡ a ++ (b ++ (c ++ (d ++ (e ++ f))))
-  regrouped a b c d e f = append_assoc (a ++ b ++ c ++ d) e f ∙ append_assoc (a ++ b ++ c) d (e ++ f) ∙ append_assoc (a ++ b) c (d ++ (e ++ f)) ∙ append_assoc a b (c ++ (d ++ (e ++ f)))
-
-  word_described : (text value description : List ℕ) (longest : ℕ) → GoesOn quote text → value_of text ≡ Some value
-      → read (described_text (text ++ closing_quote quote) longest description) ≡ Some (shown_as value (Some description))
+  word_described : (text value description : List ℕ) (longest : ℕ) → GoesOn cursor.quote text → value_of text ≡ Some value
+      → read (described_text (text ++ closing_quote cursor.quote) longest description) ≡ Some (shown_as value (Some description))
   unfolding list_line_read with_front
   word_described text value description longest goes reads =
-      let count : ℕ = longest - char_count (text ++ closing_quote quote) in
-      let end = ends quote count (description ++ codes ")") in
-      let line : List ℕ = text ++ (closing_quote quote ++ (replicate count space ++ (codes "  (" ++ (description ++ codes ")")))) in
-      ap read (regrouped text (closing_quote quote) (replicate count space) (codes "  (") description (codes ")"))
-      ∙ ap (tells line) (goes (closing_quote quote ++ (replicate count space ++ (codes "  (" ++ (description ++ codes ")")))) ∙ ap (with_front text) end.1.0)
+      let count : ℕ = longest - char_count (text ++ closing_quote cursor.quote) in
+      let end = ends cursor.quote count (description ++ codes ")") in
+      let line : List ℕ = text ++ (closing_quote cursor.quote ++ (replicate count space ++ (codes "  (" ++ (description ++ codes ")")))) in
+      ap read (regroup_six text (closing_quote cursor.quote) (replicate count space) (codes "  (") description (codes ")"))
+      ∙ ap (tells line) (goes (closing_quote cursor.quote ++ (replicate count space ++ (codes "  (" ++ (description ++ codes ")")))) ∙ ap (with_front text) end.1.0)
       ∙ ap₂ shown_with (ap value_of (append-nil text) ∙ reads) (end.1.1 ∙ closed description)
 
   -- ---- no line feed
@@ -251,15 +229,15 @@ module _ (ascii_only : Bool) (kept : List ℕ) (quote : OpenQuote) where
   spaces_without zero = tt
   spaces_without (suc count) = (refl, spaces_without count)
 
-  in_locale_without : (description : Option (List ℕ)) → IsHelpWithout line_feed description → IsHelpWithout line_feed (option_and_then (read_in_locale ascii_only) description)
+  in_locale_without : (description : Option (List ℕ)) → IsHelpWithout line_feed description → IsHelpWithout line_feed (option_and_then (read_in_locale cursor.ascii_only) description)
   in_locale_without None h = tt
-  in_locale_without (Some description) h = by_test (is_in_locale ascii_only description)
+  in_locale_without (Some description) h = by_test (is_in_locale cursor.ascii_only description)
     where
       by_test : (b : Bool) → IsHelpWithout line_feed (cond b (Some description) None)
       by_test true = h
       by_test false = tt
 
-  description_without : (help : Option (List ℕ)) (description : List ℕ) → description_of ascii_only help ≡ Some description → IsWithout line_feed description
+  description_without : (help : Option (List ℕ)) (description : List ℕ) → description_of cursor.ascii_only help ≡ Some description → IsWithout line_feed description
   unfolding description_of
   description_without help description e = subst (λ d. IsHelpWithout line_feed d) e (in_locale_without (safe_help help) (safe_help_without line_feed refl help))
 
@@ -282,89 +260,93 @@ module _ (ascii_only : Bool) (kept : List ℕ) (quote : OpenQuote) where
 
   -- ---- the law
 
-  line_reads : (longest room : ℕ) (candidate : CompletionCandidate) → is_bash_insertable ascii_only kept quote candidate.value ≡ true
-      → ReadsLine (IsWithout line_feed) read (list_line ascii_only kept quote longest room candidate)
-      (Some (shown_as candidate.value (option_map (cut_description room) (description_of ascii_only candidate.help))))
-  unfolding list_line closed_word bash_word_line
-  line_reads longest room candidate e =
-      let written = is_written ascii_only kept quote candidate.value e in
-      let text : List ℕ = bash_text kept quote written.rest in
-      let goes = text_goes kept quote written.rest written.held in
-      elim (option_cases (description_of ascii_only candidate.help)) [
-        | inl found ↦
-            let description : List ℕ = cut_description room found.0 in
-            record {
-              body = described_text (text ++ closing_quote quote) longest description;
-              whole =
-                  ap (λ d. elim d [ Some d ↦ described_text (closed_word kept quote candidate.value) longest (cut_description room d) ++ codes "\n" | None ↦ bash_word_line kept quote candidate.value ]) found.1
-                  ∙ ap (λ rest. described_text (elim rest [ Some rest ↦ bash_text kept quote rest ++ closing_quote quote | None ↦ [] ]) longest description ++ codes "\n") written.found;
-              one_line =
-                  described_without (text ++ closing_quote quote) description longest
-                  (AllByRecursion-append (λ byte. (byte == line_feed) ≡ false) text (closing_quote quote) written.one_line (closing_without quote))
-                  (cut_without room found.0 (description_without candidate.help found.0 found.1));
-              reads =
-                  word_described text candidate.value description longest goes written.reads
-                  ∙ ap (λ d. Some (shown_as candidate.value (option_map (cut_description room) d))) (sym found.1);
-            }
-        | inr none ↦ record {
-          body = text;
-          whole =
-              ap (λ d. elim d [ Some d ↦ described_text (closed_word kept quote candidate.value) longest (cut_description room d) ++ codes "\n" | None ↦ bash_word_line kept quote candidate.value ]) none
-              ∙ ap (λ rest. elim rest [ Some rest ↦ bash_text kept quote rest ++ codes "\n" | None ↦ [] ]) written.found;
-          one_line = written.one_line;
-          reads =
-              word_alone text candidate.value goes written.reads
-              ∙ ap (λ d. Some (shown_as candidate.value (option_map (cut_description room) d))) (sym none);
-        }
-      ]
-
-  word_line_reads : (candidate : CompletionCandidate) → is_bash_insertable ascii_only kept quote candidate.value ≡ true
-      → ReadsLine (IsWithout line_feed) read (bash_word_line kept quote candidate.value) (Some (shown_as candidate.value None))
+  word_line_reads : (candidate : CompletionCandidate) → is_bash_insertable cursor candidate.value ≡ true
+      → ReadsLine (IsWithout line_feed) read (bash_word_line cursor candidate.value) (Some (shown_as candidate.value None))
   unfolding bash_word_line
   word_line_reads candidate e =
-      let written = is_written ascii_only kept quote candidate.value e in
+      let written = is_written cursor candidate.value e in
       record {
-        body = bash_text kept quote written.rest;
-        whole = ap (λ rest. elim rest [ Some rest ↦ bash_text kept quote rest ++ codes "\n" | None ↦ [] ]) written.found;
+        body = bash_text cursor.kept cursor.quote written.rest;
+        whole = ap (λ rest. elim rest [ Some rest ↦ bash_text cursor.kept cursor.quote rest ++ codes "\n" | None ↦ [] ]) written.found;
         one_line = written.one_line;
-        reads = word_alone (bash_text kept quote written.rest) candidate.value (text_goes kept quote written.rest written.held) written.reads;
+        reads = word_alone (bash_text cursor.kept cursor.quote written.rest) candidate.value (text_goes cursor.kept cursor.quote written.rest written.held) written.reads;
       }
 
-  abbrev inserts : CompletionCandidate → Bool
-  inserts candidate = is_bash_insertable ascii_only kept quote candidate.value
+  line_reads : (longest room : ℕ) (candidate : CompletionCandidate) → is_bash_insertable cursor candidate.value ≡ true
+      → ReadsLine (IsWithout line_feed) read (list_line cursor longest room candidate)
+      (Some (shown_as candidate.value (option_map (cut_description room) (description_of cursor.ascii_only candidate.help))))
+  unfolding list_line closed_word
+  line_reads longest room candidate e = elim (option_cases (description_of cursor.ascii_only candidate.help)) [
+    | inl found ↦
+        let written = is_written cursor candidate.value e in
+        let text : List ℕ = bash_text cursor.kept cursor.quote written.rest in
+        let description : List ℕ = cut_description room found.0 in
+        record {
+          body = described_text (text ++ closing_quote cursor.quote) longest description;
+          whole =
+              ap line_with found.1
+              ∙ ap (λ rest. described_text (elim rest [ Some rest ↦ bash_text cursor.kept cursor.quote rest ++ closing_quote cursor.quote | None ↦ [] ]) longest description ++ codes "\n") written.found;
+          one_line =
+              described_without (text ++ closing_quote cursor.quote) description longest
+              (AllByRecursion-append (λ byte. (byte == line_feed) ≡ false) text (closing_quote cursor.quote) written.one_line (closing_without cursor.quote))
+              (cut_without room found.0 (description_without candidate.help found.0 found.1));
+          reads =
+              word_described text candidate.value description longest (text_goes cursor.kept cursor.quote written.rest written.held) written.reads
+              ∙ sym (ap shown_with_help found.1);
+        }
+    | inr none ↦
+        let word = word_line_reads candidate e in
+        record {
+          body = word.body;
+          whole = ap line_with none ∙ word.whole;
+          one_line = word.one_line;
+          reads = word.reads ∙ sym (ap shown_with_help none);
+        }
+  ]
+    where
+      line_with : Option (List ℕ) → List ℕ
+      line_with description = elim description [
+        | Some d ↦ described_text (closed_word cursor candidate.value) longest (cut_description room d) ++ codes "\n"
+        | None ↦ bash_word_line cursor candidate.value
+      ]
 
-  list_reads : (longest room : ℕ) (candidates : List CompletionCandidate)
-      → map read (lines_from [] (bash_list_in ascii_only kept quote longest room candidates)) ≡ map (λ candidate. Some (shown_in ascii_only room candidate)) (filter inserts candidates)
+      shown_with_help : Option (List ℕ) → Option Shown
+      shown_with_help description = Some (shown_as candidate.value (option_map (cut_description room) description))
+
+  abbrev inserts : CompletionCandidate → Bool
+  inserts candidate = is_bash_insertable cursor candidate.value
+
+  -- the lines are read as the candidates that bash can insert
+  abbrev AreRead : ℕ → List CompletionCandidate → List (List ℕ) → Type 0
+  AreRead room candidates lines = map read lines ≡ map (λ candidate. Some (shown_in cursor.ascii_only room candidate)) (filter inserts candidates)
+
+  list_reads : (longest room : ℕ) (candidates : List CompletionCandidate) → AreRead room candidates (lines_from [] (bash_list_in cursor longest room candidates))
   unfolding lines_from
   list_reads longest room candidates = by_test (room == 0)
     where
       by_test : (b : Bool)
-          → map read (lines_from [] (cond b (bash_words_reply ascii_only kept quote candidates) (flat_map (list_line ascii_only kept quote longest room) (filter inserts candidates))))
-          ≡ map (λ candidate. Some (shown_as candidate.value (cond b None (option_map (cut_description room) (description_of ascii_only candidate.help))))) (filter inserts candidates)
+          → map read (lines_from [] (cond b (bash_words_reply cursor candidates) (flat_map (list_line cursor longest room) (filter inserts candidates))))
+          ≡ map (λ candidate. Some (shown_as candidate.value (cond b None (option_map (cut_description room) (description_of cursor.ascii_only candidate.help))))) (filter inserts candidates)
       by_test true =
           lines_back (IsWithout line_feed) (lines_from []) refl feed_first read (λ candidate. Some (shown_as candidate.value None)) inserts
-          (λ candidate. bash_word_line kept quote candidate.value) word_line_reads candidates
+          (λ candidate. bash_word_line cursor candidate.value) word_line_reads candidates
       by_test false =
           lines_back (IsWithout line_feed) (lines_from []) refl feed_first read
-          (λ candidate. Some (shown_as candidate.value (option_map (cut_description room) (description_of ascii_only candidate.help)))) inserts
-          (list_line ascii_only kept quote longest room) (line_reads longest room) candidates
+          (λ candidate. Some (shown_as candidate.value (option_map (cut_description room) (description_of cursor.ascii_only candidate.help)))) inserts
+          (list_line cursor longest room) (line_reads longest room) candidates
 
   -- ---- two lines
 
   -- an empty line is read as the part that bash keeps
-  empty_read : (b : Bool) (shown : Shown) → option_map (λ value. shown_as value None) (cond b (Some (kept ++ [])) None) ≡ Some shown → shown.value ≡ kept
-  empty_read true shown e = sym (ap got e) ∙ append-nil kept
-    where
-      got : Option Shown → List ℕ
-      got None = []
-      got (Some shown) = shown.value
+  empty_read : (b : Bool) (shown : Shown) → option_map (λ value. shown_as value None) (cond b (Some (cursor.kept ++ [])) None) ≡ Some shown → shown.value ≡ cursor.kept
+  empty_read true shown e = sym (ap value_in e) ∙ append-nil cursor.kept
   empty_read false shown e = cc
 
-  nothing_read : (shown : Shown) → read [] ≡ Some shown → shown.value ≡ kept
+  nothing_read : (shown : Shown) → read [] ≡ Some shown → shown.value ≡ cursor.kept
   unfolding list_line_read word_cut bash_value_read bash_line_word single_read double_read bare_word_read bare_read word_read after
   nothing_read shown e =
-      empty_read (is_in_locale ascii_only (kept ++ [])) shown
-      (ap (λ line. option_map (λ value. shown_as value None) (option_and_then (read_in_locale ascii_only) (option_map (λ rest. kept ++ rest) line))) (sym (no_word kept quote)) ∙ e)
+      empty_read (is_in_locale cursor.ascii_only (cursor.kept ++ [])) shown
+      (ap (λ line. option_map (λ value. shown_as value None) (option_and_then (read_in_locale cursor.ascii_only) (option_map (λ rest. cursor.kept ++ rest) line))) (sym (no_word cursor.kept cursor.quote)) ∙ e)
     where
       no_word : (k : List ℕ) (q : OpenQuote) → bash_line_word k q [] ≡ Some []
       no_word k Single = refl
@@ -373,72 +355,53 @@ module _ (ascii_only : Bool) (kept : List ℕ) (quote : OpenQuote) where
       no_word (byte ∷ k) Bare = refl
 
   abbrev is_word : List ℕ → Bool
-  is_word value = is_listed_word ascii_only kept quote value
+  is_word value = is_listed_word cursor value
 
-  -- the line of a word is in the list
-  record HasLine (lines : List (List ℕ)) (room : ℕ) (candidate : CompletionCandidate) : Type 0 where
-    line : List ℕ
-    is_in : IsIn lines line
-    reads : read line ≡ Some (shown_in ascii_only room candidate)
+  module _ (lines : List (List ℕ)) (room : ℕ) (candidates : List CompletionCandidate) (law : AreRead room candidates lines) where
+    abbrev shows : CompletionCandidate → Option Shown
+    shows candidate = Some (shown_in cursor.ascii_only room candidate)
 
-  has_line : (lines : List (List ℕ)) (room : ℕ) (candidates : List CompletionCandidate)
-      → map read lines ≡ map (λ candidate. Some (shown_in ascii_only room candidate)) (filter inserts candidates)
-      → (candidate : CompletionCandidate) → IsIn candidates candidate → is_word candidate.value ≡ true → HasLine lines room candidate
-  has_line lines room candidates law candidate is_in passes =
-      let kept_in = IsIn-filter inserts candidates candidate is_in (and_parts (inserts candidate) (not (bytes_eq candidate.value kept)) passes).0 in
-      let shown = map-IsIn (λ candidate. Some (shown_in ascii_only room candidate)) (filter inserts candidates) candidate kept_in in
-      let line = IsIn-map read lines (Some (shown_in ascii_only room candidate)) (subst (λ texts. IsIn texts (Some (shown_in ascii_only room candidate))) (sym law) shown) in
-      record { line = line.0; is_in = line.1.0; reads = line.1.1 }
+    -- the line of a word is in the list, and has a byte
+    record HasLine (candidate : CompletionCandidate) : Type 0 where
+      line : List ℕ
+      is_in : IsIn lines line
+      some : line ≢ []
+      reads : read line ≡ shows candidate
 
-  line_has_byte : (lines : List (List ℕ)) (room : ℕ) (candidate : CompletionCandidate) (found : HasLine lines room candidate) → is_word candidate.value ≡ true → found.line ≢ []
-  line_has_byte lines room candidate found passes empty =
-      let same : candidate.value ≡ kept = nothing_read (shown_in ascii_only room candidate) (sym (ap read empty) ∙ found.reads) in
-      let other = false_not (bytes_eq candidate.value kept) (and_parts (inserts candidate) (not (bytes_eq candidate.value kept)) passes).1 in
-      let both : true ≡ false = sym ((bytes_eq-Decides candidate.value kept).1 same) ∙ other in
-      cc
+    has_line : (candidate : CompletionCandidate) → IsIn candidates candidate → is_word candidate.value ≡ true → HasLine candidate
+    has_line candidate is_in passes =
+        let parts = and_parts (inserts candidate) (not (bytes_eq candidate.value cursor.kept)) passes in
+        let shown = map-IsIn shows (filter inserts candidates) candidate (IsIn-filter inserts candidates candidate is_in parts.0) in
+        let line = IsIn-map read lines (shows candidate) (subst (λ texts. IsIn texts (shows candidate)) (sym law) shown) in
+        record { line = line.0; is_in = line.1.0; some = λ empty. has_byte line.0 line.1.1 parts.1 empty; reads = line.1.1 }
+      where
+        has_byte : (line : List ℕ) → read line ≡ shows candidate → not (bytes_eq candidate.value cursor.kept) ≡ true → line ≢ []
+        has_byte line reads other empty =
+            let same : candidate.value ≡ cursor.kept = nothing_read (shown_in cursor.ascii_only room candidate) (sym (ap read empty) ∙ reads) in
+            let both : true ≡ false = sym ((bytes_eq-Decides candidate.value cursor.kept).1 same) ∙ false_not (bytes_eq candidate.value cursor.kept) other in
+            cc
 
-  two_lines : (lines : List (List ℕ)) (room : ℕ) (candidates : List CompletionCandidate)
-      → map read lines ≡ map (λ candidate. Some (shown_in ascii_only room candidate)) (filter inserts candidates)
-      → has_two is_word candidates ≡ true → HasTwo lines
-  two_lines lines room candidates law e =
-      let two = two_words is_word candidates e in
-      let first = has_line lines room candidates law two.first two.first_in two.first_passes in
-      let other = has_line lines room candidates law two.other two.other_in two.other_passes in
-      record {
-        first = first.line;
-        other = other.line;
-        first_in = Contains-from_IsIn lines first.line first.is_in;
-        other_in = Contains-from_IsIn lines other.line other.is_in;
-        first_some = line_has_byte lines room two.first first two.first_passes;
-        other_some = line_has_byte lines room two.other other two.other_passes;
-        differ = λ same. let both : true ≡ false = sym ((bytes_eq-Decides two.other.value two.first.value).1 (same_value two.first two.other (sym first.reads ∙ ap read same ∙ other.reads))) ∙ two.differ in cc;
-      }
-    where
-      got : Option Shown → List ℕ
-      got None = []
-      got (Some shown) = shown.value
-
-      same_value : (first other : CompletionCandidate) → Some (shown_in ascii_only room first) ≡ Some (shown_in ascii_only room other) → other.value ≡ first.value
-      same_value first other same = sym (ap got same)
+    two_lines : has_two is_word candidates ≡ true → HasTwo lines
+    two_lines e =
+        let two = two_words is_word candidates e in
+        let first = has_line two.first two.first_in two.first_passes in
+        let other = has_line two.other two.other_in two.other_passes in
+        record {
+          first = first.line;
+          other = other.line;
+          first_in = Contains-from_IsIn lines first.line first.is_in;
+          other_in = Contains-from_IsIn lines other.line other.is_in;
+          first_some = first.some;
+          other_some = other.some;
+          differ = λ same. let both : true ≡ false = sym ((bytes_eq-Decides two.other.value two.first.value).1 (sym (ap value_in (sym first.reads ∙ ap read same ∙ other.reads)))) ∙ two.differ in cc;
+        }
 
   -- ---- all
 
-  abbrev reply : ℕ → List CompletionCandidate → List ℕ
-  reply width candidates = bash_list_reply ascii_only kept quote width candidates
-
-  abbrev words : List CompletionCandidate → List ℕ
-  words candidates = bash_words_reply ascii_only kept quote candidates
-
-  no_room : (candidates : List CompletionCandidate) → list_room ascii_only kept quote 0 candidates ≡ 0
-  no_room candidates =
-      let longest : ℕ = longest_word ascii_only kept quote candidates in
-      let none : width_left 0 longest ≡ 0 = omega arith in
+  no_room : (candidates : List CompletionCandidate) → cursor.width ≡ 0 → list_room cursor candidates ≡ 0
+  no_room candidates e =
+      let none : width_left cursor candidates ≡ 0 = omega (arith, e) in
       ap (λ left. cond (nat_le 22 left && has_two is_word candidates) left 0) none
-
-  without_width : (width : ℕ) (candidates : List CompletionCandidate) → width ≡ 0 → reply width candidates ≡ words candidates
-  without_width width candidates e =
-      ap (λ width. reply width candidates) e
-      ∙ ap (λ room. bash_list_in ascii_only kept quote (longest_word ascii_only kept quote candidates) room candidates) (no_room candidates)
 
   has_room : (wide two : Bool) (left : ℕ) → (cond (wide && two) left 0 == 0) ≡ false → two ≡ true
   has_room true true left e = refl
@@ -446,24 +409,22 @@ module _ (ascii_only : Bool) (kept : List ℕ) (quote : OpenQuote) where
   has_room false true left e = refl
   has_room false false left e = cc
 
-  lists_two : (width : ℕ) (candidates : List CompletionCandidate) → (reply width candidates ≡ words candidates) ⊎ HasTwo (lines_from [] (reply width candidates))
-  lists_two width candidates = by_test (room == 0) refl
+  pub list_read_back : (candidates : List CompletionCandidate) → BashListRead cursor candidates
+  list_read_back candidates = record {
+    lines = reads;
+    inserted = λ e. ap (λ room. bash_list_in cursor longest room candidates) (no_room candidates e);
+    listed = by_test (room == 0) refl;
+  }
     where
       longest : ℕ
-      longest = longest_word ascii_only kept quote candidates
+      longest = longest_word cursor candidates
 
       room : ℕ
-      room = list_room ascii_only kept quote width candidates
+      room = list_room cursor candidates
 
-      by_test : (b : Bool) → (room == 0) ≡ b → (reply width candidates ≡ words candidates) ⊎ HasTwo (lines_from [] (reply width candidates))
-      by_test true e = inl (ap (λ b. cond b (words candidates) (flat_map (list_line ascii_only kept quote longest room) (filter inserts candidates))) e)
-      by_test false e =
-          inr (two_lines (lines_from [] (reply width candidates)) room candidates (list_reads longest room candidates)
-          (has_room (nat_le 22 (width_left width longest)) (has_two is_word candidates) (width_left width longest) e))
+      reads : AreRead room candidates (lines_from [] (bash_list_reply cursor candidates))
+      reads = list_reads longest room candidates
 
-  pub list_read_back : (width : ℕ) (candidates : List CompletionCandidate) → BashListRead ascii_only kept quote width candidates
-  list_read_back width candidates = record {
-    lines = list_reads (longest_word ascii_only kept quote candidates) (list_room ascii_only kept quote width candidates) candidates;
-    inserted = without_width width candidates;
-    listed = lists_two width candidates;
-  }
+      by_test : (b : Bool) → (room == 0) ≡ b → (bash_list_reply cursor candidates ≡ bash_words_reply cursor candidates) ⊎ HasTwo (lines_from [] (bash_list_reply cursor candidates))
+      by_test true e = inl (ap (λ b. cond b (bash_words_reply cursor candidates) (flat_map (list_line cursor longest room) (filter inserts candidates))) e)
+      by_test false e = inr (two_lines (lines_from [] (bash_list_reply cursor candidates)) room candidates reads (has_room (nat_le 22 (width_left cursor candidates)) (has_two is_word candidates) (width_left cursor candidates) e))

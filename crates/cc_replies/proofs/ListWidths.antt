@@ -7,7 +7,7 @@ use Rattle.cc_base.specs.Found.{after}
 use Rattle.cc_candidates.specs.declared.candidate.CompletionCandidate.{CompletionCandidate}
 use Rattle.cc_quote.specs.Escapes.{marked}
 use Rattle.cc_replies.specs.BashList.{bash_list_reply, closed_word, closing_quote, greatest, has_two, is_listed_word, list_line, list_room, longest_word, width_left}
-use Rattle.cc_replies.specs.BashWords.{OpenQuote, bash_text, bash_words_reply, home_start, is_bare_marked, is_bash_insertable, start_text}
+use Rattle.cc_replies.specs.BashWords.{Cursor, bash_text, bash_words_reply, home_start, is_bare_marked, is_bash_insertable, start_text}
 use Rattle.cc_replies.proofs.Characters.{char_count-nil, left_after_both}
 
 -- a bare word that begins with `~/`
@@ -20,18 +20,18 @@ start_left left middle last word below found e f =
     ∙ ap (λ found. left - char_count (elim found [ Some below ↦ home_start ++ marked is_bare_marked below | None ↦ marked is_bare_marked word ])) found
 
 -- a word with the quote at its end
-pub closed_left : (left middle last : ℕ) (kept : List ℕ) (quote : OpenQuote) (value rest : List ℕ) → Some rest ≡ after kept value
-    → middle ≡ left - char_count (bash_text kept quote rest) → last ≡ middle - char_count (closing_quote quote) → last ≡ left - char_count (closed_word kept quote value)
+pub closed_left : (cursor : Cursor) (left middle last : ℕ) (value rest : List ℕ) → Some rest ≡ after cursor.kept value
+    → middle ≡ left - char_count (bash_text cursor.kept cursor.quote rest) → last ≡ middle - char_count (closing_quote cursor.quote) → last ≡ left - char_count (closed_word cursor value)
 unfolding closed_word
-closed_left left middle last kept quote value rest found e f =
-    f ∙ ap (λ n. n - char_count (closing_quote quote)) e
-    ∙ left_after_both left (bash_text kept quote rest) (closing_quote quote)
-    ∙ ap (λ found. left - char_count (elim found [ Some rest ↦ bash_text kept quote rest ++ closing_quote quote | None ↦ [] ])) found
+closed_left cursor left middle last value rest found e f =
+    f ∙ ap (λ n. n - char_count (closing_quote cursor.quote)) e
+    ∙ left_after_both left (bash_text cursor.kept cursor.quote rest) (closing_quote cursor.quote)
+    ∙ ap (λ found. left - char_count (elim found [ Some rest ↦ bash_text cursor.kept cursor.quote rest ++ closing_quote cursor.quote | None ↦ [] ])) found
 
-pub unclosed_left : (left : ℕ) (kept : List ℕ) (quote : OpenQuote) (value : List ℕ) → None ≡ after kept value → left ≡ left - char_count (closed_word kept quote value)
+pub unclosed_left : (cursor : Cursor) (left : ℕ) (value : List ℕ) → None ≡ after cursor.kept value → left ≡ left - char_count (closed_word cursor value)
 unfolding closed_word
-unclosed_left left kept quote value found =
-    let none : char_count [] ≡ char_count (closed_word kept quote value) = ap (λ found. char_count (elim found [ Some rest ↦ bash_text kept quote rest ++ closing_quote quote | None ↦ [] ])) found in
+unclosed_left cursor left value found =
+    let none : char_count [] ≡ char_count (closed_word cursor value) = ap (λ found. char_count (elim found [ Some rest ↦ bash_text cursor.kept cursor.quote rest ++ closing_quote cursor.quote | None ↦ [] ])) found in
     omega (arith, none, char_count-nil)
 
 -- ---- the longest word
@@ -82,19 +82,19 @@ some_room : (room : ℕ) → (room == 0) ≡ false → 0 < room
 some_room zero e = cc
 some_room (suc room) e = omega arith
 
-pub list_text : (ascii_only : Bool) (kept : List ℕ) (quote : OpenQuote) (width : ℕ) (candidates : List CompletionCandidate) (room longest : ℕ)
-    → room ≡ list_room ascii_only kept quote width candidates → (room == 0) ≡ false → longest ≡ width - 4 - room
-    → flat_map (list_line ascii_only kept quote longest room) (filter (λ candidate. is_bash_insertable ascii_only kept quote candidate.value) candidates)
-    ≡ bash_list_reply ascii_only kept quote width candidates
-list_text ascii_only kept quote width candidates room longest same some e =
-    let most : ℕ = longest_word ascii_only kept quote candidates in
-    let whole : ℕ = list_room ascii_only kept quote width candidates in
-    let wide : Bool = nat_le 22 (width_left width most) && has_two (is_listed_word ascii_only kept quote) candidates in
+pub list_text : (cursor : Cursor) (candidates : List CompletionCandidate) (room longest : ℕ)
+    → room ≡ list_room cursor candidates → (room == 0) ≡ false → longest ≡ cursor.width - 4 - room
+    → flat_map (list_line cursor longest room) (filter (λ candidate. is_bash_insertable cursor candidate.value) candidates)
+    ≡ bash_list_reply cursor candidates
+list_text cursor candidates room longest same some e =
+    let most : ℕ = longest_word cursor candidates in
+    let whole : ℕ = list_room cursor candidates in
+    let left : ℕ = width_left cursor candidates in
+    let wide : Bool = nat_le 22 left && has_two (is_listed_word cursor) candidates in
     let has : (whole == 0) ≡ false = ap (λ n. n == 0) (sym same) ∙ some in
-    let left : room ≡ width_left width most = same ∙ real_room wide (width_left width most) has in
-    ap (λ n. lines n room) (longest_again width most room longest left e (some_room room some))
+    ap (λ n. lines n room) (longest_again cursor.width most room longest (same ∙ real_room wide left has) e (some_room room some))
     ∙ ap (lines most) same
-    ∙ sym (ap (λ b. cond b (bash_words_reply ascii_only kept quote candidates) (lines most whole)) has)
+    ∙ sym (ap (λ b. cond b (bash_words_reply cursor candidates) (lines most whole)) has)
   where
     lines : ℕ → ℕ → List ℕ
-    lines longest room = flat_map (list_line ascii_only kept quote longest room) (filter (λ candidate. is_bash_insertable ascii_only kept quote candidate.value) candidates)
+    lines longest room = flat_map (list_line cursor longest room) (filter (λ candidate. is_bash_insertable cursor candidate.value) candidates)

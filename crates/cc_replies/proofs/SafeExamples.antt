@@ -1,12 +1,12 @@
 -- The safe replies for hostile values, and how the shells read their lines.
-use Rattle.std.proofs.Common.{◌≡◌, ℕ, true, false, List, [], ◌∷◌, ◌++◌, Some, None, codes, refl}
+use Rattle.std.proofs.Common.{◌≡◌, ℕ, Bool, true, false, List, [], ◌∷◌, ◌++◌, Some, None, codes, refl}
 use Rattle.cc_base.specs.Found.{after, cut_at, with_front}
 use Rattle.cc_candidates.specs.Candidate.{new_candidate}
 use Rattle.cc_candidates.specs.declared.candidate.CompletionCandidate.{CompletionCandidate}
 use Rattle.cc_quote.specs.PowershellQuote.{powershell_signs, sign_before}
 use Rattle.cc_quote.specs.Signs.{sign}
 use Rattle.cc_quote.specs.ZshQuote.{marks, marks_from}
-use Rattle.cc_replies.specs.BashWords.{Bare, Single, Double, bare_read, bare_text, bare_word_read, bash_line_word, bash_text, bash_value_read, bash_word_line, bash_words_reply, double_read, is_bash_insertable, open_quote, single_read, start_text, word_read}
+use Rattle.cc_replies.specs.BashWords.{Bare, Cursor, OpenQuote, Single, Double, bare_read, bare_text, bare_word_read, bash_line_word, bash_text, bash_value_read, bash_word_line, bash_words_reply, double_read, is_bash_insertable, open_quote, single_read, start_text, word_read}
 use Rattle.cc_replies.specs.PowershellEntries.{entry_of, entry_shown, tooltip_of}
 use Rattle.cc_replies.specs.PowershellWords.{is_powershell_insertable, powershell_line, powershell_line_read, powershell_typed, powershell_word, powershell_words_reply, quoted_whole, typed_entry, word_entry}
 use Rattle.cc_replies.specs.Reply.{colon_help, first_line, line_shown, shown_from, shown_line, tab_help, without_return, zsh_item}
@@ -16,6 +16,10 @@ use Rattle.cc_replies.specs.SafeValues.{is_safe_text, safe_help, safe_shown}
 -- a candidate with a help text
 abbrev helped : List ℕ → List ℕ → CompletionCandidate
 helped value help = record (new_candidate value) { help = Some help }
+
+-- the line of a shell
+abbrev cursor : Bool → List ℕ → OpenQuote → Cursor
+cursor ascii_only kept quote = record { ascii_only = ascii_only; kept = kept; quote = quote; width = 0 }
 
 -- ---- the values that are left out
 
@@ -40,16 +44,16 @@ quote_row :
 quote_row = (refl, refl, refl, refl)
 
 insertable_row :
-    (is_bash_insertable false [] Bare (codes "it's") ≡ true)
-    × (is_bash_insertable false [] Double (codes "it's") ≡ true)
-    × (is_bash_insertable false [] Single (codes "it's") ≡ false)
-    × (is_bash_insertable false [] Bare (codes "!bang") ≡ true)
-    × (is_bash_insertable false [] Single (codes "!bang") ≡ true)
-    × (is_bash_insertable false [] Double (codes "!bang") ≡ false)
-    × (is_bash_insertable false (codes "img:") Bare (codes "img:1.2") ≡ true)
-    × (is_bash_insertable false (codes "img:") Bare (codes "im:1.2") ≡ false)
+    (is_bash_insertable (cursor false [] Bare) (codes "it's") ≡ true)
+    × (is_bash_insertable (cursor false [] Double) (codes "it's") ≡ true)
+    × (is_bash_insertable (cursor false [] Single) (codes "it's") ≡ false)
+    × (is_bash_insertable (cursor false [] Bare) (codes "!bang") ≡ true)
+    × (is_bash_insertable (cursor false [] Single) (codes "!bang") ≡ true)
+    × (is_bash_insertable (cursor false [] Double) (codes "!bang") ≡ false)
+    × (is_bash_insertable (cursor false (codes "img:") Bare) (codes "img:1.2") ≡ true)
+    × (is_bash_insertable (cursor false (codes "img:") Bare) (codes "im:1.2") ≡ false)
     -- the kept part is in the line already, so the open quote has to hold only the rest
-    × (is_bash_insertable false (codes "it's:") Single (codes "it's:1") ≡ true)
+    × (is_bash_insertable (cursor false (codes "it's:") Single) (codes "it's:1") ≡ true)
     × (is_fish_insertable (codes "~/x") ≡ true)
     × (is_fish_insertable (codes "~root") ≡ false)
     × (is_fish_insertable (codes "~") ≡ false)
@@ -75,17 +79,17 @@ hostile =
     ∷ []
 
 bash_replies :
-    (bash_words_reply false [] Bare hostile
+    (bash_words_reply (cursor false [] Bare) hostile
     ≡ codes "x\\$\\(touch\\ hit\\)\na\\ b\nit\\'s\n\\!bang\n~/x\\ y\n\\~root\n-dash\n")
-    × (bash_words_reply false [] Single hostile
+    × (bash_words_reply (cursor false [] Single) hostile
     ≡ codes "a b\n!bang\n~/x y\n~root\n-dash\n")
-    × (bash_words_reply false [] Double hostile
+    × (bash_words_reply (cursor false [] Double) hostile
     ≡ codes "x\\$(touch hit)\na b\nit's\n~/x y\n~root\n-dash\n")
     -- the part that bash keeps is not written again
-    × (bash_words_reply false (codes "img:") Bare
+    × (bash_words_reply (cursor false (codes "img:") Bare)
     (new_candidate (codes "img:1.2") ∷ new_candidate (codes "img:~/x") ∷ new_candidate (codes "other") ∷ [])
     ≡ codes "1.2\n\\~/x\n")
-    × (bash_words_reply false [] Bare (new_candidate (codes "ümlaut") ∷ []) ≡ codes "ümlaut\n")
+    × (bash_words_reply (cursor false [] Bare) (new_candidate (codes "ümlaut") ∷ []) ≡ codes "ümlaut\n")
 unfolding after bash_word_line bash_text bare_text start_text
 bash_replies = (refl, refl, refl, refl, refl)
 
@@ -180,9 +184,9 @@ abbrev not_raw : List ℕ
 not_raw = codes "x" ++ 238 ∷ 132 ∷ 128 ∷ []
 
 kept_row :
-    (is_bash_insertable false [] Bare letter ≡ true)
-    × (is_bash_insertable true [] Bare letter ≡ false)
-    × (is_bash_insertable true [] Bare (codes "x;hit") ≡ true)
+    (is_bash_insertable (cursor false [] Bare) letter ≡ true)
+    × (is_bash_insertable (cursor true [] Bare) letter ≡ false)
+    × (is_bash_insertable (cursor true [] Bare) (codes "x;hit") ≡ true)
     × (is_zsh_insertable false letter ≡ true)
     × (is_zsh_insertable true letter ≡ false)
     × (is_zsh_insertable false raw ≡ false)
@@ -194,9 +198,9 @@ unfolding after
 kept_row = (refl, refl, refl, refl, refl, refl, refl, refl, refl, refl)
 
 changed_row :
-    (bash_value_read true [] Bare (codes "x" ++ 227 ∷ 129 ∷ 130 ∷ codes "\\;hit") ≡ None)
-    × (bash_value_read false [] Bare (codes "x" ++ 227 ∷ 129 ∷ 130 ∷ codes "\\;hit") ≡ Some letter)
-    × (bash_value_read true [] Bare (codes "x\\;hit") ≡ Some (codes "x;hit"))
+    (bash_value_read (cursor true [] Bare) (codes "x" ++ 227 ∷ 129 ∷ 130 ∷ codes "\\;hit") ≡ None)
+    × (bash_value_read (cursor false [] Bare) (codes "x" ++ 227 ∷ 129 ∷ 130 ∷ codes "\\;hit") ≡ Some letter)
+    × (bash_value_read (cursor true [] Bare) (codes "x\\;hit") ≡ Some (codes "x;hit"))
     × (zsh_item_read true letter ≡ None)
     × (zsh_item_read false raw ≡ None)
     × (zsh_item_read false letter ≡ Some (record { value = letter; help = None }))

@@ -6,7 +6,7 @@ use Rattle.std.specs.Option.{option_and_then}
 use Rattle.cc_base.specs.Bytes as ascii
 use Rattle.cc_base.specs.Found.{after, with_front}
 use Rattle.cc_candidates.specs.declared.candidate.CompletionCandidate.{CompletionCandidate}
-use Rattle.cc_replies.specs.BashWords.{Bare, Double, OpenQuote, Single, bash_text, bash_value_read, bash_word_line, bash_words_reply, is_bash_insertable}
+use Rattle.cc_replies.specs.BashWords.{Bare, Cursor, Double, OpenQuote, Single, bash_text, bash_value_read, bash_word_line, bash_words_reply, is_bash_insertable}
 use Rattle.cc_replies.specs.Reply.{Shown, lines_from}
 use Rattle.cc_replies.specs.SafeValues.{read_in_locale, safe_help}
 
@@ -22,16 +22,15 @@ closing_quote Single = codes "'"
 closing_quote Double = codes "\""
 
 -- a value as bash inserts it after the part that it keeps
-unfoldable pub closed_word : List ℕ → OpenQuote → List ℕ → List ℕ
-closed_word kept quote value = elim (after kept value) [
-  | Some rest ↦ bash_text kept quote rest ++ closing_quote quote
+unfoldable pub closed_word : Cursor → List ℕ → List ℕ
+closed_word cursor value = elim (after cursor.kept value) [
+  | Some rest ↦ bash_text cursor.kept cursor.quote rest ++ closing_quote cursor.quote
   | None ↦ []
 ]
 
 -- such a value, of which bash does not keep everything
-abbrev pub is_listed_word : Bool → List ℕ → OpenQuote → List ℕ → Bool
-is_listed_word ascii_only kept quote value =
-    is_bash_insertable ascii_only kept quote value && not (bytes_eq value kept)
+abbrev pub is_listed_word : Cursor → List ℕ → Bool
+is_listed_word cursor value = is_bash_insertable cursor value && not (bytes_eq value cursor.kept)
 
 -- some value passes the test, and is not this one
 abbrev pub has_other : (List ℕ → Bool) → Option CompletionCandidate → List CompletionCandidate → Bool
@@ -53,10 +52,10 @@ unfoldable pub description_of : Bool → Option (List ℕ) → Option (List ℕ)
 description_of ascii_only help = option_and_then (read_in_locale ascii_only) (safe_help help)
 
 -- bash can insert the value, and there is a description
-abbrev pub is_described : Bool → List ℕ → OpenQuote → CompletionCandidate → Bool
-is_described ascii_only kept quote candidate =
-    is_bash_insertable ascii_only kept quote candidate.value
-    && is_some (description_of ascii_only candidate.help)
+abbrev pub is_described : Cursor → CompletionCandidate → Bool
+is_described cursor candidate =
+    is_bash_insertable cursor candidate.value
+    && is_some (description_of cursor.ascii_only candidate.help)
 
 -- ---- the measures, in characters
 
@@ -65,23 +64,22 @@ greatest [] = 0
 greatest (number ∷ numbers) = max number (greatest numbers)
 
 -- the longest word with a description
-abbrev pub longest_word : Bool → List ℕ → OpenQuote → List CompletionCandidate → ℕ
-longest_word ascii_only kept quote candidates =
-    greatest (map (λ candidate. char_count (closed_word kept quote candidate.value))
-    (filter (is_described ascii_only kept quote) candidates))
+abbrev pub longest_word : Cursor → List CompletionCandidate → ℕ
+longest_word cursor candidates =
+    greatest (map (λ candidate. char_count (closed_word cursor candidate.value))
+    (filter (is_described cursor) candidates))
 
--- what a terminal of this width has for a description: besides the word there are two spaces and
--- two parentheses
-abbrev pub width_left : ℕ → ℕ → ℕ
-width_left width longest = width - (longest + 4)
+-- what the terminal has for a description: besides the longest word there are two spaces and two
+-- parentheses
+abbrev pub width_left : Cursor → List CompletionCandidate → ℕ
+width_left cursor candidates = cursor.width - (longest_word cursor candidates + 4)
 
 -- A list has descriptions if a cut one keeps 20 characters, before the `..`, and if there are two
 -- words: bash may insert a single line. This is what it has for a description, or 0.
-abbrev pub list_room : Bool → List ℕ → OpenQuote → ℕ → List CompletionCandidate → ℕ
-list_room ascii_only kept quote width candidates =
-    if nat_le 22 (width_left width (longest_word ascii_only kept quote candidates))
-    && has_two (is_listed_word ascii_only kept quote) candidates
-    then width_left width (longest_word ascii_only kept quote candidates) else 0
+abbrev pub list_room : Cursor → List CompletionCandidate → ℕ
+list_room cursor candidates =
+    if nat_le 22 (width_left cursor candidates) && has_two (is_listed_word cursor) candidates
+    then width_left cursor candidates else 0
 
 -- ---- the text
 
@@ -97,25 +95,24 @@ described_text word longest description =
     word ++ replicate (longest - char_count word) space ++ codes "  (" ++ description ++ codes ")"
 
 -- the line of a candidate; without a description, that of its word alone
-unfoldable pub list_line : Bool → List ℕ → OpenQuote → ℕ → ℕ → CompletionCandidate → List ℕ
-list_line ascii_only kept quote longest room candidate =
-    elim (description_of ascii_only candidate.help) [
-      | Some description ↦ described_text (closed_word kept quote candidate.value) longest
+unfoldable pub list_line : Cursor → ℕ → ℕ → CompletionCandidate → List ℕ
+list_line cursor longest room candidate =
+    elim (description_of cursor.ascii_only candidate.help) [
+      | Some description ↦ described_text (closed_word cursor candidate.value) longest
           (cut_description room description) ++ codes "\n"
-      | None ↦ bash_word_line kept quote candidate.value
+      | None ↦ bash_word_line cursor candidate.value
     ]
 
--- the list of a terminal of this width; without room, the words alone
-abbrev pub bash_list_in : Bool → List ℕ → OpenQuote → ℕ → ℕ → List CompletionCandidate → List ℕ
-bash_list_in ascii_only kept quote longest room candidates =
-    if room == 0 then bash_words_reply ascii_only kept quote candidates
-    else flat_map (list_line ascii_only kept quote longest room)
-    (filter (λ candidate. is_bash_insertable ascii_only kept quote candidate.value) candidates)
+-- the list of a terminal with this room; without room, the words alone
+abbrev pub bash_list_in : Cursor → ℕ → ℕ → List CompletionCandidate → List ℕ
+bash_list_in cursor longest room candidates =
+    if room == 0 then bash_words_reply cursor candidates
+    else flat_map (list_line cursor longest room)
+    (filter (λ candidate. is_bash_insertable cursor candidate.value) candidates)
 
-abbrev pub bash_list_reply : Bool → List ℕ → OpenQuote → ℕ → List CompletionCandidate → List ℕ
-bash_list_reply ascii_only kept quote width candidates =
-    bash_list_in ascii_only kept quote (longest_word ascii_only kept quote candidates)
-    (list_room ascii_only kept quote width candidates) candidates
+abbrev pub bash_list_reply : Cursor → List CompletionCandidate → List ℕ
+bash_list_reply cursor candidates =
+    bash_list_in cursor (longest_word cursor candidates) (list_room cursor candidates) candidates
 
 -- ---- how a line is read
 
@@ -162,12 +159,11 @@ shown_with value (Some description) =
 
 -- The value and the description of a line: what bash reads from its word, as `bash_value_read`
 -- says, and the text in parentheses after that. A line in which no word ends is a word.
-unfoldable pub list_line_read : Bool → List ℕ → OpenQuote → List ℕ → Option Shown
-list_line_read ascii_only kept quote line = elim (word_cut quote false line) [
-  | Some (word, rest) ↦
-      shown_with (bash_value_read ascii_only kept quote word) (description_read rest)
+unfoldable pub list_line_read : Cursor → List ℕ → Option Shown
+list_line_read cursor line = elim (word_cut cursor.quote false line) [
+  | Some (word, rest) ↦ shown_with (bash_value_read cursor word) (description_read rest)
   | None ↦ option_map (λ value. record { value = value; help = None })
-      (bash_value_read ascii_only kept quote line)
+      (bash_value_read cursor line)
 ]
 
 -- ---- the law
@@ -190,18 +186,14 @@ pub record HasTwo (lines : List (List ℕ)) : Type 0 where
   pub other_some : other ≢ []
   pub differ : first ≢ other
 
-pub record BashListRead (ascii_only : Bool) (kept : List ℕ) (quote : OpenQuote) (width : ℕ)
-    (candidates : List CompletionCandidate) : Type 0 where
+pub record BashListRead (cursor : Cursor) (candidates : List CompletionCandidate) : Type 0 where
   -- each line is read back as a value that bash can insert and what is shown of its description
-  pub lines : map (list_line_read ascii_only kept quote)
-      (lines_from [] (bash_list_reply ascii_only kept quote width candidates))
-      ≡ map (λ candidate. Some (shown_in ascii_only
-      (list_room ascii_only kept quote width candidates) candidate))
-      (filter (λ candidate. is_bash_insertable ascii_only kept quote candidate.value) candidates)
+  pub lines : map (list_line_read cursor) (lines_from [] (bash_list_reply cursor candidates))
+      ≡ map (λ candidate. Some (shown_in cursor.ascii_only (list_room cursor candidates) candidate))
+      (filter (λ candidate. is_bash_insertable cursor candidate.value) candidates)
   -- without a width, the reply consists of the words
-  pub inserted : width ≡ 0 → bash_list_reply ascii_only kept quote width candidates
-      ≡ bash_words_reply ascii_only kept quote candidates
+  pub inserted : cursor.width ≡ 0
+      → bash_list_reply cursor candidates ≡ bash_words_reply cursor candidates
   -- any other reply has two lines between which bash can not choose, so it inserts neither
-  pub listed : (bash_list_reply ascii_only kept quote width candidates
-      ≡ bash_words_reply ascii_only kept quote candidates)
-      ⊎ HasTwo (lines_from [] (bash_list_reply ascii_only kept quote width candidates))
+  pub listed : (bash_list_reply cursor candidates ≡ bash_words_reply cursor candidates)
+      ⊎ HasTwo (lines_from [] (bash_list_reply cursor candidates))

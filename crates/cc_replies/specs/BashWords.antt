@@ -10,8 +10,9 @@ use Rattle.cc_quote.specs.BashDouble.{is_double_marked, bash_doubled}
 use Rattle.cc_quote.specs.Escapes.{marked}
 use Rattle.cc_replies.specs.Reply.{is_without, lines_from}
 use Rattle.cc_replies.specs.SafeValues.{is_in_locale, is_safe_text, read_in_locale}
-pub use Rattle.cc_replies.specs.declared.bash_words.OpenQuote.{OpenQuote}
-pub use Rattle.cc_replies.specs.declared.bash_words.OpenQuote.TheVariants.{Bare, Single, Double}
+pub use Rattle.cc_replies.specs.declared.cursor.Cursor.{Cursor}
+pub use Rattle.cc_replies.specs.declared.cursor.OpenQuote.{OpenQuote}
+pub use Rattle.cc_replies.specs.declared.cursor.OpenQuote.TheVariants.{Bare, Single, Double}
 
 -- the byte `!`
 abbrev pub exclamation : ℕ
@@ -126,9 +127,9 @@ bash_text kept Single rest = rest
 bash_text kept Double rest = bash_doubled rest
 
 -- the line of a value that begins with that part
-unfoldable pub bash_word_line : List ℕ → OpenQuote → List ℕ → List ℕ
-bash_word_line kept quote value = elim (after kept value) [
-  | Some rest ↦ bash_text kept quote rest ++ codes "\n"
+unfoldable pub bash_word_line : Cursor → List ℕ → List ℕ
+bash_word_line cursor value = elim (after cursor.kept value) [
+  | Some rest ↦ bash_text cursor.kept cursor.quote rest ++ codes "\n"
   | None ↦ []
 ]
 
@@ -145,30 +146,30 @@ holds_rest quote (Some rest) = holds quote rest
 
 -- The value has a byte and no control character, bash's locale takes it as it is, and it begins with
 -- the part that bash keeps. The text after that part can be written in the open quote.
-abbrev pub is_bash_insertable : Bool → List ℕ → OpenQuote → List ℕ → Bool
-is_bash_insertable ascii_only kept quote value =
-    is_safe_text value && is_in_locale ascii_only value && holds_rest quote (after kept value)
+abbrev pub is_bash_insertable : Cursor → List ℕ → Bool
+is_bash_insertable cursor value =
+    is_safe_text value && is_in_locale cursor.ascii_only value
+    && holds_rest cursor.quote (after cursor.kept value)
 
 -- a line for each such value
-abbrev pub bash_words_reply : Bool → List ℕ → OpenQuote → List CompletionCandidate → List ℕ
-bash_words_reply ascii_only kept quote candidates =
-    flat_map (λ candidate. bash_word_line kept quote candidate.value)
-    (filter (λ candidate. is_bash_insertable ascii_only kept quote candidate.value) candidates)
+abbrev pub bash_words_reply : Cursor → List CompletionCandidate → List ℕ
+bash_words_reply cursor candidates =
+    flat_map (λ candidate. bash_word_line cursor candidate.value)
+    (filter (λ candidate. is_bash_insertable cursor candidate.value) candidates)
 
 -- ---- the law
 
 -- The value that bash reads from a line: the part that it keeps, and the text after that part. The
 -- reader goes from byte to byte, as bash does in UTF-8 and if each byte is one letter. In any other
 -- locale, `ascii_only`, this is known of ASCII alone, and no other value is read.
-unfoldable pub bash_value_read : Bool → List ℕ → OpenQuote → List ℕ → Option (List ℕ)
-bash_value_read ascii_only kept quote line =
-    option_and_then (read_in_locale ascii_only)
-    (option_map (λ rest. kept ++ rest) (bash_line_word kept quote line))
+unfoldable pub bash_value_read : Cursor → List ℕ → Option (List ℕ)
+bash_value_read cursor line =
+    option_and_then (read_in_locale cursor.ascii_only)
+    (option_map (λ rest. cursor.kept ++ rest) (bash_line_word cursor.kept cursor.quote line))
 
 -- bash reads each such value
-unfoldable pub BashWordsRead : Bool → List ℕ → OpenQuote → List CompletionCandidate → Type 0
-BashWordsRead ascii_only kept quote candidates =
-    map (bash_value_read ascii_only kept quote)
-    (lines_from [] (bash_words_reply ascii_only kept quote candidates))
+unfoldable pub BashWordsRead : Cursor → List CompletionCandidate → Type 0
+BashWordsRead cursor candidates =
+    map (bash_value_read cursor) (lines_from [] (bash_words_reply cursor candidates))
     ≡ map (λ candidate. Some candidate.value)
-    (filter (λ candidate. is_bash_insertable ascii_only kept quote candidate.value) candidates)
+    (filter (λ candidate. is_bash_insertable cursor candidate.value) candidates)

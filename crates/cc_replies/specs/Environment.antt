@@ -8,7 +8,8 @@ use Rattle.std.specs.String.{string_bytes}
 use Rattle.std.specs.Str.{bytes_eq}
 use Rattle.std.specs.Str.Parse.{IsNumeral, digits_value, without_leading_plus}
 use Rattle.cc_replies.specs.BashWords.{open_quote}
-use Rattle.cc_replies.specs.declared.bash_words.OpenQuote.{OpenQuote}
+use Rattle.cc_replies.specs.declared.cursor.Cursor.{Cursor}
+use Rattle.cc_replies.specs.declared.cursor.OpenQuote.{OpenQuote}
 pub use Rattle.cc_replies.specs.declared.environment.EnvValues.{EnvValues}
 
 -- the value of the first variable with a name
@@ -77,3 +78,12 @@ width_in (Some text) = if is_width text then digits_value 10 text else 0
 
 abbrev pub width_of : EnvValues → ℕ
 width_of env = width_in (value_of (codes "_COMPLGEN_WIDTH") env)
+
+-- the shell's line, as these variables describe it
+abbrev pub cursor_of : EnvValues → Cursor
+cursor_of env = record {
+  ascii_only = ascii_only_of env;
+  kept = kept_of env;
+  quote = quote_of env;
+  width = width_of env;
+}

@@ -8,57 +8,24 @@ ghost use Rattle.cc_base.specs.Writes.{IsWrite, Writes, as_write};
 ghost use Rattle.cc_quote.specs.Escapes.{backslashed};
 ghost use Rattle.cc_replies.specs.BashWords.{BashWordsRead, bare_text, bash_text};
 ghost use Rattle.cc_replies.specs.BashWords.{bash_words_reply, holds, holds_rest, is_bare_marked};
-ghost use Rattle.cc_replies.specs.BashWords.{is_double, is_single_lost, open_quote, start_text};
+ghost use Rattle.cc_replies.specs.BashWords.{is_single_lost, start_text};
 
+use crate::cursor::{Cursor, OpenQuote};
 use crate::readable::is_without;
 use crate::reply_lines::{ReplyLines, put_each};
 use crate::safe::{is_in_locale, is_safe_text};
-use cc_base::{Error, Sink, TextRef, put_piece};
+use cc_base::{Error, Sink, put_piece};
 use cc_candidates::CompletionCandidate;
 use cc_quote::{BashDouble, ByteEscape, put_escaped};
 use std::io::ErrorKind;
 
-/// The quote that is open in bash's line where the word is completed.
-#[derive(Clone, Copy, PartialEq, Eq, Debug)]
-pub enum OpenQuote {
-    /// No quote is open.
-    Bare,
-    /// A `'` is open.
-    Single,
-    /// A `"` is open.
-    Double,
-}
-
-impl OpenQuote {
-    /// Returns the quote that `text` names, `'` or `"`. For any other text, no quote is open.
-    pub fn of(text: &str) -> OpenQuote
-        ensures { result ≡ open_quote text.now }
-    {
-        match text {
-            "'" => OpenQuote::Single,
-            "\"" => OpenQuote::Double,
-            _ => OpenQuote::Bare,
-        }
-    }
-
-    /// Returns whether the quote is `"`.
-    pub fn is_double(self) -> bool
-        ensures { result ≡ is_double self }
-    {
-        match self {
-            OpenQuote::Double => true,
-            _ => false,
-        }
-    }
-}
-
-/// Writes a line for each value that bash can insert. The line contains the value without the part
-/// `kept`, which bash keeps, escaped for the open `quote`.
+/// Writes a line for each value that bash can insert at the cursor. The line contains the value
+/// without the part that bash keeps, escaped for the open quote.
 ///
 /// Leaves out a value that is empty, has a control character, does not begin with the part that
 /// bash keeps, or cannot be written in the open quote: with a `'`, a `$` or a backtick after `'`,
-/// with a `!` after `"`. Leaves out a value that is not ASCII if bash's locale is safe for
-/// `ascii_only`.
+/// with a `!` after `"`. Leaves out a value that is not ASCII if bash's locale is safe for ASCII
+/// only.
 ///
 /// # Errors
 ///
@@ -66,38 +33,23 @@ impl OpenQuote {
 #[tactic(auto, using(crate::proofs::BashReadings::words_read_back))]
 pub fn write_bash_words<W: Sink>(
     sink: &mut W,
-    ascii_only: bool,
-    kept: &str,
-    quote: OpenQuote,
+    cursor: &Cursor,
     candidates: &[CompletionCandidate],
 ) -> Result<(), Error>
     ensures written { Writes W.taken W.failed result sink.old sink.new
-        (bash_words_reply ascii_only kept.now quote candidates.now) }
+        (bash_words_reply cursor.now candidates.now) }
     ensures write_only { IfErr result IsWrite }
-    ensures read_back { BashWordsRead ascii_only kept.now quote candidates.now }
+    ensures read_back { BashWordsRead cursor.now candidates.now }
 {
-    let words = BashWords {
-        ascii_only,
-        kept: TextRef::new(kept),
-        quote,
-    };
-    Ok(put_each(sink, &words, candidates)?)
+    Ok(put_each(sink, cursor, candidates)?)
 }
 
-/// The lines of values as bash reads them after the part `kept`, in the open quote.
-#[derive(Drop)]
-pub(crate) struct BashWords<'a> {
-    pub(crate) ascii_only: bool,
-    pub(crate) kept: TextRef<'a>,
-    pub(crate) quote: OpenQuote,
-}
-
-impl ReplyLines for BashWords<'_> {
+impl ReplyLines for Cursor<'_> {
     ghost use Rattle.cc_replies.specs.BashWords.{bash_word_line, is_bash_insertable};
 
-    ghost inserts = { λ words. is_bash_insertable words.ascii_only words.kept words.quote };
+    ghost inserts = { is_bash_insertable };
 
-    ghost line = { λ words candidate. bash_word_line words.kept words.quote candidate.value };
+    ghost line = { λ cursor candidate. bash_word_line cursor candidate.value };
 
     fn can_insert(&self, value: &str) -> bool {
         is_safe_text(value)
@@ -148,6 +100,7 @@ fn is_kept_in_single(text: &[u8]) -> bool
 }
 
 /// Returns the text after `beginning`, or `None` if the text does not begin with it.
+#[tactic(auto, using(crate::proofs::Beginnings::text_stripped))]
 pub(crate) fn rest_after<'a>(beginning: &str, text: &'a str) -> Option<&'a str>
     ensures { option_copied result ≡ after beginning.now text.now }
 {

@@ -12,7 +12,7 @@ ghost use Rattle.cc_replies.specs.Environment.{is_width, quote_of, separator_of,
 ghost use Rattle.cc_replies.specs.Environment.{width_in, width_of};
 ghost use Rattle.cc_replies.specs.Environment.{IsIndex, IsNumberOf};
 
-use crate::bash_words::OpenQuote;
+use crate::cursor::OpenQuote;
 use cc_base::Items;
 
 /// The names and values of environment variables.

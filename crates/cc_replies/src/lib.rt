@@ -16,6 +16,8 @@
 
 mod bash_list;
 mod bash_words;
+mod columns;
+mod cursor;
 mod environment;
 mod lines;
 mod powershell_words;
@@ -27,7 +29,8 @@ mod safe_replies;
 mod system;
 
 pub use crate::bash_list::write_bash_list;
-pub use crate::bash_words::{OpenQuote, write_bash_words};
+pub use crate::bash_words::write_bash_words;
+pub use crate::cursor::{Cursor, OpenQuote};
 pub use crate::environment::EnvValues;
 pub use crate::lines::GivenLines;
 pub use crate::powershell_words::write_powershell_words;

@@ -310,7 +310,7 @@ fn cut_at<'a>(mark: &[u8], text: &'a [u8]) -> Option<(&'a [u8], &'a [u8])>
     None
 }
 
-#[tactic(auto, using(crate::proofs::Cutting::after_stripped))]
+#[tactic(auto, using(crate::proofs::Beginnings::bytes_stripped))]
 fn after<'a>(mark: &[u8], text: &'a [u8]) -> Option<&'a [u8]>
     ensures { option_copied result ≡ after mark.now text.now }
 {

@@ -183,7 +183,8 @@ pub use Rattle.cc_replies.specs.PowershellEntries as PowershellEntries
 pub use Rattle.cc_replies.specs.PowershellWords as InsertedPowershellWords
 pub use Rattle.cc_replies.specs.SafeReplies
 pub use Rattle.cc_replies.specs.SafeValues
-pub use Rattle.cc_replies.specs.declared.bash_words.OpenQuote
+pub use Rattle.cc_replies.specs.declared.cursor.Cursor
+pub use Rattle.cc_replies.specs.declared.cursor.OpenQuote
 pub use Rattle.cc_env.specs.WantedWords as WantedWords
 pub use Rattle.cc_env.specs.Builtins as BuiltinShells
 pub use Rattle.cc_env.specs.Replies as AdapterReplies

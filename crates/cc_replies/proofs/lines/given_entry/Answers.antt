@@ -1,8 +1,8 @@
 use Rattle.std.specs.Str.{is_utf8}
-use Rattle.std.proofs.Common.{sym, ◌∙◌}
+use Rattle.std.proofs.Common.{true, false, sym, ◌∙◌}
 use Rattle.std.proofs.lemmas.Bool.{false_from_ne_true}
 use Rattle.std.proofs.lemmas.Str.{IsUtf8-from_is_utf8, is_utf8-from_IsUtf8}
-use Rattle.cc_replies.proofs.GivenEntries.{is_given, not_given, not_text}
+use Rattle.cc_replies.proofs.GivenEntries.{is_given, not_text}
 use Rattle.cc_replies.proofs.lines.given_entry.Goals as goal
 
 pub returns-in_default : goal.returns-in_default
@@ -14,11 +14,11 @@ returns-in_default c =
 pub returns-then-not-is_given_text : goal.returns-then-not-is_given_text
 returns-then-not-is_given_text c =
     let value = c.entry.inside.value.now in
-    not_given c.args.entry value c.in-Ok.value.now c.entry.inside.description.now (sym c.entry.view_is) c.in-Ok.ensures.cases.0
+    is_given c.args.entry value c.in-Ok.value.now c.entry.inside.description.now false (sym c.entry.view_is) c.in-Ok.ensures.cases.0
     (is_utf8-from_IsUtf8 value c.in-Ok.ensures.cases.1) (sym c.is_given_text.ensures ∙ c.if-not-is_given_text.true)
 
 pub returns : goal.returns
 returns c =
     let value = c.entry.inside.value.now in
-    is_given c.args.entry value c.in-Ok.value.now c.entry.inside.description.now (sym c.entry.view_is) c.in-Ok.ensures.cases.0
+    is_given c.args.entry value c.in-Ok.value.now c.entry.inside.description.now true (sym c.entry.view_is) c.in-Ok.ensures.cases.0
     (is_utf8-from_IsUtf8 value c.in-Ok.ensures.cases.1) (sym c.is_given_text.ensures ∙ c.if-not-is_given_text.false)

@@ -1,14 +1,11 @@
-use Rattle.std.proofs.Common.{◌≡◌, ◌++◌, drop, map}
+use Rattle.std.proofs.Common.{drop, map}
+use Rattle.cc_base.proofs.WrittenTexts.{GoesOn}
 use Rattle.cc_base.specs.Joined.{joined_after}
 use Rattle.cc_replies.specs.Reply.{shown, zsh_item}
 use Rattle.cc_replies.proofs.reply.put_zsh_items.Given as goal
 
--- the bytes so far and those for the remaining candidates make up the whole reply; no put failed
 abbrev pub invariant-loop-candidate : goal.invariant-loop-candidate
-invariant-loop-candidate g l = record {
-  written : g.W.Sink.taken l.sink
-      ++ joined_after l.between l.begun (map (λ candidate. zsh_item (shown candidate)) (drop l.candidate-index l.candidates))
-      ≡ g.W.Sink.taken l.initial.sink
-      ++ joined_after l.between l.initial.begun (map (λ candidate. zsh_item (shown candidate)) l.candidates);
-  failures : g.W.Sink.failed l.sink ≡ g.W.Sink.failed l.initial.sink;
-}
+invariant-loop-candidate g l =
+    GoesOn g.W.Sink.taken g.W.Sink.failed l.initial.sink l.sink
+    (joined_after l.between l.initial.begun (map (λ candidate. zsh_item (shown candidate)) l.candidates))
+    (joined_after l.between l.begun (map (λ candidate. zsh_item (shown candidate)) (drop l.candidate-index l.candidates)))

@@ -6,4 +6,4 @@ use Rattle.cc_env.proofs.bash.BashLookupCompleter.write_complete_from.Goals as g
 pub returns-clause-reply : goal.returns-clause-reply
 returns-clause-reply g c =
     replied_named _ _ _ _ _ _ _ _ _ _ _ _ _ (ap values_reply c.separator.ensures)
-    (c.index-index.ensures, refl) c.reply_at.ensures
+    (c.index.ensures, refl) c.reply_at.ensures

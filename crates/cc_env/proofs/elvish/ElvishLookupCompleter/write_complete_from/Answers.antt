@@ -6,4 +6,4 @@ use Rattle.cc_env.proofs.elvish.ElvishLookupCompleter.write_complete_from.Goals 
 pub returns-clause-reply : goal.returns-clause-reply
 returns-clause-reply g c =
     replied_named _ _ _ _ _ _ _ _ _ _ _ _ _ (ap values_reply c.separator.ensures)
-    (c.index-index.ensures, refl) c.reply_at.ensures
+    (c.index.ensures, refl) c.reply_at.ensures

@@ -1,6 +1,6 @@
 use Rattle.std.proofs.Common.{◌≡◌, ◌-◌, drop}
 use Rattle.std.specs.Fmt.{char_count}
-use Rattle.cc_replies.proofs.bash_list.left_after.Given as goal
+use Rattle.cc_replies.proofs.columns.left_after.Given as goal
 
 -- the remaining bytes take what is left to what is left after the text
 abbrev pub invariant-loop-byte : goal.invariant-loop-byte

@@ -2,7 +2,7 @@ use Rattle.std.proofs.Common.{ap, arith}
 use Rattle.std.specs.Fmt.{char_count}
 use Rattle.cc_quote.specs.Escapes.{escaped_by}
 use Rattle.cc_replies.proofs.Characters.{escaped_end, escaped_next}
-use Rattle.cc_replies.proofs.bash_list.left_after_escaped.Goals as goal
+use Rattle.cc_replies.proofs.columns.left_after_escaped.Goals as goal
 
 pub loop-byte-preserved : goal.loop-byte-preserved
 loop-byte-preserved g c =

@@ -5,8 +5,8 @@ use Rattle.std.proofs.lemmas.List.{take_all}
 use Rattle.std.specs.Fmt.{char_count, take_chars}
 use Rattle.std.specs.Prelude.{nat_le}
 use Rattle.cc_replies.proofs.Characters.{char_count-drop, char_count_end, not_whole, take_chars-nil, take_chars_keeps, take_chars_stops, whole}
-use Rattle.cc_replies.proofs.bash_list.end_of.Goals as goal
-use Rattle.cc_replies.proofs.bash_list.end_of.Goals.{then-is_char_start+else-left-eq0, else-is_char_start}
+use Rattle.cc_replies.proofs.columns.end_of.Goals as goal
+use Rattle.cc_replies.proofs.columns.end_of.Goals.{then-is_char_start+else-left-eq0, else-is_char_start}
 
 pub returns-then-left-eq0-clause-value : goal.returns-then-left-eq0-clause-value
 returns-then-left-eq0-clause-value c =

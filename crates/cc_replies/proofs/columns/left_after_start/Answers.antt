@@ -1,5 +1,5 @@
 use Rattle.cc_replies.proofs.ListWidths.{start_left}
-use Rattle.cc_replies.proofs.bash_list.left_after_start.Goals as goal
+use Rattle.cc_replies.proofs.columns.left_after_start.Goals as goal
 
 pub returns : goal.returns
 returns c =

@@ -1,7 +1,7 @@
 use Rattle.std.proofs.Common.{ap, arith}
 use Rattle.std.specs.Fmt.{char_count}
 use Rattle.cc_replies.proofs.Characters.{char_count_end, char_count_next}
-use Rattle.cc_replies.proofs.bash_list.left_after.Goals as goal
+use Rattle.cc_replies.proofs.columns.left_after.Goals as goal
 
 pub loop-byte-preserved : goal.loop-byte-preserved
 loop-byte-preserved c =

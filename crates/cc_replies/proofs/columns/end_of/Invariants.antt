@@ -1,6 +1,6 @@
 use Rattle.std.proofs.Common.{◌≡◌, ◌+◌, ◌++◌, drop, take}
 use Rattle.std.specs.Fmt.{char_count, take_chars}
-use Rattle.cc_replies.proofs.bash_list.end_of.Given as goal
+use Rattle.cc_replies.proofs.columns.end_of.Given as goal
 
 -- the bytes so far and the characters that are left to take are the first ones of the text
 abbrev pub invariant-loop-at : goal.invariant-loop-at

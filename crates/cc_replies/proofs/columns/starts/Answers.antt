@@ -1,6 +1,6 @@
 use Rattle.std.proofs.Common.{true, false, sym, ◌∙◌}
 use Rattle.cc_replies.proofs.Characters.{char_count_one}
-use Rattle.cc_replies.proofs.bash_list.starts.Goals as goal
+use Rattle.cc_replies.proofs.columns.starts.Goals as goal
 
 pub returns-then-is_char_start : goal.returns-then-is_char_start
 returns-then-is_char_start c =
