@@ -4,7 +4,6 @@
 ghost use Rattle.std.specs.Prelude.{◌≡◌, ◌++◌, IfOk, OnOk, bytes_eq, map};
 ghost use Rattle.std.specs.List.{list_any};
 ghost use Rattle.complgen_lints.specs.ArgumentNames.{all_names, taken_of};
-ghost use Rattle.cc_command.specs.Names.{has_id};
 ghost use Rattle.complgen_lints.specs.Scopes.{all_conflicts, conflict_list, conflicts_of};
 ghost use Rattle.complgen_lints.specs.Scopes.{inherited_with, is_known, passed_on, together_list};
 
@@ -131,17 +130,11 @@ fn push_unless_known(found: &mut Found, known: bool, index: usize, item: usize, 
 }
 
 // Returns whether an argument has this id, or it is the id of a flag that building may add.
-#[tactic(auto, unfolding(cc_command::specs::Texts::fixed_texts))]
+#[tactic(auto, unfolding(cc_command::specs::Texts::fixed_texts), using(crate::proofs::Inherited::has_inherited))]
 fn is_known(inherited: &[&Arg], arguments: &[Arg], id: &str) -> bool
     ensures { result ≡ is_known (map (λ other. other.now) inherited.now) arguments.now id.now }
 {
-    (inherits_id(inherited, id) || has_id(arguments, id)) || (id == "help" || id == "version")
-}
-
-fn inherits_id(inherited: &[&Arg], id: &str) -> bool
-    ensures { result ≡ has_id (map (λ other. other.now) inherited.now) id.now }
-{
-    has_borrowed(inherited, id)
+    (has_borrowed(inherited, id) || has_id(arguments, id)) || (id == "help" || id == "version")
 }
 
 // Returns whether one of `arguments` has this id.

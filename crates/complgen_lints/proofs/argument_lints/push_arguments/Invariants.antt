@@ -1,10 +1,6 @@
-use Rattle.std.proofs.Common.{◌≡◌, ◌++◌, drop}
 use Rattle.complgen_lints.specs.ArgumentLints.{argument_list}
-use Rattle.complgen_lints.specs.Lists.{each_from}
+use Rattle.complgen_lints.proofs.Left.{Left}
 use Rattle.complgen_lints.proofs.argument_lints.push_arguments.Given as goal
 
--- the items so far and the remaining ones make the whole
 abbrev pub invariant-loop-index : goal.invariant-loop-index
-invariant-loop-index l =
-    l.found ++ each_from (argument_list l.command) l.index (drop l.index l.arguments)
-    ≡ l.initial.found ++ each_from (argument_list l.command) 0 l.command.node.arguments
+invariant-loop-index l = Left (argument_list l.command) l.initial.found l.found l.index l.arguments
