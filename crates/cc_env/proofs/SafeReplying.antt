@@ -17,8 +17,9 @@ use Rattle.cc_replies.proofs.ReplyReadings.{lines_back, values_back, zsh_back}
 use Rattle.cc_replies.proofs.ListReadings.{list_read_back}
 use Rattle.cc_replies.proofs.PowershellReadings as powershell
 use Rattle.cc_replies.proofs.SafeReadings.{lines_read_back, values_read_back, zsh_read_back}
-use Rattle.cc_replies.specs.BashWords.{Cursor, is_double}
+use Rattle.cc_replies.specs.BashWords.{is_double}
 use Rattle.cc_replies.specs.Environment.{asks_safely, cursor_of, separator_of}
+use Rattle.cc_replies.specs.declared.cursor.Cursor.{Cursor}
 use Rattle.cc_replies.specs.declared.environment.EnvValues.{EnvValues}
 
 -- those of a safe registration's request

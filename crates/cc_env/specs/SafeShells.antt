@@ -14,11 +14,12 @@ use Rattle.cc_registrations.specs.SafeFish.{SafeFishReads, safe_fish}
 use Rattle.cc_registrations.specs.SafePowershell.{SafePowershellReads, safe_powershell}
 use Rattle.cc_registrations.specs.SafeZsh.{SafeZshReads, safe_zsh}
 use Rattle.cc_replies.specs.BashList.{BashListRead, bash_list_reply}
-use Rattle.cc_replies.specs.BashWords.{Cursor, is_double}
+use Rattle.cc_replies.specs.BashWords.{is_double}
 use Rattle.cc_replies.specs.Environment.{asks_safely, cursor_of}
 use Rattle.cc_replies.specs.PowershellWords.{PowershellWordsRead, powershell_words_reply}
 use Rattle.cc_replies.specs.SafeReplies.{SafeLinesRead, SafeValuesRead, SafeZshRead}
 use Rattle.cc_replies.specs.SafeReplies.{safe_lines_reply, safe_values_reply, safe_zsh_reply}
+use Rattle.cc_replies.specs.declared.cursor.Cursor.{Cursor}
 use Rattle.cc_replies.specs.declared.environment.EnvValues.{EnvValues}
 
 -- the safe adapter for a shell

@@ -129,8 +129,8 @@ pub(crate) fn reply_at<L: Lookup, F: ReplyFormat, W: Sink>(
     sink: &mut W,
 ) -> Result<(), Error>
     ensures { Replies W.taken W.failed result sink.old sink.new command.old command.new
-        (WantsThese (map string_bytes wanted.words.items) wanted.index) (Completes (L.may_return lookup.now)
-        command.new) (F.text format.now) }
+        (WantsThese (map string_bytes wanted.words.items) wanted.index)
+        (Completes (L.may_return lookup.now) command.new) (F.text format.now) }
 {
     let found = complete_from(alloc, command, wanted.words, wanted.index, lookup)?;
     format.write(found.as_slice(), sink)

@@ -1,5 +1,5 @@
 -- The lines of bash's list are read back, and two of them differ.
-use Rattle.std.proofs.Common.{◌≡◌, ◌≢◌, ◌⊎◌, ◌==◌, ◌&&◌, ◌-◌, ℕ, zero, suc, Bool, true, false, cond, List, [], ◌∷◌, ◌++◌, Option, Some, None, map, filter, option_map, replicate, codes, inl, inr, refl, sym, ◌∙◌, ap, ap₂, subst, arith, append-nil, append_assoc, flat_map, ◌||◌}
+use Rattle.std.proofs.Common.{◌≡◌, ◌≢◌, ◌⊎◌, ◌==◌, ◌&&◌, ◌-◌, ℕ, zero, suc, Bool, true, false, cond, List, [], ◌∷◌, ◌++◌, Option, Some, None, map, filter, option_map, replicate, codes, inl, inr, refl, sym, ◌∙◌, ap, ap₂, subst, arith, append-nil, flat_map, ◌||◌}
 use Rattle.std.proofs.lemmas.Bool.{and_parts, ne_eqb, or_parts}
 use Rattle.std.proofs.lemmas.List.Folds.{Any-from_list_any}
 use Rattle.std.proofs.lemmas.Slice.Eq.{bytes_eq-Decides}
@@ -17,7 +17,7 @@ use Rattle.cc_candidates.specs.declared.candidate.CompletionCandidate.{Completio
 use Rattle.cc_quote.specs.BashDouble.{is_double_marked}
 use Rattle.cc_quote.specs.Escapes.{marked}
 use Rattle.cc_replies.specs.BashList.{BashListRead, HasTwo, bash_list_in, bash_list_reply, before_closing, closed_word, closing_quote, cut_description, described_text, description_of, description_read, has_other, has_two, is_escape, is_listed_word, list_line, list_line_read, list_room, longest_word, shown_in, shown_with, space, width_left, word_cut, word_end}
-use Rattle.cc_replies.specs.BashWords.{Cursor, OpenQuote, Bare, Single, Double, bare_read, bare_text, bare_word_read, bash_line_word, bash_text, bash_value_read, bash_word_line, bash_words_reply, double_read, holds, home_start, is_bare_marked, is_bash_insertable, is_single_lost, single_read, start_text, word_read}
+use Rattle.cc_replies.specs.BashWords.{Cursor, OpenQuote, Bare, Single, Double, bare_read, bare_text, bare_word_read, bash_line_word, bash_text, bash_value_read, bash_word_line, bash_words_reply, double_read, holds, is_bare_marked, is_bash_insertable, is_single_lost, single_read, start_text, word_read}
 use Rattle.cc_replies.specs.Reply.{Shown, lines_from}
 use Rattle.cc_replies.specs.SafeValues.{is_in_locale, read_in_locale, safe_help}
 use Rattle.cc_replies.proofs.BashReadings.{is_written, start_cases}
