@@ -4,7 +4,7 @@ use Rattle.std.specs.BTreeSet.{BTreeSet, contains}
 use Rattle.std.specs.Cmp.Lexicographic.{slice_cmp, texts_ties}
 use Rattle.std.specs.Ordering.{is_eq, nat_cmp}
 use Rattle.std.specs.Str.{bytes_eq}
-use Rattle.std.proofs.Common.{◌≡◌, ◌&&◌, ◌||◌, ℕ, Bool, true, false, cond, not, List, [], ◌∷◌, ◌++◌, inl, inr, refl, ap, sym, subst, ◌∙◌, append_assoc, append-nil}
+use Rattle.std.proofs.Common.{◌≡◌, ◌&&◌, ◌||◌, ℕ, Bool, true, false, cond, not, List, [], ◌∷◌, ◌++◌, inl, inr, refl, ap, sym, subst, ◌∙◌, append_assoc}
 use Rattle.std.proofs.Math.Bool.{or-false, or-true}
 use Rattle.std.proofs.lemmas.Bool.{cases_Bool}
 use Rattle.std.proofs.lemmas.List.Elements.{filter_agree}
@@ -94,6 +94,3 @@ value_old before after kept left rest whole entry value new cut named inserted o
     ap (λ b. kept ++ cond b (entry ∷ unseen after (first_of_values rest)) (unseen after (first_of_values rest))) (sym old)
     ∙ ap (λ r. kept ++ r) (sym (step before after entry rest new is.0 is.1))
     ∙ ap (λ l. kept ++ unseen before (first_of_values l)) (sym cut) ∙ h
-
-pub values_end : (seen : BTreeSet (List ℕ)) (kept left whole : List Entry) → left ≡ [] → kept ++ unseen seen (first_of_values left) ≡ whole → kept ≡ whole
-values_end seen kept left whole none h = sym (append-nil kept) ∙ ap (λ l. kept ++ unseen seen (first_of_values l)) (sym none) ∙ h
