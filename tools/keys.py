@@ -143,10 +143,10 @@ def keys_read(file):
     return re.findall(r'^            \d+ "(\w+)" \w+ \w+,$', (SOURCES / file).read_text(encoding="utf-8"), re.M)
 
 
-def spelled(kind):
-    """Returns the names of the variants of a type that a tree file spells."""
-    form = rf'^        "(\w+)" => Some\({kind}::\1\),$'
-    return re.findall(form, (SOURCES / "values.rt").read_text(encoding="utf-8"), re.M)
+def spelled(macro):
+    """Returns the names in a macro that lists variants, each after its name."""
+    text = (SOURCES / "kinds.rt").read_text(encoding="utf-8")
+    return re.findall(r'"(\w+)" \1,', re.search(rf"macro_rules! {macro} {{(.*?)\n}}", text, re.S).group(1))
 
 
 def value_keys():
@@ -162,8 +162,8 @@ def unread(schema):
         "key of a command": (keys_read("commands.rt"), schema["command"]["properties"]),
         "key of an argument": (keys_read("args.rt"), argument),
         "key of a possible value": (value_keys(), schema["possible_value"]["properties"]),
-        "action": (spelled("ArgAction"), argument["action"]["enum"]),
-        "value hint": (spelled("ValueHint"), argument["value_hint"]["enum"]),
+        "action": (spelled("each_action"), argument["action"]["enum"]),
+        "value hint": (spelled("each_hint"), argument["value_hint"]["enum"]),
     }
     for what, (code, shown) in pairs.items():
         yield from (f"{what} in the code alone: {name}" for name in sorted(set(code) - set(shown)))

@@ -3,12 +3,12 @@ use Rattle.std.proofs.Common.{◌≡◌, ◌≢◌, ◌∙◌, ap, refl, inl, in
 use Rattle.std.specs.Char.{is_ascii_alphanumeric}
 use Rattle.std.specs.List.{AllByRecursion, list_all}
 use Rattle.std.proofs.lemmas.Bool.Decides.{eqb_tells}
-use Rattle.clap_complete.specs.ArgParts.{ArgParts as Arg}
-use Rattle.clap_complete.specs.ArgumentNames.{aliases_then, all_longs, long_word}
-use Rattle.clap_complete.specs.Plain.{has_no_quote, is_plain_argument, is_plain_forest, is_plain_node, is_plain_tree, passes_if_some, siblings_differ}
-use Rattle.clap_complete.specs.PlainName.{NameByte, letter, joiner, foreign, name_byte, is_joined, is_plain_name}
-use Rattle.clap_complete.specs.Node.{Node}
-use Rattle.clap_complete.specs.Tree.{Tree}
+use Rattle.clap_complete.specs.cc_arg.declared.parts.ArgParts.{ArgParts as Arg}
+use Rattle.clap_complete.specs.cc_generator.ArgumentNames.{aliases_then, all_longs, long_word}
+use Rattle.clap_complete.specs.cc_command.Plain.{has_no_quote, is_plain_argument, is_plain_forest, is_plain_node, is_plain_tree, passes_if_some, siblings_differ}
+use Rattle.clap_complete.specs.cc_base.PlainName.{NameByte, letter, joiner, foreign, name_byte, is_joined, is_plain_name}
+use Rattle.clap_complete.specs.cc_command.declared.node.Node.{Node}
+use Rattle.clap_complete.specs.cc_command.Tree.{Tree}
 use Rattle.cc_caller.specs.WordList.{IsOneLine, ListsLongs, line, lines_of, with_byte}
 
 -- A PLAIN NAME HAS NO LINE FEED

@@ -3,30 +3,30 @@ use Rattle.std.proofs.Common.{◌≡◌, ◌∙◌, ap, inl, inr, refl, subst, s
 use Rattle.std.proofs.lemmas.Bool.{cases_Bool}
 use Rattle.std.proofs.lemmas.List.{append-nil}
 use Rattle.std.specs.Prelude.{not, ◌==◌}
-use Rattle.clap_complete.specs.ArgValueCompleter.{ArgValueCompleter}
-use Rattle.clap_complete.specs.ArgParts.{ArgParts as Arg}
-use Rattle.clap_complete.specs.Printed.{printed, printed_names, printed_values}
-use Rattle.clap_complete.specs.Sorting.{in_order}
-use Rattle.clap_complete.specs.Error.{Error}
-use Rattle.clap_complete.specs.Error.TheVariants as error
-use Rattle.clap_complete.specs.Candidate.{new_candidate}
-use Rattle.clap_complete.specs.CompletionCandidate.{CompletionCandidate}
-use Rattle.clap_complete.specs.Built.{built_tree}
-use Rattle.clap_complete.specs.Generated.{help_argument}
-use Rattle.clap_complete.specs.Texts.{help_name}
-use Rattle.clap_complete.specs.Tree.{Tree}
-use Rattle.clap_complete.specs.Completion.{Completes, Offers, Refuses, is_in_range, match_candidates}
-use Rattle.clap_complete.specs.OfferedChildren.{in_candidates_order, subcommand_candidates}
-use Rattle.clap_complete.specs.Finished.{finish}
-use Rattle.clap_complete.specs.OptionMatch.TheVariants.{Listed}
-use Rattle.clap_complete.specs.OptionMatches.{match_of}
-use Rattle.clap_complete.specs.ValueParts.{front_length}
-use Rattle.clap_complete.specs.ArgumentValues.{MayReturn, as_value, gather, question, values}
-use Rattle.clap_complete.specs.WalkBlocks.{Block, Dashes, join, start, state_after}
-use Rattle.clap_complete.specs.WalkState.{State}
-use Rattle.clap_complete.specs.WalkDestination.{WordsLeadTo}
-use Rattle.clap_complete.specs.WalkLookup.{positional_at}
-use Rattle.clap_complete.specs.WalkReach.{Descend, Reach, Stay}
+use Rattle.clap_complete.specs.cc_base.declared.numbers.ArgValueCompleter.{ArgValueCompleter}
+use Rattle.clap_complete.specs.cc_arg.declared.parts.ArgParts.{ArgParts as Arg}
+use Rattle.clap_complete.specs.cc_arg.Printed.{printed, printed_names, printed_values}
+use Rattle.clap_complete.specs.cc_base.Sorting.{in_order}
+use Rattle.clap_complete.specs.cc_base.declared.error.Error.{Error}
+use Rattle.clap_complete.specs.cc_base.declared.error.Error.TheVariants as error
+use Rattle.clap_complete.specs.cc_candidates.Candidate.{new_candidate}
+use Rattle.clap_complete.specs.cc_candidates.declared.candidate.CompletionCandidate.{CompletionCandidate}
+use Rattle.clap_complete.specs.cc_command.Built.{built_tree}
+use Rattle.clap_complete.specs.cc_command.Generated.{help_argument}
+use Rattle.clap_complete.specs.cc_command.Texts.{help_name}
+use Rattle.clap_complete.specs.cc_command.Tree.{Tree}
+use Rattle.clap_complete.specs.cc_engine.Completion.{Completes, Offers, Refuses, is_in_range, match_candidates}
+use Rattle.clap_complete.specs.cc_gather.Children.{in_candidates_order, subcommand_candidates}
+use Rattle.clap_complete.specs.cc_gather.Finished.{finish}
+use Rattle.clap_complete.specs.cc_gather.declared.options.OptionMatch.TheVariants.{Listed}
+use Rattle.clap_complete.specs.cc_gather.OptionMatches.{match_of}
+use Rattle.clap_complete.specs.cc_gather.Parts.{front_length}
+use Rattle.clap_complete.specs.cc_gather.Values.{MayReturn, as_value, gather, question, values}
+use Rattle.clap_complete.specs.cc_walk.Blocks.{Block, Dashes, join, start, state_after}
+use Rattle.clap_complete.specs.cc_walk.declared.state.State.{State}
+use Rattle.clap_complete.specs.cc_walk.Destination.{WordsLeadTo}
+use Rattle.clap_complete.specs.cc_walk.Lookup.{positional_at}
+use Rattle.clap_complete.specs.cc_walk.Reach.{Descend, Reach, Stay}
 use Rattle.cc_caller.specs.KnownNames.{OffersTools, is_bare, names_beginning, runner, tool_candidate}
 use Rattle.cc_caller.proofs.Finishing.{finished_same}
 

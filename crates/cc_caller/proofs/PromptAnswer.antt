@@ -1,17 +1,17 @@
 -- The answer to a prompt.
 use Rattle.std.proofs.Common.{◌≡◌, ◌∙◌, ◌++◌, ◌-◌, ap, refl, subst, sym, ℕ, Bool, List, [], ◌∷◌, Option, None, Some, Result, Ok, Err, IfOk, codes, length}
 use Rattle.std.specs.Path.{path_file_stem, path_file_name, rsplit_once, split_last_component, trim_trailing}
-use Rattle.clap_complete.specs.Built.{built_tree}
-use Rattle.clap_complete.specs.CompletionCandidate.{CompletionCandidate}
-use Rattle.clap_complete.specs.EnvironmentValues.{value_of}
-use Rattle.clap_complete.specs.EnvValues.{EnvValues}
-use Rattle.clap_complete.specs.Error.{Error}
-use Rattle.clap_complete.specs.Failures.{Failures}
-use Rattle.clap_complete.specs.RequestArguments.{after_dashes}
-use Rattle.clap_complete.specs.RequestSteps.{Ends, EndsAs, MakesText, Tries, names_of, text_written}
-use Rattle.clap_complete.specs.RequestSteps as made
-use Rattle.clap_complete.specs.Tree.{Tree}
-use Rattle.clap_complete.specs.WantedShell.{Wanted, known, wanted_name, wanted_of}
+use Rattle.clap_complete.specs.cc_command.Built.{built_tree}
+use Rattle.clap_complete.specs.cc_candidates.declared.candidate.CompletionCandidate.{CompletionCandidate}
+use Rattle.clap_complete.specs.cc_replies.Environment.{value_of}
+use Rattle.clap_complete.specs.cc_replies.declared.environment.EnvValues.{EnvValues}
+use Rattle.clap_complete.specs.cc_base.declared.error.Error.{Error}
+use Rattle.clap_complete.specs.cc_base.declared.failures.Failures.{Failures}
+use Rattle.clap_complete.specs.cc_env.Arguments.{after_dashes}
+use Rattle.clap_complete.specs.cc_env.Steps.{Ends, EndsAs, MakesText, Tries, names_of, text_written}
+use Rattle.clap_complete.specs.cc_env.Steps as made
+use Rattle.clap_complete.specs.cc_command.Tree.{Tree}
+use Rattle.clap_complete.specs.cc_env.Wanted.{Wanted, known, wanted_name, wanted_of}
 use Rattle.cc_caller.specs.Prompt.{IsAnswer, all_prompts, prompt_spec, registered, replied}
 use Rattle.cc_caller.specs.declared.prompt.Prompt.{Prompt}
 

@@ -1,7 +1,7 @@
 -- The registration and the reply for the prompt read back.
 use Rattle.std.proofs.Common.{◌∙◌, ap, refl, sym, ℕ, List, [], ◌∷◌}
 use Rattle.std.proofs.lemmas.List.{append-nil}
-use Rattle.clap_complete.specs.CompletionCandidate.{CompletionCandidate}
+use Rattle.clap_complete.specs.cc_candidates.declared.candidate.CompletionCandidate.{CompletionCandidate}
 use Rattle.cc_caller.specs.Prompt.{PromptReads, PromptReplyReads, ended_line, prompt_reply}
 use Rattle.cc_caller.specs.WordList.{lines_of}
 use Rattle.cc_caller.proofs.LinesRead.{one_line}

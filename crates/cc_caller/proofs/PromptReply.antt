@@ -1,14 +1,14 @@
 -- The ends of a call that finds candidates for a word and writes their reply.
 use Rattle.std.proofs.Common.{◌≡◌, ◌∙◌, ap, refl, subst, sym, ℕ, Bool, true, List, length, Result, Ok, Err, IfErr, IsErrAnd}
-use Rattle.clap_complete.specs.AdapterReplies.{IsWanted, Replies}
-use Rattle.clap_complete.specs.Built.{built_tree}
-use Rattle.clap_complete.specs.Completion.{Refuses, is_in_range}
-use Rattle.clap_complete.specs.CompletionCandidate.{CompletionCandidate}
-use Rattle.clap_complete.specs.Error.{Error}
-use Rattle.clap_complete.specs.Error.TheVariants.{Memory, NoCompletion, Write}
-use Rattle.clap_complete.specs.Failures.{Failures}
-use Rattle.clap_complete.specs.Tree.{Tree}
-use Rattle.clap_complete.specs.Writes.{IsWrite, Writes}
+use Rattle.clap_complete.specs.cc_env.Replies.{IsWanted, Replies}
+use Rattle.clap_complete.specs.cc_command.Built.{built_tree}
+use Rattle.clap_complete.specs.cc_engine.Completion.{Refuses, is_in_range}
+use Rattle.clap_complete.specs.cc_candidates.declared.candidate.CompletionCandidate.{CompletionCandidate}
+use Rattle.clap_complete.specs.cc_base.declared.error.Error.{Error}
+use Rattle.clap_complete.specs.cc_base.declared.error.Error.TheVariants.{Memory, NoCompletion, Write}
+use Rattle.clap_complete.specs.cc_base.declared.failures.Failures.{Failures}
+use Rattle.clap_complete.specs.cc_command.Tree.{Tree}
+use Rattle.clap_complete.specs.cc_base.Writes.{IsWrite, Writes}
 
 module _ {S : Type 0} (taken : S → List ℕ) (failed : S → Failures) (before after : Tree)
     (Wants : List (List ℕ) → ℕ → Type 0) (Offers : List (List ℕ) → ℕ → List CompletionCandidate → Type 0)

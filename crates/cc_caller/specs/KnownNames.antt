@@ -2,12 +2,12 @@
 use Rattle.std.specs.Prelude.{◌≡◌, ℕ, ◌==◌, List, [], ◌∷◌, Bool, true, false, not, Some, codes}
 use Rattle.std.specs.Prelude.{filter, map, nat_eq}
 use Rattle.std.specs.List.{starts_with}
-use Rattle.clap_complete.specs.Arguments.{new_arg}
-use Rattle.clap_complete.specs.ArgValueCompleter.{ArgValueCompleter}
-use Rattle.clap_complete.specs.Candidate.{new_candidate}
-use Rattle.clap_complete.specs.CompletionCandidate.{CompletionCandidate}
-use Rattle.clap_complete.specs.Made.{new_tree, with_argument}
-use Rattle.clap_complete.specs.Tree.{Tree}
+use Rattle.clap_complete.specs.cc_arg.Arguments.{new_arg}
+use Rattle.clap_complete.specs.cc_base.declared.numbers.ArgValueCompleter.{ArgValueCompleter}
+use Rattle.clap_complete.specs.cc_candidates.Candidate.{new_candidate}
+use Rattle.clap_complete.specs.cc_candidates.declared.candidate.CompletionCandidate.{CompletionCandidate}
+use Rattle.clap_complete.specs.cc_command.Made.{new_tree, with_argument}
+use Rattle.clap_complete.specs.cc_command.Tree.{Tree}
 
 -- the names that begin with the text, in their order
 abbrev pub names_beginning : List (List ℕ) → List ℕ → List (List ℕ)

@@ -1,10 +1,10 @@
 -- The effects of a call that writes an Elvish script only for plain commands.
 use Rattle.std.specs.Prelude.{◌≡◌, ℕ, List, ◌++◌, Bool, true, false, Some, Result, Ok, ⊤}
-use Rattle.clap_complete.specs.ElvishReader.{elvish_tables, offer_read}
-use Rattle.clap_complete.specs.ElvishScript.{elvish_script}
-use Rattle.clap_complete.specs.Error.{Error}
-use Rattle.clap_complete.specs.Tables.{tree_tables}
-use Rattle.clap_complete.specs.Tree.{Tree}
+use Rattle.clap_complete.specs.cc_tables.ElvishReader.{elvish_tables, offer_read}
+use Rattle.clap_complete.specs.cc_tables.ElvishScript.{elvish_script}
+use Rattle.clap_complete.specs.cc_base.declared.error.Error.{Error}
+use Rattle.clap_complete.specs.cc_tables.Tables.{tree_tables}
+use Rattle.clap_complete.specs.cc_command.Tree.{Tree}
 
 -- the script of the tree is written, and reads back to the tree's tables
 pub record TakesTables (old new : List ℕ) (tree : Tree) : Type 0 where

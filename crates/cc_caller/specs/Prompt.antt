@@ -2,13 +2,13 @@
 use Rattle.std.specs.Prelude.{◌≡◌, ◌≢◌, ◌++◌, ◌-◌, ℕ, List, [], ◌∷◌, Option, Result, Ok, codes, flat_map, length, map}
 use Rattle.std.specs.List.{AllByRecursion}
 use Rattle.std.specs.Str.{bytes_eq}
-use Rattle.clap_complete.specs.BuiltinShells.{CompleterSpec}
-use Rattle.clap_complete.specs.Built.{built_tree}
-use Rattle.clap_complete.specs.CompletionCandidate.{CompletionCandidate}
-use Rattle.clap_complete.specs.Error.{Error}
-use Rattle.clap_complete.specs.RequestArguments.{after_dashes, program_path}
-use Rattle.clap_complete.specs.Tree.{Tree}
-use Rattle.clap_complete.specs.WantedWords.{WantsAtLast}
+use Rattle.clap_complete.specs.cc_env.Builtins.{CompleterSpec}
+use Rattle.clap_complete.specs.cc_command.Built.{built_tree}
+use Rattle.clap_complete.specs.cc_candidates.declared.candidate.CompletionCandidate.{CompletionCandidate}
+use Rattle.clap_complete.specs.cc_base.declared.error.Error.{Error}
+use Rattle.clap_complete.specs.cc_env.Arguments.{after_dashes, program_path}
+use Rattle.clap_complete.specs.cc_command.Tree.{Tree}
+use Rattle.clap_complete.specs.cc_env.WantedWords.{WantsAtLast}
 use Rattle.cc_caller.specs.WordList.{IsOneLine, lines_of}
 use Rattle.cc_caller.specs.declared.prompt.Prompt.{Prompt}
 

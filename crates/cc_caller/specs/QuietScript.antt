@@ -1,12 +1,12 @@
 -- The effects of a call that writes a bash script only for plain commands with quiet values.
 use Rattle.std.specs.Prelude.{◌≡◌, ℕ, List, ◌++◌, Bool, true, false, Some, Result, Ok, ⊤}
-use Rattle.clap_complete.specs.BashArms.{tree_arms}
-use Rattle.clap_complete.specs.BashCaseTable.{tree_cases}
-use Rattle.clap_complete.specs.BashLabels.{root_label}
-use Rattle.clap_complete.specs.BashReader.{bash_table}
-use Rattle.clap_complete.specs.BashScript.{bash_script}
-use Rattle.clap_complete.specs.Error.{Error}
-use Rattle.clap_complete.specs.Tree.{Tree}
+use Rattle.clap_complete.specs.cc_bash.Arms.{tree_arms}
+use Rattle.clap_complete.specs.cc_bash.CaseTable.{tree_cases}
+use Rattle.clap_complete.specs.cc_bash.Labels.{root_label}
+use Rattle.clap_complete.specs.cc_bash.Reader.{bash_table}
+use Rattle.clap_complete.specs.cc_bash.Script.{bash_script}
+use Rattle.clap_complete.specs.cc_base.declared.error.Error.{Error}
+use Rattle.clap_complete.specs.cc_command.Tree.{Tree}
 
 -- the script of the tree is written, and reads back to the tree's cases and arms
 pub record TakesTable (old new : List ℕ) (tree : Tree) : Type 0 where

@@ -3,9 +3,9 @@
 use Rattle.std.specs.Prelude.{◌≡◌, ℕ, ◌==◌, if◌then◌else◌, List, [], ◌∷◌, ◌++◌, None, codes, false}
 use Rattle.std.specs.Prelude.{flat_map, map}
 use Rattle.std.specs.List.{AllByRecursion}
-use Rattle.clap_complete.specs.ArgumentNames.{all_longs, long_word}
-use Rattle.clap_complete.specs.Generators.{ShellSpec}
-use Rattle.clap_complete.specs.Tree.{Tree}
+use Rattle.clap_complete.specs.cc_generator.ArgumentNames.{all_longs, long_word}
+use Rattle.clap_complete.specs.cc_generator.Generators.{ShellSpec}
+use Rattle.clap_complete.specs.cc_command.Tree.{Tree}
 
 -- a long as it is typed, and a line feed
 abbrev pub line : List ℕ → List ℕ

@@ -2,10 +2,10 @@
 
 ghost use Rattle.std.specs.Prelude.{◌≡◌, ◌&&◌, IfOk, Some};
 ghost use Rattle.std.specs.String.{string_bytes};
-ghost use Rattle.clap_complete.specs.Built.{built_under};
-ghost use Rattle.clap_complete.specs.Plain.{is_plain_tree};
-ghost use Rattle.clap_complete.specs.PlainName.{is_plain_name};
-ghost use Rattle.clap_complete.specs.Quiet.{is_quiet_tree};
+ghost use Rattle.clap_complete.specs.cc_command.Built.{built_under};
+ghost use Rattle.clap_complete.specs.cc_command.Plain.{is_plain_tree};
+ghost use Rattle.clap_complete.specs.cc_base.PlainName.{is_plain_name};
+ghost use Rattle.clap_complete.specs.cc_command.Quiet.{is_quiet_tree};
 ghost use Rattle.cc_caller.specs.QuietScript.{TakesQuiet};
 
 use clap_complete::aot::{Bash, Sink};

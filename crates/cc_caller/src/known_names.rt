@@ -1,7 +1,7 @@
 //! A completer of names that a program knows, and the candidates with it.
 
 ghost use Rattle.std.specs.Prelude.{◌≡◌, IfErr, IfOk, map, string_bytes};
-ghost use Rattle.clap_complete.specs.Candidate.{new_candidate};
+ghost use Rattle.clap_complete.specs.cc_candidates.Candidate.{new_candidate};
 ghost use Rattle.cc_caller.specs.KnownNames.{OffersTools, names_beginning, runner};
 
 use clap_complete::Error;

@@ -4,10 +4,10 @@
 ghost use Rattle.std.specs.Prelude.{◌≡◌, ◌++◌, ◌-◌, ℕ, IfErr, IfOk, List, Some, codes, length};
 ghost use Rattle.std.specs.Prelude.{map, string_bytes};
 ghost use Rattle.std.specs.Option.{option_copied};
-ghost use Rattle.clap_complete.specs.Completion.{Completes};
-ghost use Rattle.clap_complete.specs.EnvironmentValues.{value_of};
-ghost use Rattle.clap_complete.specs.LookupSources.{returned_from};
-ghost use Rattle.clap_complete.specs.Writes.{IsWrite, Writes};
+ghost use Rattle.clap_complete.specs.cc_engine.Completion.{Completes};
+ghost use Rattle.clap_complete.specs.cc_replies.Environment.{value_of};
+ghost use Rattle.clap_complete.specs.cc_engine.Sources.{returned_from};
+ghost use Rattle.clap_complete.specs.cc_base.Writes.{IsWrite, Writes};
 ghost use Rattle.cc_caller.specs.Prompt.{IsAnswer, all_prompts, ended_line, prompt_reply};
 
 use clap_complete::aot::{Sink, put_all};

@@ -1,7 +1,7 @@
 //! A generator outside the library.
 
 ghost use Rattle.std.specs.Prelude.{flat_map, map, string_bytes};
-ghost use Rattle.clap_complete.specs.Writes.{Writes};
+ghost use Rattle.clap_complete.specs.cc_base.Writes.{Writes};
 ghost use Rattle.cc_caller.specs.WordList.{line};
 
 use clap_complete::Error;

@@ -6,7 +6,7 @@ use Rattle.cc_env.specs.Builtins.{CompleterSpec}
 use Rattle.cc_base.specs.Collected.{collected_bytes}
 use Rattle.cc_base.specs.declared.collected.Collected.{Collected}
 use Rattle.cc_base.specs.declared.error.Error.{Error}
-use Rattle.cc_base.specs.declared.error.Error.TheVariants.{Memory, NoArguments, NoCompletion}
+use Rattle.cc_base.specs.declared.error.Error.TheVariants.{Memory, NoCompletion}
 use Rattle.cc_candidates.specs.declared.candidate.CompletionCandidate.{CompletionCandidate}
 use Rattle.cc_command.specs.Built.{built_tree}
 use Rattle.cc_command.specs.Tree.{Tree}

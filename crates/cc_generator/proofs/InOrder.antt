@@ -1,5 +1,5 @@
 -- A list in order is a permutation of the list.
-use Rattle.std.proofs.Common.{◌≡◌, Bool, List, [], ◌∷◌, inl, inr}
+use Rattle.std.proofs.Common.{Bool, List, [], ◌∷◌, inl, inr}
 use Rattle.std.specs.List.Sorted.{IsPermutation}
 use Rattle.std.proofs.lemmas.Bool.{cases_Bool}
 use Rattle.std.proofs.lemmas.List.Sorted.{IsPermutation-refl, IsPermutation-cons, IsPermutation-middle, IsPermutation-trans}

@@ -1,16 +1,15 @@
 -- Trees whose arguments are no longer global.
-use Rattle.std.proofs.Common.{◌≡◌, ◌∙◌, ℕ, Bool, true, false, not, cond, ◌||◌, ◌&&◌, List, [], ◌∷◌, ◌++◌, Option, option_map, map, refl, sym, ap, ap₂, subst}
-use Rattle.std.specs.Prelude.{find}
+use Rattle.std.proofs.Common.{◌≡◌, ◌∙◌, ℕ, Bool, true, false, not, cond, ◌||◌, ◌&&◌, List, [], ◌∷◌, ◌++◌, refl, ap, ap₂}
 use Rattle.std.specs.List.{AllByRecursion, list_all}
 use Rattle.std.proofs.lemmas.List.{map-append}
 use Rattle.cc_arg.specs.declared.parts.ArgParts.{ArgParts as Arg}
 use Rattle.cc_command.specs.declared.node.Node.{Node}
 use Rattle.cc_command.specs.Tree.{Forest, none, more, join, has_nodes, Tree}
-use Rattle.clap.specs.Simple.{App, Shape, built, new_app, on_top}
+use Rattle.clap.specs.Simple.{App, built}
 use Rattle.clap.specs.Walk.{Rule}
 use Rattle.cc_parser.specs.Local.{local_argument, local_arguments, local_forest, local_node, local_tree}
 use Rattle.cc_parser.specs.Parsers.{IsAppOf, any_global, globals_in, has_generated, has_globals, is_disabled_below, is_left_out, kept, named_app}
-use Rattle.cc_parser.specs.Taken.{TakesAllValues, TakesNames, TakesOffered, TakesSiblings, answers_long, answers_short, are_help_if_generated, fits_parser, has_help_beside_others, has_index_or_name, id_of_long, id_of_short, is_help_if_generated}
+use Rattle.cc_parser.specs.Taken.{TakesAllValues, TakesNames, TakesOffered, TakesSiblings, answers_long, answers_short, are_help_if_generated, fits_parser, has_index_or_name, id_of_long, id_of_short, is_help_if_generated}
 use Rattle.cc_parser.proofs.Taking.{find_both, takes_tree}
 
 pub local_arguments-more : (local : Bool) (arguments : List Arg) (argument : Arg)

@@ -1,5 +1,5 @@
 -- The steps of a program that parses its words.
-use Rattle.std.proofs.Common.{◌≡◌, Result, Ok, ap, subst}
+use Rattle.std.proofs.Common.{◌≡◌, Result, Ok, subst}
 use Rattle.std.specs.declared.process.ExitCode.{ExitCode}
 use Rattle.clap.specs.declared.parser.matches.ArgMatches.{ArgMatches}
 use Rattle.cc_base.specs.declared.error.Error.{Error}

@@ -15,7 +15,7 @@ use Rattle.cc_env.specs.SafeShells.{all_safe}
 use Rattle.cc_env.specs.Wanted.{Wanted, nothing}
 use Rattle.cc_env.specs.declared.safe_shell.SafeShell.{SafeShell}
 use Rattle.cc_replies.specs.declared.environment.EnvValues.{EnvValues}
-use Rattle.cc_program.specs.Requests.{TriesSome, out_of_memory, tried}
+use Rattle.cc_program.specs.Requests.{TriesSome, tried}
 use Rattle.cc_program.specs.Running.{Runs, ended}
 use Rattle.cc_program.specs.Seen.{Seen}
 use Rattle.cc_program.specs.Statuses.{IsRequested}

@@ -1,12 +1,11 @@
 -- The ends of a program over streams, as ends over what the streams have taken.
-use Rattle.std.proofs.Common.{◌≡◌, ℕ, Bool, true, false, List, [], Option, None, Some, Result, Ok, Err, ap, refl, subst}
+use Rattle.std.proofs.Common.{◌≡◌, ℕ, Bool, true, false, List, [], Option, Result, ap, refl, subst}
 use Rattle.std.specs.declared.process.ExitCode.{ExitCode}
 use Rattle.clap.specs.declared.error.kind.ErrorKind.{ErrorKind}
 use Rattle.clap.specs.declared.parser.matches.ArgMatches.{ArgMatches}
 use Rattle.cc_asking.specs.Answers.{Told}
 use Rattle.cc_asking.specs.OwnEnds.{EndsOwn, not_answered, not_requested, write_failed, written}
 use Rattle.cc_base.specs.Sink.{none_failed}
-use Rattle.cc_base.specs.declared.failures.Failures.{Failures}
 use Rattle.cc_base.specs.Writes.{Writes}
 use Rattle.cc_base.specs.declared.error.Error.{Error}
 use Rattle.cc_base.specs.declared.sink.Sink.{Ghosts}

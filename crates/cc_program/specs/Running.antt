@@ -1,5 +1,5 @@
 -- The ends of a program that runs over the system.
-use Rattle.std.specs.Prelude.{◌≡◌, ℕ, List, Option, None, Result, Err, codes}
+use Rattle.std.specs.Prelude.{ℕ, List, Option, None, Result, Err, codes}
 use Rattle.std.specs.declared.alloc.Global.{Global}
 use Rattle.std.specs.declared.process.ExitCode.{ExitCode}
 use Rattle.clap.specs.declared.parser.matches.ArgMatches.{ArgMatches}

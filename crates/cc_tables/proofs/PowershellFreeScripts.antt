@@ -1,6 +1,6 @@
 -- The PowerShell script of a plain tree holds none of PowerShell's further quotes, if the quotes of
 -- the tree are escaped. So it also reads back for a reader that takes them as quotes.
-use Rattle.std.proofs.Common.{◌≡◌, ◌∙◌, refl, subst, ap, inl, inr, ℕ, ◌++◌, Bool, true, false, cond, IsTrue, List, [], ◌∷◌, codes, flat_map, Some, ◌≢◌, not, arith}
+use Rattle.std.proofs.Common.{◌∙◌, refl, subst, ap, inl, inr, ℕ, ◌++◌, Bool, true, false, cond, IsTrue, List, [], ◌∷◌, codes, flat_map, Some, ◌≢◌, not, arith}
 use Rattle.std.specs.Char.{is_ascii_uppercase}
 use Rattle.std.specs.List.{AllByRecursion}
 use Rattle.std.proofs.lemmas.Bool.{and_parts, and_from}
@@ -25,7 +25,7 @@ use Rattle.cc_base.specs.PlainName.{name_byte, foreign}
 use Rattle.cc_base.proofs.NameBytes.{letter_or_joiner}
 use Rattle.cc_tables.specs.Offers.{node_offers, word}
 use Rattle.cc_tables.specs.PowershellReader.{PowershellReads, ReadsByAllQuotes, powershell_tables, spelling, tables_begin, offer_read}
-use Rattle.cc_tables.specs.PowershellScript.{ResultKind, capital_space, details_text, kind_begin, kind_text, list_begin, offer_row, offer_text, parameter_name, parameter_value, powershell_frame, powershell_named, powershell_script, row_begin, row_end, row_text, shown_text, text_begin, words_text}
+use Rattle.cc_tables.specs.PowershellScript.{ResultKind, capital_space, details_text, kind_begin, kind_text, list_begin, offer_row, offer_text, parameter_name, parameter_value, powershell_frame, powershell_named, powershell_script, row_begin, row_end, row_text, text_begin, words_text}
 use Rattle.cc_tables.specs.Script.{head_text, named_text, script_text, table_text}
 use Rattle.cc_tables.specs.TableReader.{read, ReadsTables}
 use Rattle.cc_tables.specs.TableReader.State.{between_tables}

@@ -1,5 +1,5 @@
 -- If there are only notes, the premises hold.
-use Rattle.std.proofs.Common.{◌≡◌, ◌∙◌, sym, ap, subst, refl, ℕ, Bool, true, false, ◌&&◌, IsTrue, List, [], ◌++◌, Option, Some, None, unwrap_or, inl, inr}
+use Rattle.std.proofs.Common.{◌≡◌, subst, refl, ℕ, ◌&&◌, IsTrue, List, [], Option, Some, None, unwrap_or}
 use Rattle.std.specs.List.{list_all}
 use Rattle.std.proofs.lemmas.Bool.{and_parts}
 use Rattle.cc_bash.specs.Labels.{shared_label}
@@ -11,7 +11,6 @@ use Rattle.cc_base.specs.PlainName.{is_plain_name}
 use Rattle.cc_command.proofs.EscapedBuilt.{escaped_built_under}
 use Rattle.complgen_lints.specs.CommandWarnings.{command_list}
 use Rattle.complgen_lints.specs.Notes.{are_notes}
-use Rattle.complgen_lints.specs.Premises.{holds_premises}
 use Rattle.complgen_lints.proofs.PremisesFound.{premises_hold as command_premises}
 use Rattle.complgen_lints.proofs.Walked.{notes_append}
 use Rattle.complgen_check.specs.Promises.{HoldPremises}

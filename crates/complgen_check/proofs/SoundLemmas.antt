@@ -24,7 +24,6 @@ use Rattle.complgen_tree_errors.specs.Findings.{AreErrors, IsError, Shown, shown
 use Rattle.complgen_tree_errors.specs.declared.finding.Level.{Level}
 use Rattle.complgen_tree_errors.specs.declared.finding.Level.TheVariants.{Error, Note, Warning as Warns}
 use Rattle.complgen_tree_errors.specs.declared.finding.Finding.{Finding}
-use Rattle.complgen_tree_file.specs.Faults.{is_nil}
 use Rattle.complgen_check.proofs.NoWarnings.{premises_hold}
 use Rattle.complgen_check.specs.Promises.{HoldPremises}
 use Rattle.complgen_check.specs.TreeWarnings.{built_as, called, warnings_of}

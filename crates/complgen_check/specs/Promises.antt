@@ -1,7 +1,5 @@
 -- The premises of the promises about scripts.
-use Rattle.std.specs.Prelude.{◌≡◌, ℕ, List, Option, Some, None, IsTrue, Result, Ok, Err}
-use Rattle.cc_base.specs.Writes.{IsMemoryOrWrite}
-use Rattle.cc_base.specs.declared.error.Error.{Error}
+use Rattle.std.specs.Prelude.{◌≡◌, ℕ, List, Option, None, IsTrue}
 use Rattle.cc_bash.specs.Labels.{shared_label}
 use Rattle.cc_command.specs.Escaped.{is_escaped_tree}
 use Rattle.cc_command.specs.Plain.{is_plain_tree}

@@ -1,6 +1,6 @@
 -- Objects and the values at some keys.
 use Rattle.std.proofs.Common.{◌≡◌, List, [], ◌∷◌, None, Some, codes, false, refl, true, ℕ}
-use Rattle.serde_json.specs.Data.{Data, Members, boolean, member, no_members, null, object, put, string}
+use Rattle.serde_json.specs.Data.{Data, boolean, member, no_members, null, object, put, string}
 use Rattle.serde_json.proofs.OnLiterals.{serde_json_on_literals}
 use Rattle.complgen_json.specs.Slots.{are_distinct, members_at, values_at}
 

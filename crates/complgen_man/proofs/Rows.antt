@@ -1,13 +1,13 @@
 -- The texts of small pages, and the signs that a reader of roff finds in hostile ones.
-use Rattle.std.proofs.Common.{◌≡◌, ℕ, true, List, [], ◌∷◌, ◌++◌, codes, refl, Some, None}
+use Rattle.std.proofs.Common.{◌≡◌, true, [], ◌∷◌, ◌++◌, codes, refl, Some}
 use Rattle.cc_arg.specs.Arguments.{new_arg}
 use Rattle.cc_arg.specs.PossibleValues.{new_possible_value}
 use Rattle.cc_command.specs.Made.{new_node}
-use Rattle.cc_command.specs.Tree.{Forest, none, more, Tree}
+use Rattle.cc_command.specs.Tree.{none, more}
 use Rattle.complgen_man.specs.Page.{argument_text, arguments_text, bold_text, command_head, command_mark, command_text, commands_section, default_line, described_text, front_text, heading_text, label_text, listed_text, man_page, name_section, name_text, options_mark, options_section, paragraph_text, possible_text, source_text, synopsis_text, title_text, titled_commands, usage_text, value_line, value_text, values_text}
-use Rattle.complgen_man.specs.Reader.{glyph, line_end, read_page, roman}
+use Rattle.complgen_man.specs.Reader.{line_end, read_page, roman}
 use Rattle.complgen_man.specs.Roff.{escaped_prose, escaped_word}
-use Rattle.complgen_man.specs.Shown.{prose, request, word}
+use Rattle.complgen_man.specs.Shown.{request, word}
 
 escape_rows :
     (escaped_word (codes "a-b\\c'd\"e`f^g~h") ≡ codes "a\\-b\\(rsc\\(aqd\\(dqe\\(gaf\\(hag\\(tih")

@@ -1,5 +1,5 @@
 -- A reader of pages in roff: it goes byte by byte, and knows what man pages need.
-use Rattle.std.specs.Prelude.{ℕ, List, [], ◌∷◌, ◌++◌, Bool, ◌==◌, ◌||◌, ◌&&◌, if◌then◌else◌, map, codes}
+use Rattle.std.specs.Prelude.{ℕ, List, [], ◌∷◌, ◌++◌, ◌==◌, ◌||◌, ◌&&◌, if◌then◌else◌}
 use Rattle.cc_base.specs.Bytes.{backslash, backtick, dash, double_quote, line_feed, open_parenthesis, single_quote}
 use Rattle.complgen_man.specs.Roff.{caret, tilde}
 

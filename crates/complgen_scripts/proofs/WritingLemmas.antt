@@ -1,5 +1,5 @@
 -- The outcomes of writing a text for the command of a tree file, one by one.
-use Rattle.std.proofs.Common.{◌≡◌, ◌++◌, refl, ℕ, Bool, List, Option, None, Some, Result, Ok, Err}
+use Rattle.std.proofs.Common.{◌≡◌, ◌++◌, refl, ℕ, Bool, List, Option, None, Some, Ok, Err}
 use Rattle.std.specs.Prelude.{IsTrue}
 use Rattle.complgen_scripts.specs.Refusals.{IsOutOfMemory}
 use Rattle.complgen_scripts.specs.declared.refusals.Refusal.{Refusal}

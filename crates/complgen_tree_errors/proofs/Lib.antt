@@ -1,4 +1,2 @@
-pub mod CheckLemmas
-pub mod DoubleLemmas
 pub mod MarkLemmas
 pub mod ShownLemmas

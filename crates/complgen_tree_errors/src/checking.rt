@@ -17,7 +17,7 @@ use crate::texts::fault_text;
 use cc_base::on_one_line;
 use cc_command::Command;
 use complgen_json::{JsonError, Scratch, Value, read_value};
-use complgen_tree_file::{Fault, FaultKind, Faults, read_command};
+use complgen_tree_file::{Fault, FaultKind, Faults, command_or_faults};
 use std::alloc::{AllocError, Global};
 
 /// The result of checking a tree file.
@@ -74,13 +74,13 @@ fn check_text<'t>(
 fn check_value<'t>(alloc: Global, mut source: Source<'t>) -> Result<Checked<'t>, AllocError>
     ensures { IfOk result (λ checked. ChecksValue (value_view source.entry.value) checked) }
 {
-    let mut faults = Faults::new(alloc);
-    let command = read_command(&mut faults, &source.value)?;
-    if !faults.is_empty() {
-        return Ok(Checked::Errors(placed(alloc, &mut source, faults)?));
+    match command_or_faults(alloc, &source.value)? {
+        Ok(command) => {
+            let doubles = hidden_members(alloc, &mut source)?;
+            Ok(Checked::Tree(command, doubles, source))
+        }
+        Err(faults) => Ok(Checked::Errors(placed(alloc, &mut source, faults)?)),
     }
-    let doubles = hidden_members(alloc, &mut source)?;
-    Ok(Checked::Tree(command, doubles, source))
 }
 
 /// Returns the errors in the value of `source`, in the order of its text. There are none exactly if
@@ -97,9 +97,10 @@ pub(crate) fn placed_errors(
         ≡ is_some (command_of (view source.old.value))) }
     ensures errors { IfOk result (λ errors. All IsError (map shown errors.items)) }
 {
-    let mut faults = Faults::new(alloc);
-    let _ = read_command(&mut faults, &source.value)?;
-    placed(alloc, source, faults)
+    match command_or_faults(alloc, &source.value)? {
+        Ok(_) => Ok(Vec::new(alloc)),
+        Err(faults) => placed(alloc, source, faults),
+    }
 }
 
 // Makes an error of each fault in the value of `source`, in the order of the text.

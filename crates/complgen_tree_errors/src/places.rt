@@ -32,11 +32,8 @@ fn inside_object<'v, 't>(
     match step {
         Step::Key(key) => last_member(members, key),
         Step::Member(_, index) => {
-            if index < members.len() {
-                Some((index, &members[index].1))
-            } else {
-                None
-            }
+            let member = members.get(index)?;
+            Some((index, &member.1))
         }
         Step::Item(_) => None,
     }
@@ -45,11 +42,8 @@ fn inside_object<'v, 't>(
 fn inside_list<'v, 't>(items: &'v [Value<'t>], step: Step<'_>) -> Option<(usize, &'v Value<'t>)> {
     match step {
         Step::Item(index) => {
-            if index < items.len() {
-                Some((index, &items[index]))
-            } else {
-                None
-            }
+            let item = items.get(index)?;
+            Some((index, item))
         }
         _ => None,
     }

@@ -1,16 +1,15 @@
 -- The children of a command are found at their key.
-use Rattle.std.proofs.Common.{◌≡◌, ◌∙◌, Bool, true, false, [], Option, Some, None, is_some, Ordering, Less}
+use Rattle.std.proofs.Common.{◌≡◌, ◌∙◌, Bool, [], Option, Some, Ordering, Less}
 use Rattle.std.proofs.Common.{ap, codes, fold, if◌then◌else◌, nat_cmp, refl, sym}
 use Rattle.std.specs.Option.{option_map_or}
 use Rattle.std.specs.Ordering.{is_eq, match_ordering}
 use Rattle.std.specs.Cmp.Lexicographic.{slice_cmp}
 use Rattle.std.specs.Str.{bytes_eq}
 use Rattle.std.proofs.lemmas.Map.Text.{is_eq-slice_cmp}
-use Rattle.serde_json.specs.Data.{Data, null, boolean, number, string, array, object}
-use Rattle.serde_json.specs.Data.{Members, member, no_members}
+use Rattle.serde_json.specs.Data.{Data, object, Members, member, no_members}
 use Rattle.serde_json.specs.Find.{get, get_member}
 use Rattle.cc_command.specs.Made.{of_node, with_child}
-use Rattle.complgen_tree_file.specs.CommandForm.{children_fit, children_in, command_fits, command_in, command_of}
+use Rattle.complgen_tree_file.specs.CommandForm.{children_fit, children_in, command_fits, command_in}
 use Rattle.complgen_tree_file.specs.CommandForm.{commands_fit, commands_in, own_fits, own_in}
 
 either : {X : Type 0} (f : Data → X) (none : X) (o : Ordering) (found : Option Data) (d : Data)
@@ -50,40 +49,14 @@ children_fitting (member key d ms) before =
 pub command_with_children : (d : Data) → command_in d
     ≡ fold with_child (of_node (own_in d))
     (option_map_or commands_in (get (codes "subcommands") d) [])
-command_with_children null = refl
-command_with_children (boolean b) = refl
-command_with_children (number n) = refl
-command_with_children (string s) = refl
-command_with_children (array ds) = refl
 command_with_children (object ms) =
     ap (fold with_child (of_node (own_in (object ms)))) (children_found ms)
+command_with_children d = refl
 
 -- it fits if it does by itself, and the children do
 pub command_fits_with_children : (d : Data) (before : Bool) → command_fits d before
     ≡ option_map_or (λ list. commands_fit list (own_fits d before)) (get (codes "subcommands") d)
     (own_fits d before)
-command_fits_with_children null before = refl
-command_fits_with_children (boolean b) before = refl
-command_fits_with_children (number n) before = refl
-command_fits_with_children (string s) before = refl
-command_fits_with_children (array ds) before = refl
 command_fits_with_children (object ms) before =
     children_fitting ms (own_fits (object ms) before)
-
--- ---- whether a value describes a command
-
-is_there : {A : Type 0} (fits : Bool) (a : A) → is_some (if fits then Some a else None) ≡ fits
-is_there true a = refl
-is_there false a = refl
-
-pub described_where : (d : Data) → is_some (command_of d) ≡ command_fits d true
-unfolding command_of
-described_where d = is_there (command_fits d true) (command_in d)
-
-pub described : (d : Data) → command_fits d true ≡ true → command_of d ≡ Some (command_in d)
-unfolding command_of
-described d fits = ap (λ b. if b then Some (command_in d) else None) fits
-
-pub not_described : (d : Data) → command_fits d true ≡ false → command_of d ≡ None
-unfolding command_of
-not_described d fits = ap (λ b. if b then Some (command_in d) else None) fits
+command_fits_with_children d before = refl

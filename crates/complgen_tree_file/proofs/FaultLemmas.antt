@@ -1,6 +1,6 @@
 -- Lists of faults, and the faults of an object and of a list.
 use Rattle.std.proofs.Common.{◌≡◌, ◌&&◌, ◌++◌, ℕ, List, [], ◌∷◌, Bool, true, false, Option, Some, None, is_some, not, length, refl}
-use Rattle.serde_json.specs.Data.{Data, null, boolean, number, string, array, object}
+use Rattle.serde_json.specs.Data.{Data, object}
 use Rattle.serde_json.specs.Find.{as_object}
 use Rattle.complgen_json.specs.Keys.{has_only}
 use Rattle.complgen_tree_file.specs.Faults.{is_nil}
@@ -25,12 +25,8 @@ never false = refl
 pub only_objects : (keys : List (List ℕ)) (d : Data) (before : Bool)
     → ((before && has_only keys d) && not (is_some (as_object d)))
     ≡ ((before && has_only keys d) && false)
-only_objects keys null before = never before
-only_objects keys (boolean b) before = never before
-only_objects keys (number n) before = never before
-only_objects keys (string s) before = never before
-only_objects keys (array ds) before = never before
 only_objects keys (object ms) before = refl
+only_objects keys d before = never before
 
 -- a list and one item more
 pub both_there : {X : Type 0} (before : Bool) (list : Option (List X)) (item : Option X)

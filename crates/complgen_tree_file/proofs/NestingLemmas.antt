@@ -2,7 +2,7 @@
 use Rattle.std.proofs.Common.{◌≡◌, ℕ, zero, suc, ◌<◌, ◌≤◌, List, [], ◌∷◌, length, get_or, Option, Some, None, Ordering, Equal, nat_cmp, ap, arith}
 use Rattle.std.specs.Cmp.Lexicographic.{slice_cmp}
 use Rattle.std.specs.Ordering.{match_ordering}
-use Rattle.serde_json.specs.Data.{Data, null, boolean, number, string, array, object, Items, Members, member, no_members, depth, items_depth, members_depth}
+use Rattle.serde_json.specs.Data.{Data, array, object, Items, Members, member, no_members, depth, items_depth, members_depth}
 use Rattle.serde_json.specs.Find.{as_array, get, get_member}
 use Rattle.complgen_json.specs.Seen.{items_view, view}
 use Rattle.json.specs.declared.value.Value.{Value}
@@ -25,14 +25,10 @@ member_within key (member k d ms) =
 
 -- the value at a key nests less deep than the object
 pub found_is_flatter : (key : List ℕ) (d found : Data) → get key d ≡ Some found → depth found < depth d
-found_is_flatter key null found h = cc
-found_is_flatter key (boolean b) found h = cc
-found_is_flatter key (number n) found h = cc
-found_is_flatter key (string s) found h = cc
-found_is_flatter key (array ds) found h = cc
 found_is_flatter key (object ms) found h =
     let same : depth_found (get_member key ms) ≡ depth found = ap depth_found h in
     omega (arith, same, member_within key ms)
+found_is_flatter key d found h = cc
 
 abbrev items_depth_found : Option Items → ℕ
 items_depth_found None = 0
@@ -45,13 +41,9 @@ item_within (v ∷ vs) zero d h = omega arith
 item_within (v ∷ vs) (suc k) d h = omega (arith, item_within vs k d (omega arith))
 
 list_is_flatter : (d : Data) (ds : Items) → as_array d ≡ Some ds → items_depth ds < depth d
-list_is_flatter null ds h = cc
-list_is_flatter (boolean b) ds h = cc
-list_is_flatter (number n) ds h = cc
-list_is_flatter (string s) ds h = cc
 list_is_flatter (array es) ds h =
     let same : items_depth es ≡ items_depth ds = ap items_depth_found h in omega (arith, same)
-list_is_flatter (object ms) ds h = cc
+list_is_flatter d ds h = cc
 
 -- an item of a list nests less deep than the list
 pub item_is_flatter : (list : Data) (vs : List (Value Global)) (k : ℕ) (d : Value Global)

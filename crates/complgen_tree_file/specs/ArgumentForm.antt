@@ -10,18 +10,13 @@ use Rattle.complgen_tree_file.specs.TreeForm.{◌>>=◌, Setting, action_of, all
 use Rattle.complgen_tree_file.specs.TreeForm.{hint_of, is_object_of, keys_of, list_of, number_of}
 use Rattle.complgen_tree_file.specs.TreeForm.{range_of, set_all, setting, text_at}
 
--- the names
+-- the names, the help and its heading
 abbrev pub names : List (Setting Arg)
 names =
     setting (codes "short") (given character_of)
     (λ arg. arg.short) (λ arg it. record arg { short = it })
     ∷ setting (codes "long") (given as_str) (λ arg. arg.long) (λ arg it. record arg { long = it })
-    ∷ []
-
--- the help and its heading
-abbrev pub texts : List (Setting Arg)
-texts =
-    setting (codes "help") (given as_str) (λ arg. arg.help) (λ arg it. record arg { help = it })
+    ∷ setting (codes "help") (given as_str) (λ arg. arg.help) (λ arg it. record arg { help = it })
     ∷ setting (codes "help_heading") (given as_str)
     (λ arg. arg.help_heading) (λ arg it. record arg { help_heading = it }) ∷ []
 
@@ -78,27 +73,22 @@ flags =
     ∷ setting (codes "allow_hyphen_values") as_bool
     (λ arg. arg.allow_hyphen_values) (λ arg it. record arg { allow_hyphen_values = it }) ∷ []
 
--- hidden aliases of the short and of the long
-abbrev pub hidden_aliases : List (Setting Arg)
-hidden_aliases =
+-- aliases of the short and of the long, hidden and shown
+abbrev pub aliases : List (Setting Arg)
+aliases =
     setting (codes "short_aliases") (list_of character_of)
     (λ arg. arg.short_aliases) (λ arg it. record arg { short_aliases = it })
     ∷ setting (codes "aliases") (list_of as_str)
-    (λ arg. arg.aliases) (λ arg it. record arg { aliases = it }) ∷ []
-
--- the aliases that are shown
-abbrev pub shown_aliases : List (Setting Arg)
-shown_aliases =
-    setting (codes "visible_short_aliases") (list_of character_of)
+    (λ arg. arg.aliases) (λ arg it. record arg { aliases = it })
+    ∷ setting (codes "visible_short_aliases") (list_of character_of)
     (λ arg. arg.visible_short_aliases) (λ arg it. record arg { visible_short_aliases = it })
     ∷ setting (codes "visible_aliases") (list_of as_str)
     (λ arg. arg.visible_aliases) (λ arg it. record arg { visible_aliases = it }) ∷ []
 
 -- the keys that an argument may have
 unfoldable pub argument_keys : List (List ℕ)
-argument_keys = codes "id" ∷ ((((((keys_of names ++ keys_of texts) ++ keys_of values)
-    ++ keys_of sources) ++ keys_of surroundings) ++ keys_of flags) ++ keys_of hidden_aliases)
-    ++ keys_of shown_aliases
+argument_keys = codes "id" ∷ ((((keys_of names ++ keys_of values) ++ keys_of sources)
+    ++ keys_of surroundings) ++ keys_of flags) ++ keys_of aliases
 
 -- whether the values at the keys for the source fit, the source is of good form in an argument with
 -- what they set, and `before` holds
@@ -106,15 +96,15 @@ abbrev pub sources_fit : Data → Arg → Bool → Bool
 sources_fit d argument before =
     is_well_sourced (set_all sources d argument) (all_fit sources d before)
 
--- an argument with what the keys set, other than the id and those of the sources
+-- an argument with what the keys set, other than the id
 abbrev pub with_rest : Data → Arg → Arg
-with_rest d argument = set_all shown_aliases d (set_all hidden_aliases d (set_all flags d
-    (set_all surroundings d (set_all values d (set_all texts d (set_all names d argument))))))
+with_rest d argument = set_all aliases d (set_all flags d (set_all surroundings d
+    (set_all values d (set_all names d (set_all sources d argument)))))
 
--- whether the values at these keys fit, and `before` holds
-abbrev pub rest_fits : Data → Bool → Bool
-rest_fits d before = all_fit shown_aliases d (all_fit hidden_aliases d (all_fit flags d
-    (all_fit surroundings d (all_fit values d (all_fit texts d (all_fit names d before))))))
+-- whether the values at these keys fit in an argument, and `before` holds
+abbrev pub rest_fits : Data → Arg → Bool → Bool
+rest_fits d argument before = all_fit aliases d (all_fit flags d (all_fit surroundings d
+    (all_fit values d (all_fit names d (sources_fit d argument before)))))
 
 -- a new argument with the id
 abbrev pub with_id : Data → Arg
@@ -122,9 +112,8 @@ with_id d = new_arg (text_at (codes "id") d)
 
 -- the argument that an object describes, if it fits
 unfoldable pub argument_in : Data → Arg
-argument_in d = with_rest d (set_all sources d (with_id d))
+argument_in d = with_rest d (with_id d)
 
 -- whether a value describes an argument, and `before` holds
 unfoldable pub argument_fits : Data → Bool → Bool
-argument_fits d before = rest_fits d (sources_fit d (with_id d)
-    (is_object_of argument_keys (codes "id") d before))
+argument_fits d before = rest_fits d (with_id d) (is_object_of argument_keys (codes "id") d before)

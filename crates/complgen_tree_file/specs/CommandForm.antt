@@ -26,7 +26,7 @@ texts =
     ∷ setting (codes "after_help") (given as_str)
     (λ node. node.after_help) (λ node it. record node { after_help = it }) ∷ []
 
--- its bin name, and its aliases, hidden and shown
+-- its bin name, its aliases, the heading over its children, and its display order
 abbrev pub names : List (Setting Node)
 names =
     setting (codes "bin_name") (given as_str)
@@ -34,12 +34,8 @@ names =
     ∷ setting (codes "aliases") (list_of as_str)
     (λ node. node.aliases) (λ node it. record node { aliases = it })
     ∷ setting (codes "visible_aliases") (list_of as_str)
-    (λ node. node.visible_aliases) (λ node it. record node { visible_aliases = it }) ∷ []
-
--- the heading over its children, and its display order
-abbrev pub surroundings : List (Setting Node)
-surroundings =
-    setting (codes "subcommand_help_heading") (given as_str)
+    (λ node. node.visible_aliases) (λ node it. record node { visible_aliases = it })
+    ∷ setting (codes "subcommand_help_heading") (given as_str)
     (λ node. node.subcommand_help_heading)
     (λ node it. record node { subcommand_help_heading = it })
     ∷ setting (codes "display_order") (given number_of)
@@ -74,8 +70,8 @@ rules =
 
 -- the keys that a command may have
 unfoldable pub command_keys : List (List ℕ)
-command_keys = codes "name" ∷ ((((keys_of texts ++ keys_of names) ++ keys_of surroundings)
-    ++ keys_of flags) ++ keys_of rules) ++ codes "args" ∷ codes "subcommands" ∷ []
+command_keys = codes "name" ∷ (((keys_of texts ++ keys_of names) ++ keys_of flags)
+    ++ keys_of rules) ++ codes "args" ∷ codes "subcommands" ∷ []
 
 -- the arguments that a list describes, if it fits
 abbrev pub arguments_in : Data → List Arg
@@ -94,23 +90,23 @@ abbrev pub args_fit : Data → Bool → Bool
 args_fit d before =
     option_map_or (λ list. arguments_fit list before) (get (codes "args") d) before
 
--- a node with what the keys set, other than the name, the arguments and the children
+-- a node with what the keys set, other than the name and the children
 abbrev pub with_rest : Data → Node → Node
-with_rest d node = set_all rules d (set_all flags d (set_all surroundings d
-    (set_all names d (set_all texts d node))))
+with_rest d node =
+    with_args d (set_all rules d (set_all flags d (set_all names d (set_all texts d node))))
 
 -- whether the values at these keys fit, and `before` holds
 abbrev pub rest_fits : Data → Bool → Bool
-rest_fits d before = all_fit rules d (all_fit flags d (all_fit surroundings d
-    (all_fit names d (all_fit texts d before))))
+rest_fits d before =
+    args_fit d (all_fit rules d (all_fit flags d (all_fit names d (all_fit texts d before))))
 
 -- the node of the command that an object describes, if it fits
 unfoldable pub own_in : Data → Node
-own_in d = with_args d (with_rest d (new_node (text_at (codes "name") d)))
+own_in d = with_rest d (new_node (text_at (codes "name") d))
 
 -- whether a value without its children describes a command, and `before` holds
 unfoldable pub own_fits : Data → Bool → Bool
-own_fits d before = args_fit d (rest_fits d (is_object_of command_keys (codes "name") d before))
+own_fits d before = rest_fits d (is_object_of command_keys (codes "name") d before)
 
 abbrev mutual
   -- the command that a value describes, if it fits: its own, with each of the children added

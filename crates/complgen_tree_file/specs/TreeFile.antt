@@ -1,5 +1,5 @@
 -- The meaning of the bytes of a tree file.
-use Rattle.std.specs.Prelude.{◌≡◌, ⊤, ℕ, List, Option, None, Some, Result, Ok, Err}
+use Rattle.std.specs.Prelude.{◌≡◌, ⊤, ℕ, false, List, Option, None, Some, Result, Ok, Err}
 use Rattle.std.specs.Str.{IsUtf8}
 use Rattle.std.specs.declared.alloc.Global.{Global}
 use Rattle.json.specs.declared.value.Value.{Value}
@@ -8,8 +8,10 @@ use Rattle.serde_json.specs.Read.{read}
 use Rattle.complgen_json.specs.Seen.{view}
 use Rattle.cc_command.specs.Tree.{Tree}
 use Rattle.complgen_tree_file.specs.CommandForm.{command_of}
+use Rattle.complgen_tree_file.specs.Faults.{has_none}
 use Rattle.complgen_tree_file.specs.declared.error.TreeError.{TreeError}
 use Rattle.complgen_tree_file.specs.declared.error.TreeError.TheVariants.{BadForm, Memory, NotJson}
+use Rattle.complgen_tree_file.specs.declared.faults.Faults.{Faults}
 
 -- the bytes spell this JSON
 abbrev pub Spells : List ℕ → Data → Type 0
@@ -26,6 +28,11 @@ ReadsValue bytes (Ok value) = Spells bytes (view value)
 ReadsValue bytes (Err NotJson) = SpellsNone bytes
 ReadsValue bytes (Err BadForm) = ⊥
 ReadsValue bytes (Err Memory) = ⊤
+
+-- a value describes this command; or it describes none, and something is found wrong with it
+abbrev pub FindsCommand : Data → Result Tree Faults → Type 0
+FindsCommand d (Ok command) = command_of d ≡ Some command
+FindsCommand d (Err faults) = (command_of d ≡ None) × (has_none faults ≡ false)
 
 -- the bytes spell JSON, which describes this command, or none
 abbrev pub Describes : List ℕ → Option Tree → Type 0

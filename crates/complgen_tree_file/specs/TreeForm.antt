@@ -3,7 +3,7 @@ use Rattle.std.specs.Prelude.{◌&&◌, ◌-◌, ◌^◌, ℕ, List, [], ◌∷�
 use Rattle.std.specs.Prelude.{if◌then◌else◌, nat_le, codes}
 use Rattle.std.specs.Prelude.{Bool, true, is_some, map, option_and_then, option_map, unwrap_or}
 use Rattle.std.specs.Str.{bytes_eq, chars}
-use Rattle.serde_json.specs.Data.{Data, null, boolean, number, string, array, object, Items, item}
+use Rattle.serde_json.specs.Data.{Data, null, Items, item}
 use Rattle.serde_json.specs.Data.{no_items}
 use Rattle.serde_json.specs.Find.{as_array, as_number, as_str, as_u64, get}
 use Rattle.complgen_json.specs.Keys.{has_only}
@@ -63,11 +63,7 @@ no_bound = 2 ^ 64 - 1
 -- no bound, or a whole number
 abbrev pub bound_of : Data → Option ℕ
 bound_of null = Some no_bound
-bound_of (boolean b) = None
-bound_of (number n) = as_u64 n
-bound_of (string s) = None
-bound_of (array ds) = None
-bound_of (object ms) = None
+bound_of d = number_of d
 
 -- the least and the greatest number of values
 abbrev pub range_between : ℕ → ℕ → Option ValueRange

@@ -29,8 +29,8 @@ macro_rules! each_key {
             0 "id" id id,
             1 "short" names short,
             2 "long" names long,
-            3 "help" texts help,
-            4 "help_heading" texts help_heading,
+            3 "help" names help,
+            4 "help_heading" names help_heading,
             5 "action" values action,
             6 "num_args" values num_args,
             7 "value_names" values value_names,
@@ -50,10 +50,10 @@ macro_rules! each_key {
             21 "global" flags global,
             22 "hide" flags hide,
             23 "allow_hyphen_values" flags allow_hyphen_values,
-            24 "short_aliases" hidden_aliases short_aliases,
-            25 "aliases" hidden_aliases aliases,
-            26 "visible_short_aliases" shown_aliases visible_short_aliases,
-            27 "visible_aliases" shown_aliases visible_aliases,
+            24 "short_aliases" aliases short_aliases,
+            25 "aliases" aliases aliases,
+            26 "visible_short_aliases" aliases visible_short_aliases,
+            27 "visible_aliases" aliases visible_aliases,
         }
     };
 }
@@ -76,7 +76,6 @@ pub fn arg<'t>(faults: &mut Faults<'t>, tree: &Value<'t>) -> Result<Arg, AllocEr
     let has_only_keys = find_values(&mut slots, tree);
     let id = read_id(faults, tree, &slots, has_only_keys)?;
     let mut parts = ArgParts::new(faults.allocator(), id);
-    set_sources(&mut parts, faults, tree, &slots)?;
     set_rest(&mut parts, faults, tree, &slots)?;
     Ok(Arg::from(parts))
 }
@@ -107,7 +106,7 @@ fn read_id<'t>(
     needed_text(faults, tree, slots[0], has_only_keys, ObjectKind::Argument)
 }
 
-// Sets the fields of the keys other than the id and those of the sources.
+// Sets the fields of the keys other than the id.
 fn set_rest<'t>(
     parts: &mut ArgParts,
     faults: &mut Faults<'t>,
@@ -116,15 +115,14 @@ fn set_rest<'t>(
 ) -> Result<(), AllocError>
     requires { Hold slots.now (values_at form.argument_keys (view tree.now)) }
     ensures { IfOk result (λ _. Makes (form.with_rest (view tree.now) parts.old)
-        (form.rest_fits (view tree.now)) parts.new faults.old faults.new) }
+        (form.rest_fits (view tree.now) parts.old) parts.new faults.old faults.new) }
 {
+    set_sources(parts, faults, tree, slots)?;
     set_names(parts, faults, tree, slots)?;
-    set_texts(parts, faults, tree, slots)?;
     set_values(parts, faults, tree, slots)?;
     set_surroundings(parts, faults, tree, slots)?;
     set_flags(parts, faults, tree, slots)?;
-    set_hidden_aliases(parts, faults, tree, slots)?;
-    set_shown_aliases(parts, faults, tree, slots)
+    set_aliases(parts, faults, tree, slots)
 }
 
 fn set_names<'t>(
@@ -138,20 +136,6 @@ fn set_names<'t>(
         (all_fit form.names (view tree.now)) parts.new faults.old faults.new) }
 {
     each_key!(set_group! names, parts, faults, tree, slots);
-    Ok(())
-}
-
-fn set_texts<'t>(
-    parts: &mut ArgParts,
-    faults: &mut Faults<'t>,
-    tree: &Value<'t>,
-    slots: &[Option<&Value<'t>>; MOST_KEYS],
-) -> Result<(), AllocError>
-    requires { AreHeldFrom 3 form.texts slots.now (view tree.now) }
-    ensures { IfOk result (λ _. Makes (set_all form.texts (view tree.now) parts.old)
-        (all_fit form.texts (view tree.now)) parts.new faults.old faults.new) }
-{
-    each_key!(set_group! texts, parts, faults, tree, slots);
     Ok(())
 }
 
@@ -197,30 +181,16 @@ fn set_flags<'t>(
     Ok(())
 }
 
-fn set_hidden_aliases<'t>(
+fn set_aliases<'t>(
     parts: &mut ArgParts,
     faults: &mut Faults<'t>,
     tree: &Value<'t>,
     slots: &[Option<&Value<'t>>; MOST_KEYS],
 ) -> Result<(), AllocError>
-    requires { AreHeldFrom 24 form.hidden_aliases slots.now (view tree.now) }
-    ensures { IfOk result (λ _. Makes (set_all form.hidden_aliases (view tree.now) parts.old)
-        (all_fit form.hidden_aliases (view tree.now)) parts.new faults.old faults.new) }
+    requires { AreHeldFrom 24 form.aliases slots.now (view tree.now) }
+    ensures { IfOk result (λ _. Makes (set_all form.aliases (view tree.now) parts.old)
+        (all_fit form.aliases (view tree.now)) parts.new faults.old faults.new) }
 {
-    each_key!(set_group! hidden_aliases, parts, faults, tree, slots);
-    Ok(())
-}
-
-fn set_shown_aliases<'t>(
-    parts: &mut ArgParts,
-    faults: &mut Faults<'t>,
-    tree: &Value<'t>,
-    slots: &[Option<&Value<'t>>; MOST_KEYS],
-) -> Result<(), AllocError>
-    requires { AreHeldFrom 26 form.shown_aliases slots.now (view tree.now) }
-    ensures { IfOk result (λ _. Makes (set_all form.shown_aliases (view tree.now) parts.old)
-        (all_fit form.shown_aliases (view tree.now)) parts.new faults.old faults.new) }
-{
-    each_key!(set_group! shown_aliases, parts, faults, tree, slots);
+    each_key!(set_group! aliases, parts, faults, tree, slots);
     Ok(())
 }

@@ -37,8 +37,8 @@ macro_rules! each_key {
             5 "bin_name" names bin_name,
             6 "aliases" names aliases,
             7 "visible_aliases" names visible_aliases,
-            8 "subcommand_help_heading" surroundings subcommand_help_heading,
-            9 "display_order" surroundings display_order,
+            8 "subcommand_help_heading" names subcommand_help_heading,
+            9 "display_order" names display_order,
             10 "hide" flags hide,
             11 "disable_help_flag" flags disable_help_flag,
             12 "disable_version_flag" flags disable_version_flag,
@@ -141,11 +141,10 @@ fn own<'t>(
     let name = needed_text(faults, tree, slots[0], has_only_keys, ObjectKind::Command)?;
     let mut node = Node::new(faults.allocator(), name);
     set_rest(&mut node, faults, tree, slots)?;
-    add_args(&mut node, faults, tree, slots)?;
     Ok(node)
 }
 
-// Sets the fields of the keys other than the name, the arguments and the children.
+// Sets the fields of the keys other than the name and the children.
 fn set_rest<'t>(
     node: &mut Node,
     faults: &mut Faults<'t>,
@@ -158,9 +157,9 @@ fn set_rest<'t>(
 {
     set_texts(node, faults, tree, slots)?;
     set_names(node, faults, tree, slots)?;
-    set_surroundings(node, faults, tree, slots)?;
     set_flags(node, faults, tree, slots)?;
-    set_rules(node, faults, tree, slots)
+    set_rules(node, faults, tree, slots)?;
+    add_args(node, faults, tree, slots)
 }
 
 fn set_texts<'t>(
@@ -188,20 +187,6 @@ fn set_names<'t>(
         (all_fit form.names (view tree.now)) node.new faults.old faults.new) }
 {
     each_key!(set_group! names, node, faults, tree, slots);
-    Ok(())
-}
-
-fn set_surroundings<'t>(
-    node: &mut Node,
-    faults: &mut Faults<'t>,
-    tree: &Value<'t>,
-    slots: &[Option<&Value<'t>>; MOST_KEYS],
-) -> Result<(), AllocError>
-    requires { AreHeldFrom 8 form.surroundings slots.now (view tree.now) }
-    ensures { IfOk result (λ _. Makes (set_all form.surroundings (view tree.now) node.old)
-        (all_fit form.surroundings (view tree.now)) node.new faults.old faults.new) }
-{
-    each_key!(set_group! surroundings, node, faults, tree, slots);
     Ok(())
 }
 

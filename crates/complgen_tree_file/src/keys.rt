@@ -18,11 +18,10 @@ macro_rules! set_group {
 
 // Expands to the action for a key only if the key is of the requested group.
 macro_rules! only_in {
+    (aliases aliases $done:expr) => { $done };
     (flags flags $done:expr) => { $done };
-    (hidden_aliases hidden_aliases $done:expr) => { $done };
     (names names $done:expr) => { $done };
     (rules rules $done:expr) => { $done };
-    (shown_aliases shown_aliases $done:expr) => { $done };
     (sources sources $done:expr) => { $done };
     (surroundings surroundings $done:expr) => { $done };
     (texts texts $done:expr) => { $done };

@@ -5,6 +5,40 @@ ghost use Rattle.complgen_tree_file.specs.Kinds.{kind_keys, needed_key};
 
 use crate::{args, commands, possible_values};
 
+// The names of actions, with the variants of `ArgAction`.
+macro_rules! each_action {
+    ($all:ident! $($asked:tt)*) => {
+        $all! {
+            [$($asked)*]
+            "Set" Set, "Append" Append, "SetTrue" SetTrue, "SetFalse" SetFalse, "Count" Count,
+            "Help" Help, "HelpShort" HelpShort, "HelpLong" HelpLong, "Version" Version,
+        }
+    };
+}
+
+// The names of value hints, with the variants of `ValueHint`.
+macro_rules! each_hint {
+    ($all:ident! $($asked:tt)*) => {
+        $all! {
+            [$($asked)*]
+            "Unknown" Unknown, "Other" Other, "AnyPath" AnyPath, "FilePath" FilePath,
+            "DirPath" DirPath, "ExecutablePath" ExecutablePath, "CommandName" CommandName,
+            "CommandString" CommandString, "CommandWithArguments" CommandWithArguments,
+            "Username" Username, "Hostname" Hostname, "Url" Url, "EmailAddress" EmailAddress,
+        }
+    };
+}
+
+// Lists the names.
+macro_rules! all_names {
+    ([] $($name:literal $variant:ident,)*) => {
+        &[$($name),*]
+    };
+}
+
+pub(crate) use each_action;
+pub(crate) use each_hint;
+
 /// A kind of object in a tree file.
 #[derive(Clone, Copy, Debug, Drop, PartialEq, Eq)]
 pub enum ObjectKind {
@@ -75,30 +109,6 @@ impl ValueKind {
     }
 }
 
-const ACTIONS: &[&str] = &[
-    "Set",
-    "Append",
-    "SetTrue",
-    "SetFalse",
-    "Count",
-    "Help",
-    "HelpShort",
-    "HelpLong",
-    "Version",
-];
+const ACTIONS: &[&str] = each_action!(all_names!);
 
-const VALUE_HINTS: &[&str] = &[
-    "Unknown",
-    "Other",
-    "AnyPath",
-    "FilePath",
-    "DirPath",
-    "ExecutablePath",
-    "CommandName",
-    "CommandString",
-    "CommandWithArguments",
-    "Username",
-    "Hostname",
-    "Url",
-    "EmailAddress",
-];
+const VALUE_HINTS: &[&str] = each_hint!(all_names!);

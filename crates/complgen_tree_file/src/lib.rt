@@ -12,15 +12,17 @@ mod possible_values;
 mod sources;
 mod values;
 
-ghost use Rattle.complgen_tree_file.specs.TreeFile.{ReadsTree, ReadsValue};
+ghost use Rattle.std.specs.Prelude.{IfOk};
+ghost use Rattle.complgen_json.specs.Seen.{view};
+ghost use Rattle.complgen_tree_file.specs.TreeFile.{FindsCommand, ReadsTree, ReadsValue};
 
-pub use crate::commands::read_command;
+use crate::commands::read_command;
 pub use crate::error::TreeError;
 pub use crate::faults::{Fault, FaultKind, Faults, SourceFault, Step};
 pub use crate::kinds::{ObjectKind, ValueKind};
 use cc_command::Command;
 use complgen_json::{JsonError, Scratch, Value, read_value};
-use std::alloc::Global;
+use std::alloc::{AllocError, Global};
 
 /// Returns the command that the bytes of a tree file describe.
 ///
@@ -40,18 +42,35 @@ pub fn read_tree(alloc: Global, bytes: &[u8]) -> Result<Command, TreeError>
 }
 
 // Returns the command that a text describes.
-#[tactic(auto, unfolding(crate::specs::CommandForm::command_of))]
 fn read_text(alloc: Global, text: &str) -> Result<Command, TreeError>
     ensures { ReadsTree text.now result }
 {
     let mut scratch = Scratch::new(alloc);
     let tree = value(alloc, text, &mut scratch)?;
+    match command_or_faults(alloc, &tree)? {
+        Ok(command) => Ok(command),
+        Err(_) => Err(TreeError::BadForm),
+    }
+}
+
+/// Returns the command that `tree` describes. If it describes none, returns what is wrong with it.
+///
+/// # Errors
+///
+/// `AllocError` if an allocation fails.
+#[tactic(auto, unfolding(crate::specs::CommandForm::command_of))]
+pub fn command_or_faults<'t>(
+    alloc: Global,
+    tree: &Value<'t>,
+) -> Result<Result<Command, Faults<'t>>, AllocError>
+    ensures { IfOk result (λ found. FindsCommand (view tree.now) found) }
+{
     let mut faults = Faults::new(alloc);
-    let command = read_command(&mut faults, &tree)?;
+    let command = read_command(&mut faults, tree)?;
     if faults.is_empty() {
-        Ok(command)
+        Ok(Ok(command))
     } else {
-        Err(TreeError::BadForm)
+        Ok(Err(faults))
     }
 }
 

@@ -1,7 +1,7 @@
 //! Reads the keys for the source of an argument's values: the possible values, a command that
 //! prints them, or a file, and what separates a value from its description.
 
-ghost use Rattle.std.specs.Prelude.{◌≡◌, ◌&&◌, IfOk, false};
+ghost use Rattle.std.specs.Prelude.{◌≡◌, IfOk, false, is_some, not};
 ghost use Rattle.cc_arg.specs.ValueSources.{has_byte, is_runnable, nul};
 ghost use Rattle.complgen_json.specs.Seen.{view};
 ghost use Rattle.complgen_json.specs.Slots.{Hold, values_at};
@@ -137,19 +137,22 @@ fn check_separator(faults: &mut Faults<'_>, parts: &ArgParts) -> Result<(), Allo
 fn check_number(faults: &mut Faults<'_>, parts: &ArgParts) -> Result<(), AllocError>
     ensures { IfOk result (λ _. FindsUnless (has_one_source parts.now) faults.old faults.new) }
 {
-    if has_one_source(parts) {
-        return Ok(());
+    match two_sources(parts) {
+        Some((key, other)) => note_at(faults, key, SourceFault::SecondSource(other)),
+        None => Ok(()),
     }
-    let (key, other) = two_sources(parts);
-    note_at(faults, key, SourceFault::SecondSource(other))
 }
 
 // Returns the keys of two sources, if an argument has more than one.
-fn two_sources(parts: &ArgParts) -> (&'static str, &'static str) {
-    match (&parts.values_from, &parts.values_file) {
-        (Some(_), Some(_)) => ("values_file", "values_from"),
-        (Some(_), None) => ("values_from", "possible_values"),
-        (None, _) => ("values_file", "possible_values"),
+fn two_sources(parts: &ArgParts) -> Option<(&'static str, &'static str)>
+    ensures { is_some result ≡ not (has_one_source parts.now) }
+{
+    let values = parts.possible_values.is_some();
+    match (parts.values_from.is_some(), parts.values_file.is_some()) {
+        (true, true) => Some(("values_file", "values_from")),
+        (true, false) => values.then_some(("values_from", "possible_values")),
+        (false, true) => values.then_some(("values_file", "possible_values")),
+        (false, false) => None,
     }
 }
 
@@ -202,16 +205,5 @@ fn is_separator(text: &str) -> bool
     match text.as_bytes() {
         [] => false,
         [_, ..] => true,
-    }
-}
-
-fn has_one_source(parts: &ArgParts) -> bool
-    ensures { result ≡ has_one_source parts.now }
-{
-    let values = parts.possible_values.is_some();
-    match (parts.values_from.is_some(), parts.values_file.is_some()) {
-        (true, true) => false,
-        (true, false) | (false, true) => !values,
-        (false, false) => true,
     }
 }

@@ -11,7 +11,7 @@ ghost use Rattle.complgen_tree_file.specs.TreeForm.{field_from, fits_at, hint_of
 ghost use Rattle.complgen_tree_file.specs.TreeForm.{range_of, with_item};
 
 use crate::faults::{FaultKind, Faults, Step};
-use crate::kinds::ValueKind;
+use crate::kinds::{ValueKind, each_action, each_hint};
 use crate::objects::inside;
 use cc_arg::{ArgAction, ValueHint, ValueRange};
 use cc_base::{Items, Text};
@@ -290,6 +290,16 @@ fn bound(value: &Value<'_>) -> Option<usize>
     number(value)
 }
 
+// Expands to the variant with the name, if there is one.
+macro_rules! variant_named {
+    ([$kind:ident, $text:expr] $($name:literal $variant:ident,)*) => {
+        match $text {
+            $($name => Some($kind::$variant),)*
+            _ => None,
+        }
+    };
+}
+
 /// Reads the name of an action.
 impl FromValue for ArgAction {
     ghost use Rattle.serde_json.specs.Find.{as_str};
@@ -312,18 +322,7 @@ impl FromValue for ArgAction {
 fn action(value: &Value<'_>) -> Option<ArgAction>
     ensures { result ≡ option_and_then action_of (as_str (view value.now)) }
 {
-    match complgen_json::text(value)? {
-        "Set" => Some(ArgAction::Set),
-        "Append" => Some(ArgAction::Append),
-        "SetTrue" => Some(ArgAction::SetTrue),
-        "SetFalse" => Some(ArgAction::SetFalse),
-        "Count" => Some(ArgAction::Count),
-        "Help" => Some(ArgAction::Help),
-        "HelpShort" => Some(ArgAction::HelpShort),
-        "HelpLong" => Some(ArgAction::HelpLong),
-        "Version" => Some(ArgAction::Version),
-        _ => None,
-    }
+    each_action!(variant_named! ArgAction, complgen_json::text(value)?)
 }
 
 /// Reads the name of a value hint.
@@ -348,20 +347,5 @@ impl FromValue for ValueHint {
 fn hint(value: &Value<'_>) -> Option<ValueHint>
     ensures { result ≡ option_and_then hint_of (as_str (view value.now)) }
 {
-    match complgen_json::text(value)? {
-        "Unknown" => Some(ValueHint::Unknown),
-        "Other" => Some(ValueHint::Other),
-        "AnyPath" => Some(ValueHint::AnyPath),
-        "FilePath" => Some(ValueHint::FilePath),
-        "DirPath" => Some(ValueHint::DirPath),
-        "ExecutablePath" => Some(ValueHint::ExecutablePath),
-        "CommandName" => Some(ValueHint::CommandName),
-        "CommandString" => Some(ValueHint::CommandString),
-        "CommandWithArguments" => Some(ValueHint::CommandWithArguments),
-        "Username" => Some(ValueHint::Username),
-        "Hostname" => Some(ValueHint::Hostname),
-        "Url" => Some(ValueHint::Url),
-        "EmailAddress" => Some(ValueHint::EmailAddress),
-        _ => None,
-    }
+    each_hint!(variant_named! ValueHint, complgen_json::text(value)?)
 }

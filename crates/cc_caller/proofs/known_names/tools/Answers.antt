@@ -1,6 +1,6 @@
 use Rattle.std.proofs.Common.{◌≡◌, ◌∙◌, ap, refl, subst, length, map, rules, string_bytes}
 use denote.Param.Object.{read_made}
-use Rattle.clap_complete.specs.Candidate.{new_candidate}
+use Rattle.clap_complete.specs.cc_candidates.Candidate.{new_candidate}
 use Rattle.cc_caller.specs.KnownNames.{names_beginning}
 use Rattle.cc_caller.proofs.Offering.{memory_alone, offers_tools}
 use Rattle.cc_caller.proofs.known_names.tools.OwnLists.{own-1, at-1-1}

@@ -1,6 +1,6 @@
-use Rattle.std.proofs.Common.{◌≡◌, ◌∙◌, ◌+◌, ap, arith, false, get_or, rules, sym, true}
-use Rattle.complgen_tree_errors.specs.Places.{begins_character, ends_line}
-use Rattle.complgen_tree_errors.proofs.MarkLemmas.{column_more, column_same, line_same}
+use Rattle.std.proofs.Common.{◌≡◌, ◌∙◌, ◌+◌, arith, false, get_or, rules, sym, take, true}
+use Rattle.complgen_tree_errors.specs.Places.{column_after, ends_line}
+use Rattle.complgen_tree_errors.proofs.MarkLemmas.{column_next, line_same}
 use Rattle.complgen_tree_errors.proofs.lines.next_mark.Goals as goal
 
 pub returns-then-not-begins_character-clause-mark :
@@ -9,11 +9,12 @@ returns-then-not-begins_character-clause-mark c =
     let bytes = c.args.bytes.now in
     let i = c.args.mark.offset in
     let ends : ends_line (get_or bytes i 0) ≡ false = search rules in
-    let begins : begins_character (get_or bytes i 0) ≡ false = search rules in
+    let next : column_after (take (i + 1) bytes) ≡ column_after (take i bytes) + 0 =
+    column_next bytes i c.requires.more ends false (search rules) in
     record {
       inside = omega arith;
       line = c.requires.mark.line ∙ sym (line_same bytes i c.requires.more ends);
-      column = c.requires.mark.column ∙ sym (column_same bytes i c.requires.more ends begins);
+      column = omega arith;
     }
 
 pub returns-clause-mark : goal.returns-clause-mark
@@ -21,10 +22,10 @@ returns-clause-mark c =
     let bytes = c.args.bytes.now in
     let i = c.args.mark.offset in
     let ends : ends_line (get_or bytes i 0) ≡ false = search rules in
-    let begins : begins_character (get_or bytes i 0) ≡ true = search rules in
+    let next : column_after (take (i + 1) bytes) ≡ column_after (take i bytes) + 1 =
+    column_next bytes i c.requires.more ends true (search rules) in
     record {
       inside = omega arith;
       line = c.requires.mark.line ∙ sym (line_same bytes i c.requires.more ends);
-      column = ap (λ n. n + 1) c.requires.mark.column
-          ∙ sym (column_more bytes i c.requires.more ends begins);
+      column = omega arith;
     }

@@ -9,10 +9,6 @@ pub set_names-requires : goal.set_names-requires
 unfolding argument_keys
 set_names-requires c = held_from 1 form.names argument_keys c.args.slots.now (view c.args.tree.now) c.requires refl
 
-pub set_texts-requires : goal.set_texts-requires
-unfolding argument_keys
-set_texts-requires c = held_from 3 form.texts argument_keys c.args.slots.now (view c.args.tree.now) c.requires refl
-
 pub set_values-requires : goal.set_values-requires
 unfolding argument_keys
 set_values-requires c = held_from 5 form.values argument_keys c.args.slots.now (view c.args.tree.now) c.requires refl
@@ -25,10 +21,6 @@ pub set_flags-requires : goal.set_flags-requires
 unfolding argument_keys
 set_flags-requires c = held_from 19 form.flags argument_keys c.args.slots.now (view c.args.tree.now) c.requires refl
 
-pub set_hidden_aliases-requires : goal.set_hidden_aliases-requires
+pub set_aliases-requires : goal.set_aliases-requires
 unfolding argument_keys
-set_hidden_aliases-requires c = held_from 24 form.hidden_aliases argument_keys c.args.slots.now (view c.args.tree.now) c.requires refl
-
-pub set_shown_aliases-requires : goal.set_shown_aliases-requires
-unfolding argument_keys
-set_shown_aliases-requires c = held_from 26 form.shown_aliases argument_keys c.args.slots.now (view c.args.tree.now) c.requires refl
+set_aliases-requires c = held_from 24 form.aliases argument_keys c.args.slots.now (view c.args.tree.now) c.requires refl

@@ -1,19 +1,20 @@
-use Rattle.std.proofs.Common.{◌≡◌, ◌∙◌, ◌<◌, [], None, Some, ap, arith, codes, fold, length, rules, subst, sym}
+use Rattle.std.proofs.Common.{◌≡◌, ◌∙◌, ◌<◌, [], None, Some, ap, arith, codes, fold, length, refl, rules, subst, sym}
 use Rattle.std.specs.Option.{option_map_or}
 use Rattle.serde_json.specs.Data.{depth}
 use Rattle.serde_json.specs.Find.{as_array, get}
 use Rattle.complgen_json.specs.Seen.{items_view, view}
 use Rattle.cc_command.specs.Made.{of_node, with_child}
-use Rattle.complgen_tree_file.specs.CommandForm.{commands_fit, commands_in, own_fits, own_in}
+use Rattle.complgen_tree_file.specs.CommandForm.{command_keys, commands_fit, commands_in, own_fits, own_in}
 use Rattle.complgen_tree_file.specs.Faults.{has_none}
 use Rattle.complgen_tree_file.proofs.ChildrenLemmas.{command_fits_with_children, command_with_children}
 use Rattle.complgen_tree_file.proofs.NestingLemmas.{found_is_flatter, item_is_flatter}
-use Rattle.complgen_tree_file.proofs.SlotLemmas.{children_held}
+use Rattle.complgen_tree_file.proofs.SlotLemmas.{held_at}
 use Rattle.complgen_tree_file.proofs.commands.+commands.Goals as goal
 
 pub read_command-children-requires : goal.read_command-children-requires
-read_command-children-requires t c = children_held c.find_values-has_only_keys.new.slots (view c.args.tree.now)
-    c.find_values-has_only_keys.ensures.found
+unfolding command_keys
+read_command-children-requires t c = held_at c.find_values-has_only_keys.new.slots command_keys (view c.args.tree.now) 19 None
+    c.find_values-has_only_keys.ensures.found refl
 
 pub read_command-add_children-requires : goal.read_command-add_children-requires
 read_command-add_children-requires t c =

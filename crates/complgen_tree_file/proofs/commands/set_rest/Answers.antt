@@ -1,8 +1,8 @@
-use Rattle.std.proofs.Common.{refl}
+use Rattle.std.proofs.Common.{None, refl}
 use Rattle.complgen_json.specs.Seen.{view}
 use Rattle.complgen_tree_file.specs.CommandForm.{command_keys}
 use Rattle.complgen_tree_file.specs.CommandForm as form
-use Rattle.complgen_tree_file.proofs.SlotLemmas.{held_from}
+use Rattle.complgen_tree_file.proofs.SlotLemmas.{held_at, held_from}
 use Rattle.complgen_tree_file.proofs.commands.set_rest.Goals as goal
 
 pub set_texts-requires : goal.set_texts-requires
@@ -13,10 +13,6 @@ pub set_names-requires : goal.set_names-requires
 unfolding command_keys
 set_names-requires c = held_from 5 form.names command_keys c.args.slots.now (view c.args.tree.now) c.requires refl
 
-pub set_surroundings-requires : goal.set_surroundings-requires
-unfolding command_keys
-set_surroundings-requires c = held_from 8 form.surroundings command_keys c.args.slots.now (view c.args.tree.now) c.requires refl
-
 pub set_flags-requires : goal.set_flags-requires
 unfolding command_keys
 set_flags-requires c = held_from 10 form.flags command_keys c.args.slots.now (view c.args.tree.now) c.requires refl
@@ -24,3 +20,7 @@ set_flags-requires c = held_from 10 form.flags command_keys c.args.slots.now (vi
 pub set_rules-requires : goal.set_rules-requires
 unfolding command_keys
 set_rules-requires c = held_from 14 form.rules command_keys c.args.slots.now (view c.args.tree.now) c.requires refl
+
+pub add_args-requires : goal.add_args-requires
+unfolding command_keys
+add_args-requires c = held_at c.args.slots.now command_keys (view c.args.tree.now) 18 None c.requires refl

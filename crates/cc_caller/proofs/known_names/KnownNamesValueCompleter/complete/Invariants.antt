@@ -1,5 +1,5 @@
 use Rattle.std.proofs.Common.{◌≡◌, ◌++◌, drop, map, string_bytes}
-use Rattle.clap_complete.specs.Candidate.{new_candidate}
+use Rattle.clap_complete.specs.cc_candidates.Candidate.{new_candidate}
 use Rattle.cc_caller.specs.KnownNames.{names_beginning}
 use Rattle.cc_caller.proofs.known_names.KnownNamesValueCompleter.complete.Given as goal
 
