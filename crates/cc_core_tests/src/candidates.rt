@@ -1,9 +1,9 @@
 //! The parts of a candidate, the order of candidates, and candidates from possible values.
 
+use crate::checks::same;
 use crate::offered::are;
 use cc_arg::PossibleValue;
 use cc_candidates::CompletionCandidate;
-use cc_fixtures::checks::same;
 use cc_gather::{complete_possible_values, possible_value_candidates};
 use cc_replies::{
     are_readable_entries, are_readable_lines, are_readable_values, are_readable_zsh_items,

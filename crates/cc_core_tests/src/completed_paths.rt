@@ -2,11 +2,11 @@
 
 ghost use Rattle.std.specs.Prelude.{⊤};
 
+use crate::checks::same;
 use crate::completers::with_positional;
 use crate::offered::{are, offers};
 use cc_base::Error;
 use cc_candidates::{Completers, ValueCompleter};
-use cc_fixtures::checks::same;
 use cc_paths::{Folder, FolderError, MemoryFolder, PathCompleter, PathTest, RealFolder};
 use std::alloc::Global;
 use std::process::Abort;

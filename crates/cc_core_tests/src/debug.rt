@@ -1,11 +1,11 @@
 //! Tests of the texts of errors and of the `Debug` output of types.
 
+use crate::checks::{is, same};
 use cc_arg::{ArgAction, ValueHint, ValueRange};
 use cc_base::{
     ArgValueCandidates, ArgValueCompleter, Error, Failures, Items, SubcommandCandidates, Text,
 };
 use cc_candidates::CompletionCandidate;
-use cc_fixtures::checks::{is, same};
 use cc_fixtures::words::debug_text;
 use cc_paths::FolderError;
 use complgen_tree_file::TreeError;

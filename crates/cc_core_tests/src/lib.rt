@@ -5,6 +5,8 @@
 #[cfg(test)]
 mod candidates;
 #[cfg(test)]
+mod checks;
+#[cfg(test)]
 mod completed_paths;
 #[cfg(test)]
 mod completers;

@@ -1,9 +1,8 @@
 //! Tests of the lists that generators share, and of the tests for plain names and quiet values.
 
+use crate::checks::{is, tree};
 use cc_base::{Error, is_plain_name};
 use cc_command::Command;
-use cc_fixtures::checks::is;
-use cc_fixtures::trees::tree;
 use cc_generator::utils;
 use cc_quote::is_plain_path;
 use std::alloc::Global;

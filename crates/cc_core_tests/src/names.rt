@@ -1,10 +1,9 @@
 //! Tests of the names of arguments and commands, as their getters return them.
 
+use crate::checks::{is, same, tree};
 use cc_arg::{Arg, ArgAction, conflicting_ids};
 use cc_base::{Error, Text};
 use cc_command::Command;
-use cc_fixtures::checks::{is, same};
-use cc_fixtures::trees::tree;
 use std::alloc::Global;
 use std::process::Abort;
 

@@ -1,10 +1,10 @@
 //! The candidates for a word, as one text.
 
+use crate::checks::is;
 use cc_base::Error;
 use cc_candidates::{Completers, CompletionCandidate};
 use cc_command::Command;
 use cc_engine::complete;
-use cc_fixtures::checks::is;
 use cc_fixtures::words::to_strings;
 use cc_paths::MemoryFolder;
 use std::alloc::{AllocError, Global};

@@ -1,8 +1,8 @@
 //! Tests of the writers and readers of quoted words. The rows of `cc_quote/proofs` have further
 //! words.
 
+use crate::checks::{is, same};
 use cc_base::Error;
-use cc_fixtures::checks::{is, same};
 use cc_quote::{
     bash_double, bash_double_word, elvish_word, fish_double, fish_quote, fish_quote_for_eval,
     fish_word, posix_quote, posix_word, powershell_word,

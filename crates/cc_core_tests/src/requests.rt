@@ -1,9 +1,9 @@
 //! A program whose environment requests its registration under names of its own.
 
+use crate::checks::is;
 use cc_base::Collected;
 use cc_candidates::Completers;
 use cc_env::CompleteEnv;
-use cc_fixtures::checks::is;
 use cc_fixtures::trees::{NESTED, read};
 use cc_fixtures::words::{environment, to_strings};
 use cc_paths::MemoryFolder;

@@ -2,8 +2,8 @@
 
 ghost use Rattle.std.specs.Prelude.{◌≡◌, ◌++◌, IfOk};
 
+use crate::checks::same;
 use cc_base::{Collected, Counted, Error, Held, Sink, put_all};
-use cc_fixtures::checks::same;
 use std::alloc::Global;
 use std::io::{self, ErrorKind};
 use std::process::Abort;

@@ -1,9 +1,8 @@
 //! A test of help texts of values with any character, as zsh reads them in its script: the reader
 //! of `cc_zsh/specs`, which the contract of `generate` cites, skips them.
 
+use crate::checks::{is, tree};
 use cc_base::{Collected, Error};
-use cc_fixtures::checks::is;
-use cc_fixtures::trees::tree;
 use cc_generator::generate;
 use cc_quote::{posix_word, zsh_unescape};
 use cc_zsh::Zsh;

@@ -1,4 +1,4 @@
-//! Fixtures for the tests of several crates: checks, small trees, words, and a writer that fails.
+//! Fixtures for the tests of several crates: small trees, words, and a writer that fails.
 //!
 //! ```rattle
 //! use cc_fixtures::trees::{NESTED, read};
@@ -8,7 +8,6 @@
 //! ```
 #![tactic(auto)]
 
-pub mod checks;
 pub mod trees;
 pub mod words;
 pub mod writers;

@@ -7,7 +7,6 @@ use cc_base::Error;
 use cc_command::Command;
 use complgen_tree_file::read_tree;
 use std::alloc::Global;
-use std::process::Abort;
 
 /// A tree file: `app` without arguments and without a help flag.
 pub const BARE: &str = r#"{"name": "app", "disable_help_flag": true}"#;
@@ -42,10 +41,4 @@ pub fn read(alloc: Global, text: &str) -> Result<Command, Error>
         Ok(command) => Ok(command),
         Err(_) => Err(Error::Memory),
     }
-}
-
-/// Returns the command in the tree file `text`. A function that owns a command ends with a call of
-/// `drop`, because proving an implicit drop takes seconds in each function.
-pub fn tree<R: Abort + AllocGlobal>(rt: &R, text: &str) -> Command {
-    read(rt.alloc(), text).expect(rt, "no command")
 }

@@ -1,8 +1,7 @@
 //! The bash script of a command and its candidates, from one call.
 
+use crate::checks::{is, same, tree};
 use crate::written::script;
-use cc_fixtures::checks::{is, same};
-use cc_fixtures::trees::tree;
 use cc_fixtures::words::to_strings;
 use clap_complete::aot::{Bash, Collected};
 use clap_complete::engine::{

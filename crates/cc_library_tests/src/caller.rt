@@ -1,14 +1,14 @@
 //! Tests of the callers of `cc_caller`.
 
 use crate::agreement::values;
+use crate::checks::{is, same, tree};
 use crate::written::script;
 use cc_caller::{
     WordList, answer_prompt, same_action, same_adapters, same_builtin, same_generators, same_hash,
     same_hint, same_range, same_refusal, same_safe_shell, same_shell, tools, write_bash_if_quiet,
     write_if_plain,
 };
-use cc_fixtures::checks::{is, same};
-use cc_fixtures::trees::{APP, NESTED, read, tree};
+use cc_fixtures::trees::{APP, NESTED, read};
 use cc_fixtures::words::{environment, to_strings};
 use clap_complete::Shell;
 use clap_complete::aot::{

@@ -1,9 +1,9 @@
 //! The library as a program uses it. `elvish_script` is in the README too, and `write_scripts`
 //! in docs/LIBRARY.md.
 
+use crate::checks::{has, tree};
 use crate::files::{FILES, folder, holds_script_in, remove};
-use cc_fixtures::checks::has;
-use cc_fixtures::trees::{APP, tree};
+use cc_fixtures::trees::APP;
 use clap_complete::aot::{Collected, Elvish};
 use clap_complete::command::{Arg, Command};
 use clap_complete::{Error, Shell, generate, generate_to};

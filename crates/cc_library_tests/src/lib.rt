@@ -8,6 +8,8 @@ mod agreement;
 #[cfg(test)]
 mod caller;
 #[cfg(test)]
+mod checks;
+#[cfg(test)]
 mod example;
 #[cfg(test)]
 mod files;

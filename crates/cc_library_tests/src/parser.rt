@@ -1,8 +1,8 @@
 //! A described command: its candidates, and the words that its parser accepts.
 
 use crate::agreement::values;
+use crate::checks::is;
 use bumpalo::Bump;
-use cc_fixtures::checks::is;
 use cc_fixtures::words::to_strings;
 use clap::ArgMatches;
 use clap_complete::Error;

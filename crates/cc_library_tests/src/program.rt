@@ -1,6 +1,6 @@
 //! A program over values: its completion, its own work, its help text and its mistakes.
 
-use cc_fixtures::checks::same;
+use crate::checks::same;
 use cc_fixtures::words::{environment, to_strings};
 use clap::ArgMatches;
 use clap_complete::aot::Collected;

@@ -1,8 +1,8 @@
 //! `Shell` by text, path and value, its methods, and the `Debug` texts of the generators.
 
+use crate::checks::{is, same, tree};
 use crate::written::script;
-use cc_fixtures::checks::{is, same};
-use cc_fixtures::trees::{NESTED, tree};
+use cc_fixtures::trees::NESTED;
 use clap_complete::aot::{Bash, Collected, Elvish, Fish, InvalidShell, Nushell, PowerShell, Zsh};
 use clap_complete::{Generator, Shell};
 use std::alloc::{AllocError, Global};

@@ -1,6 +1,6 @@
 //! Scripts as texts.
 
-use cc_fixtures::trees::tree;
+use crate::checks::tree;
 use clap_complete::aot::{Collected, Sink};
 use clap_complete::{Error, Generator, generate};
 use std::alloc::AllocError;

@@ -1,10 +1,10 @@
 //! Answers to requests that ask for values from outside the tree.
 
+use crate::checks::is;
 use cc_arg::Arg;
 use cc_asking::LineSource;
 use cc_base::Collected;
 use cc_command::Release;
-use cc_fixtures::checks::is;
 use cc_fixtures::words::{environment, to_strings};
 use cc_paths::MemoryFolder;
 use complgen_live::{Origin, Request, reply};

@@ -1,7 +1,7 @@
 //! The `Debug` texts of plans and of a refusal.
 
+use crate::checks::is;
 use crate::runs::plan_of;
-use cc_fixtures::checks::is;
 use complgen_scripts::Refusal;
 use std::alloc::AllocError;
 use std::process::Abort;

@@ -1,8 +1,8 @@
 //! Tree files that no document of cases can contain.
 
+use crate::checks::same;
 use crate::runs::{plan_of, run};
 use cc_base::Collected;
-use cc_fixtures::checks::same;
 use std::convert::AsStr;
 use std::process::Abort;
 use std::rt::Files;

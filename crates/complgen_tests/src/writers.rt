@@ -1,9 +1,9 @@
 //! Plans that are carried out over a writer that fails, or takes nothing, after any number of
 //! bytes.
 
+use crate::checks::same;
 use crate::runs::{plan_of, run};
 use cc_base::{Collected, Counted};
-use cc_fixtures::checks::same;
 use cc_fixtures::writers::Narrow;
 use complgen_commands::Plan;
 use complgen_scripts::Refusal;
