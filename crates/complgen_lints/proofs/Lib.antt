@@ -1,5 +1,5 @@
 pub mod AddedFlags
-pub mod Inherited
+pub mod Conflicts
 pub mod Left
 pub mod PremisesFound
 pub mod Steps

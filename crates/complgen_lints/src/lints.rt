@@ -2,8 +2,7 @@
 
 ghost use Rattle.std.specs.Prelude.{◌≡◌, ◌++◌, OnOk, map};
 ghost use Rattle.complgen_lints.specs.CommandWarnings.{findings_of, hidden_argument, hidden_list};
-ghost use Rattle.complgen_lints.specs.CommandWarnings.{names_list, settings_list, sources_list};
-ghost use Rattle.complgen_lints.specs.CommandWarnings.{texts_list};
+ghost use Rattle.complgen_lints.specs.CommandWarnings.{names_list, settings_list, texts_list};
 ghost use Rattle.complgen_lints.specs.Lists.{each_from};
 
 use crate::argument_lints::push_arguments;
@@ -28,7 +27,7 @@ pub(crate) fn push_findings(found: &mut Found, inherited: &[&Arg], command: &Com
     push_settings(found, command)?;
     push_scope(found, inherited, command)?;
     push_hidden(found, command)?;
-    push_command_sources(found, command)
+    push_sources(found, command.get_arguments())
 }
 
 fn push_names(found: &mut Found, command: &Command) -> Added
@@ -51,12 +50,6 @@ fn push_settings(found: &mut Found, command: &Command) -> Added
 {
     push_arguments(found, command)?;
     push_positionals(found, command.get_arguments())
-}
-
-fn push_command_sources(found: &mut Found, command: &Command) -> Added
-    ensures { OnOk result (found.new ≡ found.old ++ sources_list command.now) }
-{
-    push_sources(found, command.get_arguments())
 }
 
 fn push_hidden(found: &mut Found, command: &Command) -> Added

@@ -220,9 +220,9 @@ pub(crate) fn push_taken(
     Ok(())
 }
 
-// Returns a map from each name to its last owner in `names`.
+/// Returns a map from each name to its last owner in `names`.
 #[tactic(auto, unfolding(crate::specs::PlacedNames::owner_in))]
-fn seen_of<'a>(
+pub(crate) fn seen_of<'a>(
     alloc: Global,
     names: &'a [PlacedName<'_>],
 ) -> Result<HashMap<&'a str, TextRef<'a>>, AllocError>

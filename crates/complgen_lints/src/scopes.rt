@@ -1,20 +1,22 @@
 //! Finds names that two arguments of a command have, also if it inherits one of them, and conflicts
 //! with ids that no argument has.
 
-ghost use Rattle.std.specs.Prelude.{◌≡◌, ◌++◌, IfOk, OnOk, bytes_eq, map};
-ghost use Rattle.std.specs.List.{list_any};
+ghost use Rattle.std.specs.Prelude.{◌≡◌, ◌++◌, IfOk, OnOk, map};
 ghost use Rattle.complgen_lints.specs.ArgumentNames.{all_names, taken_of};
+ghost use Rattle.complgen_lints.specs.Lists.{each_from};
 ghost use Rattle.complgen_lints.specs.Scopes.{all_conflicts, conflict_list, conflicts_of};
-ghost use Rattle.complgen_lints.specs.Scopes.{inherited_with, is_known, passed_on, together_list};
+ghost use Rattle.complgen_lints.specs.Scopes.{has_conflicts, have_conflicts, inherited_with};
+ghost use Rattle.complgen_lints.specs.Scopes.{is_known_in, passed_on, together_list};
 
 use crate::found::{Added, Found, Spot};
-use crate::names::{Named, PlacedName, push_all_names, push_names_of, push_taken};
+use crate::names::{Named, PlacedName, push_all_names, push_names_of, push_taken, seen_of};
 use crate::place::Key;
 use crate::warning::Kind;
 use cc_arg::{Arg, conflicting_ids};
-use cc_base::Text;
+use cc_base::{Text, TextRef};
 use cc_command::{Command, has_id};
 use std::alloc::{AllocError, Global};
+use std::collections::HashMap;
 
 /// Adds warnings about the arguments of `command` together with those that it inherits: about taken
 /// ids, then longs, then shorts, and then about unknown conflicts.
@@ -90,30 +92,64 @@ fn push_inherited_names<'a>(
     Ok(())
 }
 
-// Adds a finding for each conflict with an id that no argument has.
+// Adds findings about unknown conflicts. Collects ids only if an argument has conflicts.
 fn push_conflicts(found: &mut Found, inherited: &[&Arg], arguments: &[Arg]) -> Added
     ensures { OnOk result (found.new ≡ found.old
         ++ all_conflicts (map (λ other. other.now) inherited.now) arguments.now) }
 {
+    if !have_conflicts(arguments) {
+        return Ok(());
+    }
+    push_all_conflicts(found, inherited, arguments)
+}
+
+fn have_conflicts(arguments: &[Arg]) -> bool
+    ensures { result ≡ have_conflicts arguments.now }
+{
+    arguments.iter().any(has_conflicts)
+}
+
+fn has_conflicts(argument: &Arg) -> bool
+    ensures { result ≡ has_conflicts argument.now.conflicts }
+{
+    !conflicting_ids(argument).is_empty()
+}
+
+fn push_all_conflicts(found: &mut Found, inherited: &[&Arg], arguments: &[Arg]) -> Added
+    ensures { OnOk result (found.new ≡ found.old
+        ++ all_conflicts (map (λ other. other.now) inherited.now) arguments.now) }
+{
+    let alloc = found.allocator();
+    let mut names = Vec::new(alloc);
+    push_inherited_names(&mut names, alloc, Named::Id, inherited)?;
+    push_all_names(&mut names, alloc, Named::Id, arguments)?;
+    let seen = seen_of(alloc, &names)?;
+    push_unknown(found, &seen, arguments)
+}
+
+// Adds a finding for each conflict with an id that is not in `seen`.
+fn push_unknown(found: &mut Found, seen: &HashMap<&str, TextRef<'_>>, arguments: &[Arg]) -> Added
+    ensures { OnOk result (found.new ≡ found.old
+        ++ each_from (conflicts_of (is_known_in seen.now)) 0 arguments.now) }
+{
     for (index, argument) in arguments.iter().enumerate() {
-        push_conflicts_of(found, inherited, arguments, index, argument)?;
+        push_conflicts_of(found, seen, index, argument)?;
     }
     Ok(())
 }
 
 fn push_conflicts_of(
     found: &mut Found,
-    inherited: &[&Arg],
-    arguments: &[Arg],
+    seen: &HashMap<&str, TextRef<'_>>,
     index: usize,
     argument: &Arg,
 ) -> Added
-    ensures { OnOk result (found.new ≡ found.old ++ conflicts_of
-        (is_known (map (λ other. other.now) inherited.now) arguments.now) index argument.now) }
+    ensures { OnOk result (found.new ≡ found.old
+        ++ conflicts_of (is_known_in seen.now) index argument.now) }
 {
     let ids = conflicting_ids(argument);
     for (item, id) in ids.iter().enumerate() {
-        let known = is_known(inherited, arguments, id.as_str());
+        let known = is_known(seen, id.as_str());
         push_unless_known(found, known, index, item, id.as_str())?;
     }
     Ok(())
@@ -129,17 +165,10 @@ fn push_unless_known(found: &mut Found, known: bool, index: usize, item: usize, 
     found.note(Spot::Argument(index), Key::ConflictsWith, Some(item), kind)
 }
 
-// Returns whether an argument has this id, or it is the id of a flag that building may add.
-#[tactic(auto, unfolding(cc_command::specs::Texts::fixed_texts), using(crate::proofs::Inherited::has_inherited))]
-fn is_known(inherited: &[&Arg], arguments: &[Arg], id: &str) -> bool
-    ensures { result ≡ is_known (map (λ other. other.now) inherited.now) arguments.now id.now }
+// Returns whether `id` is in `seen`, or is the id of a flag that building may add.
+#[tactic(auto, unfolding(crate::specs::PlacedNames::owner_in, cc_command::specs::Texts::fixed_texts))]
+fn is_known(seen: &HashMap<&str, TextRef<'_>>, id: &str) -> bool
+    ensures { result ≡ is_known_in seen.now id.now }
 {
-    (has_borrowed(inherited, id) || has_id(arguments, id)) || (id == "help" || id == "version")
-}
-
-// Returns whether one of `arguments` has this id.
-fn has_borrowed(arguments: &[&Arg], id: &str) -> bool
-    ensures { result ≡ list_any (λ argument. bytes_eq argument.now.id id.now) arguments.now }
-{
-    arguments.iter().any(|argument| argument.get_id() == id)
+    seen.get(id).is_some() || (id == "help" || id == "version")
 }
