@@ -9,14 +9,14 @@ use cc_caller::{
     write_if_plain,
 };
 use cc_fixtures::trees::{APP, NESTED, read};
-use cc_fixtures::words::{environment, to_strings};
-use clap_complete::Shell;
+use cc_fixtures::words::to_strings;
 use clap_complete::aot::{
     Bash, Collected, Elvish, Fish, Generator, InvalidShell, Nushell, PowerShell, Zsh,
 };
 use clap_complete::command::{ArgAction, ValueHint, ValueRange};
 use clap_complete::engine::{Completers, MemoryFolder, Sources};
-use clap_complete::env::{self, Builtin, SafeShell};
+use clap_complete::env::{self, Builtin, EnvValues, SafeShell};
+use clap_complete::{Error, Shell};
 use std::alloc::Global;
 use std::process::Abort;
 use std::str;
@@ -105,28 +105,36 @@ fn sources_of<'s>(
     }
 }
 
-// Fails unless the program writes this text for these arguments if the variable has this value. If
-// it fails, the text is that of its error.
-fn answers<R: Abort + AllocGlobal>(rt: &R, value: &str, arguments: &[&str], wanted: &str) {
-    let alloc = rt.alloc();
-    let env = environment(alloc, &[("COMPLETE", value)]).expect(rt, "no environment");
-    let arguments = to_strings(alloc, arguments).expect(rt, "no words");
+// Returns what the program writes for these arguments if the variable has this value, or its error.
+fn answer(alloc: Global, value: &str, arguments: &[&str]) -> Result<String, Error> {
+    let mut variables = Vec::new(alloc);
+    let name = String::from_str(alloc, "COMPLETE")?;
+    variables.push((name, String::from_str(alloc, value)?))?;
+    let env = EnvValues::new(variables);
+    let arguments = to_strings(alloc, arguments)?;
     let folder = MemoryFolder::new(&[], &[]);
     let completers = Completers::none(alloc);
     let sources = sources_of(None, &folder, &completers);
     let mut out = Collected::new(alloc);
     let factory = |alloc: Global| read(alloc, NESTED);
     match answer_prompt(alloc, factory, arguments, &env, &sources, &mut out) {
-        Ok(_) => same(rt, out.as_slice(), wanted.as_bytes()),
-        Err(error) => is(rt, format!(in alloc; "{error}"), wanted),
+        Ok(true) => Ok(String::from_utf8_lossy(alloc, out.as_slice())?),
+        Ok(false) => Ok(String::from_str(alloc, "nothing")?),
+        Err(error) => Ok(format!(in alloc; "fails: {error}")?),
     }
 }
 
 #[test]
 fn a_prompt_gets_its_registration_and_a_line_for_each_value(rt: HostRuntime) {
-    answers(&rt, "prompt", &["app"], "COMPLETE\napp\n");
-    answers(&rt, "prompt", &["app", "--", "app", "run", ""], "job\n");
-    answers(&rt, "0", &["app"], "");
-    let wanted = "unknown shell `zsh`, expected one of `prompt`";
-    answers(&rt, "zsh", &["app"], wanted);
+    let shown = answer(rt.alloc(), "prompt", &["app"]);
+    is(&rt, shown, "COMPLETE\napp\n");
+    let shown = answer(rt.alloc(), "prompt", &["app", "--", "app", "run", ""]);
+    is(&rt, shown, "job\n");
+}
+
+#[test]
+fn other_values_do_not_ask_for_the_prompt(rt: HostRuntime) {
+    is(&rt, answer(rt.alloc(), "0", &["app"]), "nothing");
+    let wanted = "fails: unknown shell `zsh`, expected one of `prompt`";
+    is(&rt, answer(rt.alloc(), "zsh", &["app"]), wanted);
 }
