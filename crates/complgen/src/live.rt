@@ -90,47 +90,50 @@ fn write_requested<R: Env + Files + Input + Eprint + AllocGlobal, D: Folder, W: 
     out: &mut W,
 ) -> Result<u8, Refusal> {
     let current = env::current_dir(rt).ok();
-    let lines = SystemLines {
-        rt,
-        env,
-        current_dir: current.as_ref().map(|path| path.as_str()),
-        folder,
-    };
+    let current_dir = current.as_ref().map(|path| path.as_str());
     let called = request_words(words).and_then(|words| words.first());
     let Some(word) = called else {
         let program = words.first().map_or("complgen", |program| program.as_str());
-        return match write_known(&lines, program, folders, out) {
+        return match write_known(rt, env, program, current_dir, folder, folders, out) {
             Ok(()) => Ok(0),
             Err(error) => Err(error_refusal(rt.alloc(), &error)),
         };
     };
     let file = tree_file(rt, folders, word.as_str())?;
-    write_answer(&lines, words, &file, out)
+    write_answer(rt, env, words, &file, current_dir, folder, out)
 }
 
 // Writes the answer to a request for candidates, over a tree file. Returns the exit status.
 fn write_answer<'r, R: Files + Input + AllocGlobal, D: Folder, W: Sink>(
-    lines: &'r SystemLines<'r, R, D>,
+    rt: &'r R,
+    env: &'r EnvValues,
     words: &'r [String],
     tree: &'r TreeFile,
+    current_dir: Option<&'r str>,
+    folder: &'r D,
     out: &mut W,
 ) -> Result<u8, Refusal> {
     let path = tree.path.as_str();
     let origin = Origin::File(path);
     let file = tree.bytes.as_ref().map(Vec::as_slice);
     let request = Request {
-        env: lines.env,
+        env,
         words,
         origin,
         file,
-        current_dir: lines.current_dir,
-        folder: lines.folder,
+        current_dir,
+        folder,
         release: Release::AtExit,
     };
-    let alloc = lines.rt.alloc();
-    match reply(alloc, &request, lines, out) {
+    let lines = SystemLines {
+        rt,
+        env,
+        current_dir,
+        folder,
+    };
+    match reply(rt.alloc(), &request, &lines, out) {
         Ok(status) => Ok(status),
-        Err(error) => Err(reply_refusal(alloc, path, &error)),
+        Err(error) => Err(reply_refusal(rt.alloc(), path, &error)),
     }
 }
 
@@ -156,22 +159,18 @@ fn tree_line(alloc: Global, path: &str, problem: BadTree) -> Result<String, Allo
 }
 
 fn write_known<R: Eprint + AllocGlobal, D: Folder, W: Sink>(
-    lines: &SystemLines<'_, R, D>,
+    rt: &R,
+    env: &EnvValues,
     program: &str,
+    current_dir: Option<&str>,
+    folder: &D,
     folders: &[String],
     out: &mut W,
 ) -> Result<(), Error> {
-    let alloc = lines.rt.alloc();
-    let known = known_names(alloc, lines.folder, folders)?;
-    write_registrations(
-        alloc,
-        lines.env,
-        program,
-        lines.current_dir,
-        &known.names,
-        out,
-    )?;
-    report_passed_over(lines.rt, known.passed_over);
+    let alloc = rt.alloc();
+    let known = known_names(alloc, folder, folders)?;
+    write_registrations(alloc, env, program, current_dir, &known.names, out)?;
+    report_passed_over(rt, known.passed_over);
     Ok(())
 }
 

@@ -2,11 +2,12 @@
 
 use crate::fixtures::{command, environment, texts};
 use crate::sinks::Narrow;
-use crate::sources::completers;
+use crate::sources::{Keys, Levels};
 use clap_complete::aot::{Counted, put_all};
 use clap_complete::command::Command;
 use clap_complete::engine::{
-    Completers, CompletionCandidate, MemoryFolder, Sources, bash_script_and_candidates, complete,
+    Completers, CompletionCandidate, MemoryFolder, Sources, ValueCandidates, ValueCompleter,
+    bash_script_and_candidates, complete,
 };
 use clap_complete::env::{EnvCompleter, Shells};
 use clap_complete::{CompleteEnv, Error, Shell, generate, generate_to};
@@ -109,7 +110,11 @@ fn complete_word(
     let last = words.len().saturating_sub(1);
     let words = texts(alloc, words)?;
     let folder = folder();
-    let completers = completers(alloc)?;
+    let mut completers: Vec<Box<dyn ValueCompleter>> = Vec::new(alloc);
+    completers.push(Box::new(alloc, Keys)?)?;
+    let mut lists: Vec<Box<dyn ValueCandidates>> = Vec::new(alloc);
+    lists.push(Box::new(alloc, Levels)?)?;
+    let completers = Completers::new(alloc, completers, lists);
     let found = complete(
         alloc,
         command,

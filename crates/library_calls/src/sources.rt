@@ -2,13 +2,12 @@
 
 ghost use Rattle.std.specs.Prelude.{⊤};
 
-use clap_complete::Error;
-use clap_complete::engine::{Completers, CompletionCandidate, ValueCandidates, ValueCompleter};
+use clap_complete::engine::{CompletionCandidate, ValueCandidates, ValueCompleter};
 use std::alloc::{AllocError, Global};
 
 /// Completes a text to a name that begins with it.
 #[derive(Drop)]
-struct Keys;
+pub(crate) struct Keys;
 
 impl ValueCompleter for Keys {
     ghost completes = { λ _ _ _ _. ⊤ };
@@ -23,7 +22,7 @@ impl ValueCompleter for Keys {
 
 /// Lists two levels.
 #[derive(Drop)]
-struct Levels;
+pub(crate) struct Levels;
 
 impl ValueCandidates for Levels {
     ghost lists = { λ _ _. ⊤ };
@@ -35,12 +34,4 @@ impl ValueCandidates for Levels {
         }
         Ok(found)
     }
-}
-
-/// Returns the completer and the list, each with the number 0.
-pub(crate) fn completers(alloc: Global) -> Result<Completers, Error> {
-    let mut completers = Completers::none(alloc);
-    completers.add_completer(Box::new(alloc, Keys)?)?;
-    completers.add_list(Box::new(alloc, Levels)?)?;
-    Ok(completers)
 }
