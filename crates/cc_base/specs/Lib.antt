@@ -6,6 +6,7 @@ pub mod ErrorText
 pub mod Found
 pub mod Held
 pub mod Joined
+pub mod Partly
 pub mod PlainName
 pub mod Shown
 pub mod Sink

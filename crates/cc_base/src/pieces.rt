@@ -40,6 +40,7 @@ pub(crate) fn put_bytes<S: Sink>(sink: &mut S, bytes: &[u8]) -> Result<(), Error
 
 // Puts the bytes that remain after a put that took only some.
 #[cold]
+#[tactic(auto, using(crate::proofs::WrittenTexts::in_loops))]
 #[inline(never)]
 fn put_rest<S: Sink>(sink: &mut S, bytes: &[u8]) -> Result<(), ErrorKind>
     ensures { Writes S.taken S.failed (as_write result) sink.old sink.new bytes.now }

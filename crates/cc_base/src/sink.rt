@@ -1,6 +1,7 @@
 //! The destination of scripts and replies.
 
-ghost use Rattle.std.specs.Prelude.{◌≡◌, ◌≤◌, ℕ, List, [], ◌++◌, take, length, IfOk, IfErr, IsOk};
+ghost use Rattle.std.specs.Prelude.{◌≡◌, ◌≤◌, ℕ, List, [], ◌++◌, take, length, IfOk, IfErr, OnErr, IsOk, ◌||◌, true};
+ghost use Rattle.cc_base.specs.Partly.{partly, partly_split, partly_self};
 ghost use Rattle.cc_base.specs.Sink.{Failures, after_put};
 ghost use Rattle.cc_base.specs.Writes.{IsWrite, Writes};
 
@@ -20,17 +21,25 @@ pub trait Sink {
     ///
     /// # Errors
     ///
-    /// The kind of the failure. The contract then leaves open how much was taken.
+    /// The kind of the failure. Nothing was taken then.
     fn put(&mut self, bytes: &[u8]) -> Result<usize, ErrorKind>
         ensures within { IfOk result (λ count. count ≤ length bytes.now) }
         ensures ok { IfOk result
             (λ count. taken self.new ≡ taken self.old ++ take count bytes.now) }
+        ensures err { OnErr result (taken self.new ≡ taken self.old) }
         ensures failures { failed self.new ≡ after_put result bytes.now (failed self.old) };
 
     /// Returns how many writes failed: puts that returned an error or took nothing of a slice that
     /// is not empty, and flushes that failed. A count of `u64::MAX` stays as it is.
     fn failures(&self) -> u64
         ensures { result ≡ (failed self.now).count };
+
+    // a part of two texts is a part of the first, or the first and a part of the second
+    ghost splits: { (new old a b : List ℕ) →
+        partly new old (a ++ b) ≡ (partly new old a || partly new (old ++ a) b) } = { partly_split };
+
+    // nothing is a part of any text
+    ghost nothing: { (old text : List ℕ) → partly old old text ≡ true } = { partly_self };
 }
 
 /// Writes all `bytes`, stopping at the first put that fails. Does nothing if there are none.

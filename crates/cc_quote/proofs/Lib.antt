@@ -2,6 +2,7 @@ pub mod BashDoubles
 pub mod BeforeBlanks
 pub mod Blanks
 pub mod ByteEscapes
+pub mod Bytewise
 pub mod CharacterReading
 pub mod Characters
 pub mod Digits

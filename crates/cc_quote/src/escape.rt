@@ -96,6 +96,7 @@ impl ByteEscape for Replace {
 /// # Errors
 ///
 /// The kind of the put that failed.
+#[tactic(auto, using(crate::proofs::Bytewise::to_the_end))]
 pub fn put_escaped<E: Escape, S: Sink>(
     sink: &mut S,
     escape: &E,
@@ -110,7 +111,8 @@ pub fn put_escaped<E: Escape, S: Sink>(
         put_piece(sink, replacement)?;
         rest = next;
     }
-    put_piece(sink, rest)
+    put_piece(sink, rest)?;
+    Ok(())
 }
 
 /// Appends the escaped `text` to `made`.
