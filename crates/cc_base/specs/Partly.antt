@@ -1,25 +1,25 @@
--- What a sink holds after a write that stopped.
+-- Beginnings of texts: what a sink holds after a write that stopped.
 use Rattle.std.specs.Prelude.{◌≡◌, ℕ, List, [], ◌∷◌, ◌++◌, Bool, true, false, ◌&&◌, ◌||◌, ◌==◌, refl}
 use Rattle.std.proofs.Common.{ap, sym, ◌∙◌, append_assoc}
 use Rattle.std.proofs.lemmas.Bool.{eq-eqb, and_from, true≢false}
 
--- whether the second list begins with the first
+-- whether the second text begins with the first
 unfoldable pub begins : List ℕ → List ℕ → Bool
 begins [] ys = true
 begins (x ∷ xs) [] = false
 begins (x ∷ xs) (y ∷ ys) = (x == y) && begins xs ys
 
--- whether the second list is no shorter than the first
+-- whether the second text is no shorter than the first
 unfoldable pub as_long : List ℕ → List ℕ → Bool
 as_long [] ys = true
 as_long (x ∷ xs) [] = false
 as_long (x ∷ xs) (y ∷ ys) = as_long xs ys
 
--- whether the second list is no shorter than the first, and the third begins with it
+-- whether the second text is no shorter than the first, and the third begins with it
 unfoldable pub within : List ℕ → List ℕ → List ℕ → Bool
 within lo n hi = as_long lo n && begins n hi
 
--- whether the first list is the second with a beginning of the third
+-- whether the first text is the second and a beginning of the third
 unfoldable pub partly : List ℕ → List ℕ → List ℕ → Bool
 partly new old text = within old new (old ++ text)
 
@@ -61,7 +61,7 @@ partly_split new old a b =
     let P : List ℕ → Bool = λ t. as_long old new && begins new t in
     ap P (sym (append_assoc old a b))
     ∙ long_case (as_long old new) (begins new (old ++ a)) (begins new ((old ++ a) ++ b)) (as_long (old ++ a) new)
-      (begins_split new (old ++ a) b) (as_long_shorter old a new)
+    (begins_split new (old ++ a) b) (as_long_shorter old a new)
 
 -- nothing is a part of any text
 pub partly_self : (old text : List ℕ) → partly old old text ≡ true

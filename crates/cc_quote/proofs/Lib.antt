@@ -2,7 +2,6 @@ pub mod BashDoubles
 pub mod BeforeBlanks
 pub mod Blanks
 pub mod ByteEscapes
-pub mod Bytewise
 pub mod CharacterReading
 pub mod Characters
 pub mod Digits

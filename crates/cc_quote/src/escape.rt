@@ -96,7 +96,7 @@ impl ByteEscape for Replace {
 /// # Errors
 ///
 /// The kind of the put that failed.
-#[tactic(auto, using(crate::proofs::Bytewise::to_the_end))]
+#[tactic(auto, using(cc_base::proofs::WrittenTexts::to_the_end))]
 pub fn put_escaped<E: Escape, S: Sink>(
     sink: &mut S,
     escape: &E,

@@ -267,7 +267,7 @@ pub fn put_fish_help_for_eval<W: Sink>(sink: &mut W, help: &str) -> Result<(), E
 }
 
 // Puts an escaped text between two `'`.
-#[tactic(auto, using(crate::proofs::Bytewise::after_bytes))]
+#[tactic(auto, using(cc_base::proofs::WrittenTexts::after_bytes))]
 fn put_in_quotes<E: Escape, W: Sink>(sink: &mut W, escape: &E, text: &str) -> Result<(), ErrorKind>
     ensures { Writes W.taken W.failed (as_write result) sink.old sink.new
         (codes "'" ++ E.escaped escape.now text.now ++ codes "'") }
