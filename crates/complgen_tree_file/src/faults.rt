@@ -1,7 +1,7 @@
 //! Collects what is wrong with the values of a tree file, each with the path to it.
 
 ghost use Rattle.std.specs.Prelude.{◌≡◌, ◌&&◌, IfOk, false, true};
-ghost use Rattle.complgen_tree_file.specs.Faults.{has_none, is_nil};
+ghost use Rattle.complgen_tree_file.specs.Faults.{faults_in, has_none};
 
 use crate::kinds::{ObjectKind, ValueKind};
 use std::alloc::{AllocError, Global};
@@ -149,9 +149,9 @@ impl<'t> Faults<'t> {
         Ok(())
     }
 
-    /// Returns all faults.
+    /// Returns all faults, in the order in which they were noted.
     pub fn into_vec(self) -> Vec<Fault<'t>>
-        ensures { is_nil result.items ≡ has_none self.entry }
+        ensures { result.items ≡ faults_in self.entry }
     {
         self.list
     }
