@@ -80,7 +80,7 @@ impl<'t> Faults<'t> {
         self.alloc
     }
 
-    /// Returns whether nothing is wrong.
+    /// Returns whether nothing wrong was found so far.
     pub fn is_empty(&self) -> bool
         ensures { result ≡ has_none self.now }
     {
@@ -149,7 +149,7 @@ impl<'t> Faults<'t> {
         Ok(())
     }
 
-    /// Returns all faults, in the order in which they were noted.
+    /// Returns all faults.
     pub fn into_vec(self) -> Vec<Fault<'t>>
         ensures { result.items ≡ faults_in self.entry }
     {

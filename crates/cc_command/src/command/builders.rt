@@ -58,11 +58,14 @@ impl Command {
 ///
 /// # Errors
 ///
-/// `AllocError` if the allocation fails. The argument is then dropped, and the node keeps its own.
+/// `AllocError` if the allocation fails. The argument is then dropped. The node keeps its arguments
+/// and counts as not built, and its counter may have advanced.
 pub fn add_argument(node: &mut Node, mut argument: Arg) -> Result<(), AllocError>
     ensures ok { OnOk result (node.new ≡ with_argument node.old argument) }
     ensures err { OnErr result (node.new ≡ record node.old {
-        next_order = order_after node.old.next_order argument; built = false }) }
+      next_order = order_after node.old.next_order argument;
+      built = false;
+    }) }
 {
     node.built = false;
     if !argument.is_positional() {
@@ -78,7 +81,8 @@ pub fn add_argument(node: &mut Node, mut argument: Arg) -> Result<(), AllocError
 ///
 /// # Errors
 ///
-/// `AllocError` if the allocation fails. The child is then dropped, and the command keeps its own.
+/// `AllocError` if the allocation fails. The child is then dropped, and the command keeps its
+/// children.
 pub fn add_child(command: &mut Command, mut child: Command) -> Result<(), AllocError>
     ensures ok { OnOk result (command.new ≡ with_child command.old child) }
     ensures err { OnErr result (command.new.children ≡ command.old.children) }
@@ -95,12 +99,14 @@ pub fn add_child(command: &mut Command, mut child: Command) -> Result<(), AllocE
 ///
 /// # Errors
 ///
-/// `AllocError` if the allocation fails. The arguments are then dropped, and the node keeps its
-/// own.
+/// `AllocError` if the allocation fails. The arguments are then dropped. The node keeps its
+/// arguments and counts as not built, and its counter may have advanced.
 pub fn add_arguments(node: &mut Node, mut arguments: Vec<Arg>) -> Result<(), AllocError>
     ensures ok { OnOk result (node.new ≡ fold with_argument node.old arguments.items) }
     ensures err { OnErr result (node.new ≡ record node.old {
-        next_order = fold order_after node.old.next_order arguments.items; built = false }) }
+      next_order = fold order_after node.old.next_order arguments.items;
+      built = false;
+    }) }
 {
     if arguments.is_empty() {
         return Ok(());
@@ -115,7 +121,7 @@ pub fn add_arguments(node: &mut Node, mut arguments: Vec<Arg>) -> Result<(), All
 ///
 /// # Errors
 ///
-/// `AllocError` if the allocation fails. The children are then dropped, and the command keeps its
+/// `AllocError` if the allocation fails. These children are then dropped, and the command keeps its
 /// own.
 pub fn add_children(command: &mut Command, mut children: Vec<Command>) -> Result<(), AllocError>
     ensures ok { OnOk result (command.new ≡ fold with_child command.old children.items) }
