@@ -1,9 +1,10 @@
 -- Writes that stop: after an error the sink holds a beginning of the whole text.
-use Rattle.std.proofs.Common.{◌≡◌, ◌≤◌, ℕ, List, ◌++◌, true, Err, arith, length, subst}
+use Rattle.std.proofs.Common.{◌≡◌, ◌≤◌, ◌<◌, ◌+◌, ◌∙◌, ℕ, List, ◌∷◌, ◌++◌, true, Err, ap, arith, drop, get_or, length, subst}
 use Rattle.cc_base.specs.declared.error.Error.{Error}
 use Rattle.cc_base.specs.declared.failures.Failures.{Failures}
 use Rattle.cc_base.specs.Partly.{partly}
 use Rattle.cc_base.specs.Writes.{Writes, CountsWrite}
+use Rattle.cc_base.proofs.Lists.{one_more}
 use Rattle.cc_base.proofs.WrittenTexts.{GoesOn, in_loops, in_steps}
 
 pub part_first : (old new a b : List ℕ) → partly new old a ≡ true → partly new old (a ++ b) ≡ true
@@ -40,3 +41,15 @@ module _ {S : Type 0} {taken : S → List ℕ} {failed : S → Failures} {error 
         subst P goes.failures w.failures;
     kinds = w.kinds;
   }
+
+  -- the same for a loop over items
+  pub stops_at : {X : Type 0} {before mid new : S} (text : List X → List ℕ) (items : List X) (i : ℕ)
+      (item : X) (one : List ℕ) → i < length items → item ≡ get_or items i item →
+      text (item ∷ drop (i + 1) items) ≡ one ++ text (drop (i + 1) items) →
+      GoesOn taken failed before mid (text items) (text (drop i items)) →
+      Writes taken failed (Err error) mid new one →
+      Writes taken failed (Err error) before new (text items)
+  stops_at {X} {before} {mid} {new} text items i item one less at opens goes w =
+      let P : List ℕ → Type 0 = λ left. GoesOn taken failed before mid (text items) left in
+      stops_within (text items) one (text (drop (i + 1) items))
+      (subst P (ap text (one_more items i item item less at) ∙ opens) goes) w
