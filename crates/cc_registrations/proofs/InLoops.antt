@@ -1,8 +1,8 @@
 -- Beginnings of texts that loops write byte by byte, or in two parts.
 use Rattle.std.proofs.Common.{◌≡◌, ◌≤◌, ◌∙◌, ap, ℕ, List, [], ◌∷◌, ◌++◌, length, true}
 use Rattle.std.specs.Prelude.{Bool, ◌||◌}
-use Rattle.cc_base.specs.Partly.{partly, partly_split, within}
-use Rattle.cc_base.proofs.WrittenTexts.{in_steps, within_step}
+use Rattle.cc_base.specs.Partly.{partly, partly_split}
+use Rattle.cc_base.proofs.WrittenTexts.{in_steps, within, within_step}
 
 pub within_byte : (low n m : List ℕ) (x : ℕ) (b : List ℕ) → length low ≤ length m
     → partly n m (x ∷ []) ≡ true → within low n (m ++ (x ∷ b)) ≡ true
