@@ -1,3 +1,4 @@
+mod CutOff
 mod PageRead
 mod Parts
 mod Rows

@@ -99,6 +99,7 @@ value_reads name =
     (fixed (codes ">\\fR") (word italic (codes ">")) refl refl)
 
 further_reads : (name : List ℕ) → Reads (inside roman) (further_value name) (further_shown name) (inside roman)
+unfolding further_value
 further_reads name = then space_reads (value_reads name)
 
 labels_read : (id : List ℕ) (names : List (List ℕ)) → Reads (inside roman) (labels_text id names) (labels_shown id names) (inside roman)
@@ -120,6 +121,7 @@ values_read argument =
     (optional (is_optional argument) (codes "]") (word roman (codes "]")) (computed refl refl))
 
 spaced_reads : (argument : Arg) → Reads (inside roman) (spaced_values argument) (spaced_shown argument) (inside roman)
+unfolding spaced_values
 spaced_reads argument = then space_reads (values_read argument)
 
 names_read : (argument : Arg) → Reads (inside roman) (names_text argument) (names_shown argument) (inside roman)
@@ -199,6 +201,7 @@ synopsis_reads tree =
     line_reads
 
 alias_reads : (alias : List ℕ) → Reads (inside roman) (further_bold alias) (further_alias alias) (inside roman)
+unfolding further_bold
 alias_reads alias = then comma_reads (bold_reads alias)
 
 aliases_read : (aliases : List (List ℕ)) → Reads (at_first roman) (aliases_text aliases) (aliases_shown aliases) (at_first roman)

@@ -21,7 +21,7 @@ unfoldable pub bold_text : List ℕ → List ℕ
 bold_text text = codes "\\fB" ++ escaped_word text ++ codes "\\fR"
 
 -- after another such text
-abbrev pub further_bold : List ℕ → List ℕ
+unfoldable pub further_bold : List ℕ → List ℕ
 further_bold text = codes ", " ++ bold_text text
 
 -- a help text on lines of its own; the escape before it shows nothing, so that it is no request
@@ -43,7 +43,7 @@ unfoldable pub value_text : List ℕ → List ℕ
 value_text name = codes "\\fI<" ++ escaped_word name ++ codes ">\\fR"
 
 -- after another
-abbrev pub further_value : List ℕ → List ℕ
+unfoldable pub further_value : List ℕ → List ℕ
 further_value name = codes " " ++ value_text name
 
 -- the names of the values, or the id if there are none
@@ -74,7 +74,7 @@ values_text argument =
     ++ where_true (takes_more argument) (codes "...")
     ++ where_true (is_optional argument) (codes "]")
 
-abbrev pub spaced_values : Arg → List ℕ
+unfoldable pub spaced_values : Arg → List ℕ
 spaced_values argument = codes " " ++ values_text argument
 
 -- the values of a positional, or the names of an option or a flag and its values if it takes any

@@ -1,5 +1,5 @@
 -- The escapes by which a text becomes roff, the language of man pages.
-use Rattle.std.specs.Prelude.{ℕ, List, [], Bool, ◌==◌, nat_lt, ◌||◌, if◌then◌else◌, codes}
+use Rattle.std.specs.Prelude.{ℕ, List, Bool, ◌==◌, nat_lt, ◌||◌, if◌then◌else◌, codes}
 use Rattle.cc_base.specs.Bytes.{backslash, backtick, dash, double_quote, line_feed, single_quote}
 use Rattle.cc_quote.specs.Escapes.{escaped_by}
 

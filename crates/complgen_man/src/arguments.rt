@@ -12,7 +12,7 @@ ghost use Rattle.complgen_man.specs.Page.{is_shown_positional, is_shown_value, l
 ghost use Rattle.complgen_man.specs.Page.{possible_text, possible_values_text, value_help_text};
 ghost use Rattle.complgen_man.specs.Page.{value_line, value_list};
 
-use crate::escapes::{put_word, write_bold, write_paragraph};
+use crate::escapes::{put_word_between, write_bold, write_paragraph};
 use crate::labels::write_label;
 use cc_arg::{Arg, PossibleValue, possible_values};
 use cc_base::{Sink, put_piece, put_separator};
@@ -29,6 +29,7 @@ pub(crate) fn write_arguments<W: Sink>(sink: &mut W, command: &Command) -> Resul
     write_options(sink, command.get_arguments())
 }
 
+#[tactic(auto, using(cc_base::proofs::WrittenTexts::in_steps))]
 fn write_positionals<W: Sink>(sink: &mut W, arguments: &[Arg]) -> Result<(), ErrorKind>
     ensures { Writes W.taken W.failed (as_write result) sink.old sink.new
         (flat_map argument_text (filter is_shown_positional arguments.now)) }
@@ -42,6 +43,7 @@ fn write_positionals<W: Sink>(sink: &mut W, arguments: &[Arg]) -> Result<(), Err
     Ok(())
 }
 
+#[tactic(auto, using(cc_base::proofs::WrittenTexts::in_steps))]
 fn write_options<W: Sink>(sink: &mut W, arguments: &[Arg]) -> Result<(), ErrorKind>
     ensures { Writes W.taken W.failed (as_write result) sink.old sink.new
         (flat_map argument_text (filter is_shown_option arguments.now)) }
@@ -132,6 +134,7 @@ fn is_shown_value(value: &PossibleValue) -> bool
     !value.is_hide_set()
 }
 
+#[tactic(auto, using(cc_base::proofs::WrittenTexts::in_steps))]
 fn write_values<W: Sink>(sink: &mut W, values: &[PossibleValue]) -> Result<(), ErrorKind>
     ensures { Writes W.taken W.failed (as_write result) sink.old sink.new
         (value_list values.now) }
@@ -168,9 +171,7 @@ fn write_value_help<W: Sink>(sink: &mut W, help: Option<&str>) -> Result<(), Err
     let Some(help) = help else {
         return Ok(());
     };
-    put_piece(sink, " (")?;
-    put_word(sink, help)?;
-    put_piece(sink, ")")
+    put_word_between(sink, " (", help, ")")
 }
 
 fn write_default<W: Sink>(sink: &mut W, value: Option<&str>) -> Result<(), ErrorKind>
@@ -186,7 +187,5 @@ fn write_default<W: Sink>(sink: &mut W, value: Option<&str>) -> Result<(), Error
 fn write_default_line<W: Sink>(sink: &mut W, value: &str) -> Result<(), ErrorKind>
     ensures { Writes W.taken W.failed (as_write result) sink.old sink.new (default_line value.now) }
 {
-    put_piece(sink, ".br\nDefault: ")?;
-    write_bold(sink, value)?;
-    put_piece(sink, "\n")
+    put_word_between(sink, ".br\nDefault: \\fB", value, "\\fR\n")
 }

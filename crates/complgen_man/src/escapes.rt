@@ -1,6 +1,6 @@
 //! Escapes, by which texts of a tree become roff.
 
-ghost use Rattle.std.specs.Prelude.{◌≡◌, Some, None, codes, if◌then◌else◌};
+ghost use Rattle.std.specs.Prelude.{◌≡◌, ◌++◌, Some, None, codes, if◌then◌else◌};
 ghost use Rattle.std.specs.Option.{option_copied};
 ghost use Rattle.cc_base.specs.Writes.{Writes, as_write};
 ghost use Rattle.complgen_man.specs.Page.{bold_text, further_bold, paragraph_text};
@@ -77,26 +77,39 @@ fn put_prose<W: Sink>(sink: &mut W, text: &str) -> Result<(), ErrorKind>
     put_escaped(sink, &ProseEscape, text)
 }
 
+/// Puts such a text between two others.
+pub(crate) fn put_word_between<'a, W: Sink>(
+    sink: &mut W,
+    before: &'a str,
+    word: &'a str,
+    after: &'a str,
+) -> Result<(), ErrorKind>
+    ensures { Writes W.taken W.failed (as_write result) sink.old sink.new
+        (before.now ++ escaped_word word.now ++ after.now) }
+{
+    put_piece(sink, before)?;
+    put_word(sink, word)?;
+    put_piece(sink, after)
+}
+
 /// Writes a text in bold.
 #[tactic(auto, unfolding(crate::specs::Page::bold_text))]
 pub(crate) fn write_bold<W: Sink>(sink: &mut W, text: &str) -> Result<(), ErrorKind>
     ensures { Writes W.taken W.failed (as_write result) sink.old sink.new (bold_text text.now) }
 {
-    put_piece(sink, "\\fB")?;
-    put_word(sink, text)?;
-    put_piece(sink, "\\fR")
+    put_word_between(sink, "\\fB", text, "\\fR")
 }
 
 /// Writes a text in bold that follows another.
+#[tactic(auto, unfolding(crate::specs::Page::further_bold, crate::specs::Page::bold_text))]
 pub(crate) fn write_further_bold<W: Sink>(sink: &mut W, text: &str) -> Result<(), ErrorKind>
     ensures { Writes W.taken W.failed (as_write result) sink.old sink.new (further_bold text.now) }
 {
-    put_piece(sink, ", ")?;
-    write_bold(sink, text)
+    put_word_between(sink, ", \\fB", text, "\\fR")
 }
 
 /// Writes a help text on lines of its own.
-#[tactic(auto, unfolding(crate::specs::Page::paragraph_text))]
+#[tactic(auto, using(cc_base::proofs::WrittenTexts::after_bytes), unfolding(crate::specs::Page::paragraph_text))]
 pub(crate) fn write_paragraph<W: Sink>(sink: &mut W, text: &str) -> Result<(), ErrorKind>
     ensures { Writes W.taken W.failed (as_write result) sink.old sink.new
         (paragraph_text text.now) }

@@ -8,7 +8,7 @@ ghost use Rattle.complgen_man.specs.Page.{further_value, is_optional, label_text
 ghost use Rattle.complgen_man.specs.Page.{name_text, names_text, spaced_values, takes_more};
 ghost use Rattle.complgen_man.specs.Page.{value_text, values_text, where_true};
 
-use crate::escapes::put_word;
+use crate::escapes::put_word_between;
 use cc_arg::{Arg, ArgAction, ShownName, counted_range, shown_names};
 use cc_base::{Sink, Text, put_piece, put_separator};
 use std::io::ErrorKind;
@@ -30,6 +30,7 @@ pub(crate) fn write_label<W: Sink>(sink: &mut W, argument: &Arg) -> Result<(), E
     write_spaced_values(sink, argument)
 }
 
+#[tactic(auto, using(cc_base::proofs::WrittenTexts::in_steps))]
 fn write_names<W: Sink>(sink: &mut W, argument: &Arg) -> Result<(), ErrorKind>
     ensures { Writes W.taken W.failed (as_write result) sink.old sink.new
         (names_text argument.now) }
@@ -60,7 +61,7 @@ fn write_name<W: Sink>(sink: &mut W, name: &ShownName<'_>) -> Result<(), ErrorKi
 {
     match name {
         ShownName::Short(short) => write_short(sink, *short),
-        ShownName::Long(long) => write_dashed(sink, "\\fB\\-\\-", long.as_str()),
+        ShownName::Long(long) => { put_word_between(sink, "\\fB\\-\\-", long.as_str(), "\\fR") },
     }
 }
 
@@ -69,19 +70,12 @@ fn write_short<W: Sink>(sink: &mut W, short: char) -> Result<(), ErrorKind>
         (codes "\\fB\\-" ++ escaped_word (encode_utf8 short) ++ codes "\\fR") }
 {
     let mut buffer = [0; 4];
-    write_dashed(sink, "\\fB\\-", short.encode_utf8(&mut buffer))
-}
-
-fn write_dashed<'a, W: Sink>(sink: &mut W, dashes: &'a str, name: &'a str) -> Result<(), ErrorKind>
-    ensures { Writes W.taken W.failed (as_write result) sink.old sink.new
-        (dashes.now ++ escaped_word name.now ++ codes "\\fR") }
-{
-    put_piece(sink, dashes)?;
-    put_word(sink, name)?;
-    put_piece(sink, "\\fR")
+    let name = short.encode_utf8(&mut buffer);
+    put_word_between(sink, "\\fB\\-", name, "\\fR")
 }
 
 /// Writes the values of an argument after a space.
+#[tactic(auto, using(cc_base::proofs::WrittenTexts::after_bytes), unfolding(crate::specs::Page::spaced_values))]
 pub(crate) fn write_spaced_values<W: Sink>(sink: &mut W, argument: &Arg) -> Result<(), ErrorKind>
     ensures { Writes W.taken W.failed (as_write result) sink.old sink.new
         (spaced_values argument.now) }
@@ -126,6 +120,7 @@ fn write_value_names<'a, W: Sink>(
     }
 }
 
+#[tactic(auto, using(cc_base::proofs::WrittenTexts::in_steps))]
 fn write_other_names<W: Sink>(sink: &mut W, names: &[Text]) -> Result<(), ErrorKind>
     ensures { Writes W.taken W.failed (as_write result) sink.old sink.new
         (flat_map further_value names.now) }
@@ -136,21 +131,19 @@ fn write_other_names<W: Sink>(sink: &mut W, names: &[Text]) -> Result<(), ErrorK
     Ok(())
 }
 
+#[tactic(auto, unfolding(crate::specs::Page::further_value, crate::specs::Page::value_text))]
 fn write_further_name<W: Sink>(sink: &mut W, name: &str) -> Result<(), ErrorKind>
     ensures { Writes W.taken W.failed (as_write result) sink.old sink.new
         (further_value name.now) }
 {
-    put_piece(sink, " ")?;
-    write_value_name(sink, name)
+    put_word_between(sink, " \\fI<", name, ">\\fR")
 }
 
 #[tactic(auto, unfolding(crate::specs::Page::value_text))]
 fn write_value_name<W: Sink>(sink: &mut W, name: &str) -> Result<(), ErrorKind>
     ensures { Writes W.taken W.failed (as_write result) sink.old sink.new (value_text name.now) }
 {
-    put_piece(sink, "\\fI<")?;
-    put_word(sink, name)?;
-    put_piece(sink, ">\\fR")
+    put_word_between(sink, "\\fI<", name, ">\\fR")
 }
 
 // Returns whether the values can be left out.

@@ -9,14 +9,15 @@ ghost use Rattle.cc_command.specs.Built.{built_under};
 ghost use Rattle.cc_command.specs.Tree.{forest_of};
 ghost use Rattle.complgen_man.specs.Outcome.{LeavesBuilt};
 ghost use Rattle.complgen_man.specs.Shown.{ReadsBack};
-ghost use Rattle.complgen_man.specs.Page.{about_text, commands_section, front_text, heading_text};
+ghost use Rattle.complgen_man.specs.Page.{about_text, arguments_text, commands_section, front_text};
+ghost use Rattle.complgen_man.specs.Page.{heading_text};
 ghost use Rattle.complgen_man.specs.Page.{is_shown_argument, man_page, name_section};
 ghost use Rattle.complgen_man.specs.Page.{options_section, source_text, title_text};
 ghost use Rattle.complgen_man.specs.Page.{titled_commands};
 
 use crate::arguments::write_arguments;
 use crate::commands::write_commands;
-use crate::escapes::{put_word, write_paragraph};
+use crate::escapes::{put_word, put_word_between, write_paragraph};
 use crate::usage::{description, has_shown, write_notes, write_usage};
 use cc_arg::Arg;
 use cc_base::{Error, Sink, put_piece};
@@ -28,7 +29,7 @@ use std::io::ErrorKind;
 ///
 /// # Errors
 ///
-/// `Write` if the sink fails. The sink may then hold part of the page.
+/// `Write` if the sink fails. The sink then holds a beginning of the page.
 #[tactic(auto, using(crate::proofs::PageRead::page_reads_back))]
 pub fn write_page<W: Sink>(sink: &mut W, root: &Command) -> Result<(), Error>
     ensures written { Writes W.taken W.failed result sink.old sink.new (man_page root.now) }
@@ -46,7 +47,8 @@ pub fn write_page<W: Sink>(sink: &mut W, root: &Command) -> Result<(), Error>
 /// # Errors
 ///
 /// - `Memory` if an allocation fails. The command then stays as it was, and nothing is written.
-/// - `Write` if the sink fails. The sink may then hold part of the page, and the command is built.
+/// - `Write` if the sink fails. The sink then holds a beginning of the page, and the command is
+///   built.
 #[tactic(auto, using(crate::proofs::PageRead::page_reads_back))]
 pub fn generate_page<W: Sink>(
     alloc: Global,
@@ -100,9 +102,7 @@ fn write_title<W: Sink>(sink: &mut W, name: &str, version: Option<&str>) -> Resu
     ensures { Writes W.taken W.failed (as_write result) sink.old sink.new
         (title_text name.now (option_copied version.entry)) }
 {
-    put_piece(sink, ".TH \"")?;
-    put_word(sink, name)?;
-    put_piece(sink, "\" \"1\" \"\" \"")?;
+    put_word_between(sink, ".TH \"", name, "\" \"1\" \"\" \"")?;
     write_source(sink, name, version)?;
     put_piece(sink, "\" \"User Commands\"\n.nh\n")
 }
@@ -131,6 +131,7 @@ fn write_name<W: Sink>(sink: &mut W, name: &str, about: Option<&str>) -> Result<
     put_piece(sink, "\n")
 }
 
+#[tactic(auto, using(cc_base::proofs::WrittenTexts::after_bytes))]
 fn write_about<W: Sink>(sink: &mut W, about: Option<&str>) -> Result<(), ErrorKind>
     ensures { Writes W.taken W.failed (as_write result) sink.old sink.new
         (about_text (option_copied about.entry)) }
@@ -150,6 +151,13 @@ fn write_options<W: Sink>(sink: &mut W, root: &Command) -> Result<(), ErrorKind>
     if !has_shown_argument(root.get_arguments()) {
         return Ok(());
     }
+    write_titled_options(sink, root)
+}
+
+fn write_titled_options<W: Sink>(sink: &mut W, root: &Command) -> Result<(), ErrorKind>
+    ensures { Writes W.taken W.failed (as_write result) sink.old sink.new
+        (codes ".SH OPTIONS\n" ++ arguments_text root.now.node) }
+{
     put_piece(sink, ".SH OPTIONS\n")?;
     write_arguments(sink, root)
 }

@@ -5,13 +5,13 @@ ghost use Rattle.std.specs.List.{list_any};
 ghost use Rattle.std.specs.Option.{option_copied};
 ghost use Rattle.cc_base.specs.Writes.{Writes, as_write};
 ghost use Rattle.cc_command.specs.Tree.{forest_of};
-ghost use Rattle.complgen_man.specs.Page.{aliases_text, command_mark, command_words, description};
+ghost use Rattle.complgen_man.specs.Page.{aliases_text, bold_text, command_mark, command_words, description};
 ghost use Rattle.complgen_man.specs.Page.{further_bold, has_shown, is_shown_option};
 ghost use Rattle.complgen_man.specs.Page.{is_shown_positional, notes_text, options_mark};
 ghost use Rattle.complgen_man.specs.Page.{spaced_values, synopsis_text, usage_text};
 
 use crate::arguments::{is_shown_option, is_shown_positional};
-use crate::escapes::{write_bold, write_further_bold, write_paragraph};
+use crate::escapes::{put_word_between, write_bold, write_further_bold, write_paragraph};
 use crate::labels::write_spaced_values;
 use cc_arg::Arg;
 use cc_base::{Sink, Text, put_piece};
@@ -90,6 +90,7 @@ pub(crate) fn has_shown(children: &[Command]) -> bool
     false
 }
 
+#[tactic(auto, using(cc_base::proofs::WrittenTexts::in_steps))]
 fn write_positionals<W: Sink>(sink: &mut W, arguments: &[Arg]) -> Result<(), ErrorKind>
     ensures { Writes W.taken W.failed (as_write result) sink.old sink.new
         (flat_map spaced_values (filter is_shown_positional arguments.now)) }
@@ -109,15 +110,25 @@ fn write_aliases<W: Sink>(sink: &mut W, aliases: &[Text]) -> Result<(), ErrorKin
 {
     match aliases.split_first() {
         None => Ok(()),
-        Some((alias, others)) => {
-            put_piece(sink, ".br\nAliases: ")?;
-            write_bold(sink, alias.as_str())?;
-            write_other_aliases(sink, others)?;
-            put_piece(sink, "\n")
-        }
+        Some((alias, others)) => write_alias_line(sink, alias.as_str(), others),
     }
 }
 
+fn write_alias_line<'a, W: Sink>(
+    sink: &mut W,
+    alias: &'a str,
+    others: &'a [Text],
+) -> Result<(), ErrorKind>
+    ensures { Writes W.taken W.failed (as_write result) sink.old sink.new
+        (codes ".br\nAliases: " ++ bold_text alias.now ++ flat_map further_bold others.now
+        ++ codes "\n") }
+{
+    put_word_between(sink, ".br\nAliases: \\fB", alias, "\\fR")?;
+    write_other_aliases(sink, others)?;
+    put_piece(sink, "\n")
+}
+
+#[tactic(auto, using(cc_base::proofs::WrittenTexts::in_steps))]
 fn write_other_aliases<W: Sink>(sink: &mut W, aliases: &[Text]) -> Result<(), ErrorKind>
     ensures { Writes W.taken W.failed (as_write result) sink.old sink.new
         (flat_map further_bold aliases.now) }
@@ -139,6 +150,7 @@ pub(crate) fn description(command: &Command) -> &str
 }
 
 /// Writes the text at the end of a command's help as a paragraph.
+#[tactic(auto, using(cc_base::proofs::WrittenTexts::after_bytes))]
 pub(crate) fn write_notes<W: Sink>(sink: &mut W, notes: Option<&str>) -> Result<(), ErrorKind>
     ensures { Writes W.taken W.failed (as_write result) sink.old sink.new
         (notes_text (option_copied notes.entry)) }
