@@ -1,7 +1,7 @@
 -- Beginnings of texts that loops write in two parts, or space by space.
 use Rattle.std.proofs.Common.{◌≡◌, ◌≤◌, ◌<◌, ◌+◌, ◌-◌, ap, ℕ, suc, List, [], ◌∷◌, ◌++◌, length, true, replicate, arith}
-use Rattle.cc_base.specs.Partly.{partly, partly_split, within}
-use Rattle.cc_base.proofs.WrittenTexts.{in_steps, within_step}
+use Rattle.cc_base.specs.Partly.{partly, partly_split}
+use Rattle.cc_base.proofs.WrittenTexts.{in_steps, within, within_step}
 use Rattle.cc_replies.specs.BashList.{space}
 
 pub ruleset in_parts = (in_steps, partly_split)
