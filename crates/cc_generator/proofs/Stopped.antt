@@ -1,9 +1,14 @@
 -- Writes that stop: after an error the sink holds a beginning of the whole text.
-use Rattle.std.proofs.Common.{◌≡◌, ◌≤◌, ◌<◌, ◌+◌, ◌∙◌, ℕ, List, ◌∷◌, ◌++◌, true, Err, ap, arith, drop, get_or, length, subst}
+use Rattle.std.proofs.Common.{◌≡◌, ◌≤◌, ◌<◌, ◌+◌, ◌∙◌, ℕ, List, ◌∷◌, ◌++◌, ◌||◌, Bool, true, Result, Ok, Err, ap, arith, drop, get_or, length, subst, sym}
+use Rattle.std.specs.Result.{IsErrAnd}
+use Rattle.std.specs.declared.io.ErrorKind.{ErrorKind}
 use Rattle.cc_base.specs.declared.error.Error.{Error}
+use Rattle.cc_base.specs.declared.error.Error.TheVariants.{Write}
 use Rattle.cc_base.specs.declared.failures.Failures.{Failures}
 use Rattle.cc_base.specs.Partly.{partly}
-use Rattle.cc_base.specs.Writes.{Writes, CountsWrite}
+use Rattle.cc_base.specs.Writes.{Writes, CountsWrite, as_write}
+use Rattle.cc_base.specs.Joined.{has_texts, joined_after}
+use Rattle.cc_base.proofs.JoinedTexts.{joined_append}
 use Rattle.cc_base.proofs.Lists.{one_more}
 use Rattle.cc_base.proofs.WrittenTexts.{GoesOn, in_loops, in_steps}
 
@@ -53,3 +58,35 @@ module _ {S : Type 0} {taken : S → List ℕ} {failed : S → Failures} {error 
       let P : List ℕ → Type 0 = λ left. GoesOn taken failed before mid (text items) left in
       stops_within (text items) one (text (drop (i + 1) items))
       (subst P (ap text (one_more items i item item less at) ∙ opens) goes) w
+
+  -- the same for a loop over texts that it joins
+  pub stops_joined : {before mid new : S} (between : List ℕ) (begun : Bool) (all : List ℕ)
+      (left first rest : List (List ℕ)) → left ≡ first ++ rest →
+      GoesOn taken failed before mid all (joined_after between begun left) →
+      Writes taken failed (Err error) mid new (joined_after between begun first) →
+      Writes taken failed (Err error) before new all
+  stops_joined {before} {mid} {new} between begun all left first rest is goes w =
+      let P : List ℕ → Type 0 = λ text. GoesOn taken failed before mid all text in
+      stops_within all (joined_after between begun first)
+      (joined_after between (begun || has_texts first) rest)
+      (subst P (ap (joined_after between begun) is ∙ joined_append between begun first rest) goes) w
+
+  -- `?` returns the error as it is
+  pub as_stopped : {old new : S} {text : List ℕ} (result : Result (Unit {0}) Error) →
+      IsErrAnd result (λ other. other ≡ error) →
+      Writes taken failed (Err error) old new text → Writes taken failed result old new text
+  as_stopped {old} {new} {text} (Ok done) is w = absurd is
+  as_stopped {old} {new} {text} (Err e) is w =
+      let P : Error → Type 0 = λ e. Writes taken failed (Err e) old new text in
+      subst P (sym is) w
+
+-- the same for the kind of a failed put
+pub put_stopped : {S : Type 0} {taken : S → List ℕ} {failed : S → Failures} {kind : ErrorKind}
+    {old new : S} {text : List ℕ} (result : Result (Unit {0}) ErrorKind) →
+    IsErrAnd result (λ other. other ≡ kind) →
+    Writes taken failed (Err (Write kind)) old new text →
+    Writes taken failed (as_write result) old new text
+put_stopped {S} {taken} {failed} {kind} {old} {new} {text} (Ok done) is w = absurd is
+put_stopped {S} {taken} {failed} {kind} {old} {new} {text} (Err k) is w =
+    let P : ErrorKind → Type 0 = λ k. Writes taken failed (Err (Write k)) old new text in
+    subst P (sym is) w

@@ -6,6 +6,7 @@ use Rattle.cc_command.specs.Tree.{Forest, forest_of, Tree}
 use Rattle.cc_base.specs.Joined.{has_texts}
 use Rattle.cc_base.proofs.JoinedTexts.{has_texts_append, joined_append}
 use Rattle.cc_arg.specs.Arguments.{is_positional}
+use Rattle.cc_generator.proofs.Stopped.{put_stopped, stops_before}
 use Rattle.cc_generator.specs.Subcommands.{sibling_names}
 use Rattle.cc_bash.specs.Arms.{long_words, short_words, value_names, words_at}
 use Rattle.cc_bash.specs.Nodes.{part_words}
@@ -63,6 +64,35 @@ words_written tree arguments children one two three same below is1 is2 is3 =
     ++ flat_map long_words tree.node.arguments)
     ++ flat_map value_names (filter is_positional tree.node.arguments)) ++ sibling_names f))
     below
+
+pub returns-in_err-write_part : goal.returns-in_err-write_part
+returns-in_err-write_part g c =
+    let arguments : List Arg = c.get_arguments-arguments.result.now in
+    let same : arguments ≡ c.args.command.now.node.arguments = search rules in
+    put_stopped _ c.from_residual.ensures.1
+    (writes_same _ _ (words_written c.args.command.now arguments c.args.command.now.children _ _ _ same refl refl refl refl)
+    (stops_before _ _ (stops_before _ _ (stops_before _ _ c.in_err-write_part.ensures.written))))
+
+pub returns-in_err-write_part-2 : goal.returns-in_err-write_part-2
+returns-in_err-write_part-2 g c =
+    let arguments : List Arg = c.get_arguments-arguments.result.now in
+    let same : arguments ≡ c.args.command.now.node.arguments = search rules in
+    put_stopped _ c.from_residual-in_err-write_part-2.ensures.1
+    (writes_same _ _ (words_written c.args.command.now arguments c.args.command.now.children _ _ _ same refl
+    c.in_ok-write_part.ensures.begun refl refl)
+    (stops_before _ _ (stops_before _ _
+    (writes_then _ _ c.in_ok-write_part.ensures.written c.in_err-write_part-2.ensures.written))))
+
+pub returns-in_err-write_part-3 : goal.returns-in_err-write_part-3
+returns-in_err-write_part-3 g c =
+    let arguments : List Arg = c.get_arguments-arguments.result.now in
+    let same : arguments ≡ c.args.command.now.node.arguments = search rules in
+    put_stopped _ c.from_residual-in_err-write_part-3.ensures.1
+    (writes_same _ _ (words_written c.args.command.now arguments c.args.command.now.children _ _ _ same refl
+    c.in_ok-write_part.ensures.begun c.in_ok-write_part-2.ensures.begun refl)
+    (stops_before _ _ (writes_then _ _
+    (writes_then _ _ c.in_ok-write_part.ensures.written c.in_ok-write_part-2.ensures.written)
+    c.in_err-write_part-3.ensures.written)))
 
 pub returns : goal.returns
 returns g c =
