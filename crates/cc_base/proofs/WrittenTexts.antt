@@ -65,6 +65,10 @@ pub within_step : (low new old a b : List ℕ) → length low ≤ length old →
 within_step low new old a b l p =
     subst (λ t. within low new t ≡ true) (append_assoc old a b) (within_loop low new old a b l p)
 
+pub within_byte : (low new old : List ℕ) (x : ℕ) (b : List ℕ) → length low ≤ length old →
+    partly new old (x ∷ []) ≡ true → within low new (old ++ (x ∷ b)) ≡ true
+within_byte low new old x b l p = within_step low new old (x ∷ []) b l p
+
 pub within_last : (low new old a : List ℕ) → length low ≤ length old → partly new old a ≡ true →
     within low new (old ++ a) ≡ true
 within_last low new old a l p =
