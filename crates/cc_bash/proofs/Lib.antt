@@ -15,3 +15,4 @@ pub mod ReadsDetails
 pub mod WholeScript
 pub mod WordsRead
 pub mod WordLoops
+pub mod WordParts

@@ -28,6 +28,7 @@ enum Part {
     Values,
 }
 
+#[tactic(auto, using(crate::proofs::WordParts::in_words))]
 pub(crate) fn write_words<W: Sink>(sink: &mut W, command: &Command) -> Result<(), ErrorKind>
     ensures { Writes W.taken W.failed (as_write result) sink.old sink.new
         (words_text (words_at command.now)) }

@@ -1,61 +1,10 @@
-use Rattle.std.proofs.Common.{◌≡◌, List, map, refl, rules}
+use Rattle.std.proofs.Common.{◌≡◌, List, map, rules}
 use Rattle.cc_base.proofs.WrittenTexts.{writes_same, writes_then}
-use Rattle.cc_generator.proofs.Stopped.{as_stopped, stops_before}
 use Rattle.cc_bash.specs.Labels.{Labelled}
 use Rattle.cc_bash.specs.Nodes.{labelled_of}
 use Rattle.cc_bash.specs.Texts.{arms_begin}
 use Rattle.cc_bash.proofs.WholeScript.{script_pieces}
 use Rattle.cc_bash.proofs.bash.write_script.Goals as goal
-
-pub returns-in_err-write_head : goal.returns-in_err-write_head
-returns-in_err-write_head g c =
-    let nodes : List Labelled = map labelled_of c.args.nodes.items in
-    as_stopped _ c.from_residual.ensures.1 (writes_same _ _
-    (script_pieces c.args.root.now _ c.args.command.now nodes nodes refl refl)
-    (stops_before _ _ (stops_before _ _ (stops_before _ _ (stops_before _ _ (stops_before _ _ c.in_err-write_head.ensures))))))
-
-pub returns-in_err-write_table : goal.returns-in_err-write_table
-returns-in_err-write_table g c =
-    let nodes : List Labelled = map labelled_of c.args.nodes.items in
-    let lent : List Labelled = map labelled_of c.deref.result.now in
-    let same : lent ≡ nodes = search rules in
-    as_stopped _ c.from_residual-in_err-write_table.ensures.1 (writes_same _ _
-    (script_pieces c.args.root.now _ c.args.command.now lent nodes refl same)
-    (stops_before _ _ (stops_before _ _ (stops_before _ _ (stops_before _ _ (writes_then _ _ c.in_ok-write_head.ensures
-    c.in_err-write_table.ensures))))))
-
-pub returns-in_err-put_piece : goal.returns-in_err-put_piece
-unfolding arms_begin
-returns-in_err-put_piece g c =
-    let nodes : List Labelled = map labelled_of c.args.nodes.items in
-    let lent : List Labelled = map labelled_of c.deref.result.now in
-    let same : lent ≡ nodes = search rules in
-    as_stopped _ c.from_residual-in_err-put_piece.ensures.1 (writes_same _ _
-    (script_pieces c.args.root.now _ c.args.command.now lent nodes refl same)
-    (stops_before _ _ (stops_before _ _ (stops_before _ _ (writes_then _ _ (writes_then _ _ c.in_ok-write_head.ensures c.in_ok-write_table.ensures)
-    c.in_err-put_piece.ensures.written)))))
-
-pub returns-in_err-write_arm : goal.returns-in_err-write_arm
-unfolding arms_begin
-returns-in_err-write_arm g c =
-    let nodes : List Labelled = map labelled_of c.args.nodes.items in
-    let lent : List Labelled = map labelled_of c.deref.result.now in
-    let same : lent ≡ nodes = search rules in
-    as_stopped _ c.from_residual-in_err-write_arm.ensures.1 (writes_same _ _
-    (script_pieces c.args.root.now _ c.args.command.now lent nodes refl same)
-    (stops_before _ _ (stops_before _ _ (writes_then _ _ (writes_then _ _ (writes_then _ _ c.in_ok-write_head.ensures c.in_ok-write_table.ensures) c.in_ok-put_piece.ensures.written)
-    c.in_err-write_arm.ensures))))
-
-pub returns-in_err-write_sorted_arms : goal.returns-in_err-write_sorted_arms
-unfolding arms_begin
-returns-in_err-write_sorted_arms g c =
-    let nodes : List Labelled = map labelled_of c.args.nodes.items in
-    let lent : List Labelled = map labelled_of c.deref.result.now in
-    let same : lent ≡ nodes = search rules in
-    as_stopped _ c.from_residual-in_err-write_sorted_arms.ensures.1 (writes_same _ _
-    (script_pieces c.args.root.now _ c.args.command.now lent nodes refl same)
-    (stops_before _ _ (writes_then _ _ (writes_then _ _ (writes_then _ _ (writes_then _ _ c.in_ok-write_head.ensures c.in_ok-write_table.ensures) c.in_ok-put_piece.ensures.written) c.in_ok-write_arm.ensures)
-    c.in_err-write_sorted_arms.ensures)))
 
 pub returns : goal.returns
 unfolding arms_begin
