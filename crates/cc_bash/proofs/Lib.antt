@@ -3,6 +3,7 @@ pub mod CaseOrder
 pub mod CaseWalk
 pub mod Clashes
 mod Examples
+pub mod FixedParts
 pub mod LabelledPath
 pub mod ListedNodes
 pub mod PlainArms
@@ -14,3 +15,4 @@ pub mod ReadsDetails
 pub mod WholeScript
 pub mod WordsRead
 pub mod WordLoops
+pub mod WordParts

@@ -3,6 +3,7 @@ use Rattle.std.proofs.Common.{◌≡◌, ℕ, List, [], ◌∷◌, ◌++◌, map
 use Rattle.cc_base.specs.declared.error.Error.{Error}
 use Rattle.cc_base.specs.declared.error.Error.TheVariants.{Memory, LabelClash}
 use Rattle.cc_base.specs.declared.failures.Failures.{Failures}
+use Rattle.cc_base.specs.Partly.{partly_self}
 use Rattle.cc_base.specs.Sorting.{in_order}
 use Rattle.cc_base.specs.Writes.{Writes, IsMemoryOrWrite}
 use Rattle.cc_command.specs.Names.{full_name}
@@ -78,6 +79,7 @@ module _ {S : Type 0} {taken : S → List ℕ} {failed : S → Failures} where
       Generates taken failed bash_spec tree (Err Memory) sink sink
   generates_memory tree sink = record {
     ok = tt;
+    begun = partly_self (taken sink) (bash_script tree);
     reads = tt;
     clashes =
         by (shared_label tree);
@@ -92,7 +94,13 @@ module _ {S : Type 0} {taken : S → List ℕ} {failed : S → Failures} where
   pub generates_clash : (tree : Tree) (label : List ℕ) (sink : S) → shared_label tree ≡ Some label →
       Generates taken failed bash_spec tree (Err (LabelClash label)) sink sink
   generates_clash tree label sink e =
-      record { ok = tt; reads = tt; clashes = by (shared_label tree) e; failures = refl }
+      record {
+        ok = tt;
+        begun = partly_self (taken sink) (bash_script tree);
+        reads = tt;
+        clashes = by (shared_label tree) e;
+        failures = refl;
+      }
     where
       by : (clash : Option (List ℕ)) → clash ≡ Some label →
           ReportsClash clash (Err (LabelClash label)) (taken sink) (taken sink)
@@ -121,6 +129,7 @@ module _ {S : Type 0} {taken : S → List ℕ} {failed : S → Failures} where
           Generates taken failed bash_spec tree r old new
       of (Ok u) v = record {
         ok = v.ok;
+        begun = tt;
         reads =
             λ plain. bash_plain_reads tree clear plain;
         clashes =
@@ -129,6 +138,7 @@ module _ {S : Type 0} {taken : S → List ℕ} {failed : S → Failures} where
       }
       of (Err error) v = record {
         ok = tt;
+        begun = v.begun;
         reads = tt;
         clashes =
             kinds (shared_label tree) (Err error) clear v.kinds;

@@ -33,6 +33,7 @@ fn compare_sort_texts(one: &LabelledNode<'_>, other: &LabelledNode<'_>) -> Order
     one.sort_text.as_str().cmp(other.sort_text.as_str())
 }
 
+#[tactic(auto, using(cc_base::proofs::WrittenTexts::in_steps))]
 pub(crate) fn write_arms<W: Sink>(
     alloc: Global,
     sink: &mut W,

@@ -79,6 +79,7 @@ pub fn clashing_label(alloc: Global, command: &Command) -> Result<Option<Text>, 
 }
 
 // Writes the script, given the label of the root and the nodes below it.
+#[tactic(auto, using(crate::proofs::FixedParts::in_script))]
 fn write_script<W: Sink>(
     alloc: Global,
     sink: &mut W,

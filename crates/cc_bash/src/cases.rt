@@ -66,6 +66,7 @@ fn push_cases<'a, 'b>(
     Ok(())
 }
 
+#[tactic(auto, using(cc_base::proofs::WrittenTexts::in_steps))]
 pub(crate) fn write_cases<W: Sink>(sink: &mut W, cases: &[Case<'_>]) -> Result<(), ErrorKind>
     ensures { Writes W.taken W.failed (as_write result) sink.old sink.new
         (flat_map case_text (map case_of cases.now)) }

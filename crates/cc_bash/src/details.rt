@@ -22,6 +22,7 @@ use cc_command::Arguments;
 use std::io::ErrorKind;
 
 /// Writes the details of `options`. Flags and positionals have no details.
+#[tactic(auto, using(cc_base::proofs::WrittenTexts::in_steps))]
 pub(crate) fn write_details<W: Sink>(sink: &mut W, options: Arguments<'_>) -> Result<(), ErrorKind>
     ensures { Writes W.taken W.failed (as_write result) sink.old sink.new
         (flat_map detail_text (flat_map option_details (arguments_left options.entry))) }
@@ -41,6 +42,7 @@ fn write_option<W: Sink>(sink: &mut W, argument: &Arg) -> Result<(), ErrorKind>
     write_short_details(sink, argument)
 }
 
+#[tactic(auto, using(cc_base::proofs::WrittenTexts::in_steps))]
 fn write_long_details<W: Sink>(sink: &mut W, argument: &Arg) -> Result<(), ErrorKind>
     ensures { Writes W.taken W.failed (as_write result) sink.old sink.new
         (flat_map detail_text
@@ -52,6 +54,7 @@ fn write_long_details<W: Sink>(sink: &mut W, argument: &Arg) -> Result<(), Error
     Ok(())
 }
 
+#[tactic(auto, using(cc_base::proofs::WrittenTexts::in_steps))]
 fn write_short_details<W: Sink>(sink: &mut W, argument: &Arg) -> Result<(), ErrorKind>
     ensures { Writes W.taken W.failed (as_write result) sink.old sink.new
         (flat_map detail_text
@@ -99,6 +102,7 @@ fn write_moded<W: Sink>(sink: &mut W, argument: &Arg) -> Result<(), ErrorKind>
 }
 
 // Writes a reply with names of files, for which the separator of words is a line feed.
+#[tactic(auto, using(crate::proofs::FixedParts::in_replies))]
 fn write_file_reply<W: Sink>(sink: &mut W, argument: &Arg) -> Result<(), ErrorKind>
     ensures { Writes W.taken W.failed (as_write result) sink.old sink.new
         (keep_separator ++ reply_text (offered_by argument.now) ++ separator_back
@@ -107,17 +111,19 @@ fn write_file_reply<W: Sink>(sink: &mut W, argument: &Arg) -> Result<(), ErrorKi
     put_piece(sink, KEEP_SEPARATOR)?;
     write_reply(sink, argument)?;
     put_piece(sink, SEPARATOR_BACK)?;
-    write_mode(sink, "filenames")
+    write_mode(sink, "filenames")?;
+    Ok(())
 }
 
-#[tactic(auto, unfolding(crate::specs::Script::reply_text, crate::specs::Texts::fixed_texts))]
+#[tactic(auto, using(crate::proofs::FixedParts::in_replies), unfolding(crate::specs::Script::reply_text))]
 fn write_reply<W: Sink>(sink: &mut W, argument: &Arg) -> Result<(), ErrorKind>
     ensures { Writes W.taken W.failed (as_write result) sink.old sink.new
         (reply_text (offered_by argument.now)) }
 {
     put_piece(sink, REPLY_BEGINS)?;
     write_offered(sink, argument)?;
-    put_piece(sink, REPLY_ENDS)
+    put_piece(sink, REPLY_ENDS)?;
+    Ok(())
 }
 
 #[tactic(auto, unfolding(crate::specs::Script::offered_text))]
@@ -135,6 +141,7 @@ fn write_offered<W: Sink>(sink: &mut W, argument: &Arg) -> Result<(), ErrorKind>
     }
 }
 
+#[tactic(auto, using(crate::proofs::FixedParts::in_replies))]
 fn write_values<W: Sink>(sink: &mut W, possible: &[PossibleValue]) -> Result<(), ErrorKind>
     ensures { Writes W.taken W.failed (as_write result) sink.old sink.new
         (values_begin ++ words_text (names_of_shown possible.now) ++ values_end) }

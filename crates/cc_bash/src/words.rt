@@ -28,6 +28,7 @@ enum Part {
     Values,
 }
 
+#[tactic(auto, using(crate::proofs::WordParts::in_words))]
 pub(crate) fn write_words<W: Sink>(sink: &mut W, command: &Command) -> Result<(), ErrorKind>
     ensures { Writes W.taken W.failed (as_write result) sink.old sink.new
         (words_text (words_at command.now)) }
@@ -76,6 +77,7 @@ fn write_argument_words<W: Sink>(
     }
 }
 
+#[tactic(auto, using(cc_base::proofs::WrittenTexts::in_steps))]
 fn write_short_words<W: Sink>(
     sink: &mut W,
     argument: &Arg,
@@ -103,6 +105,7 @@ fn write_short_word<W: Sink>(sink: &mut W, short: char, begun: &mut bool) -> Res
     put_word(sink, "-", short.encode_utf8(&mut buffer), begun)
 }
 
+#[tactic(auto, using(cc_base::proofs::WrittenTexts::in_steps))]
 fn write_long_words<W: Sink>(
     sink: &mut W,
     argument: &Arg,
@@ -140,6 +143,7 @@ fn write_positional_values<W: Sink>(
     }
 }
 
+#[tactic(auto, using(cc_base::proofs::WrittenTexts::in_steps))]
 fn write_values<W: Sink>(
     sink: &mut W,
     possible: &[PossibleValue],
@@ -157,6 +161,7 @@ fn write_values<W: Sink>(
 }
 
 /// Writes the names of the values that are not hidden.
+#[tactic(auto, using(cc_base::proofs::WrittenTexts::in_steps))]
 pub(crate) fn write_shown_values<W: Sink>(
     sink: &mut W,
     possible: &[PossibleValue],
@@ -188,6 +193,7 @@ fn write_children<W: Sink>(
     Ok(())
 }
 
+#[tactic(auto, using(cc_base::proofs::WrittenTexts::in_steps))]
 fn write_names<W: Sink>(sink: &mut W, command: &Command, begun: &mut bool) -> Result<(), ErrorKind>
     ensures written { Writes W.taken W.failed (as_write result) sink.old sink.new
         (words_after begun.old (visible_names command.now.node)) }

@@ -15,7 +15,7 @@ use Rattle.cc_command.specs.Tree.{Tree, none}
 use Rattle.cc_quote.specs.FishQuote.{fish_sign, is_fish_safe, fish_quoted, fish_quoted_for_eval, fish_help_for_eval_of, fish_escaped}
 use Rattle.cc_quote.specs.FishTokens.{fish_commands}
 use Rattle.cc_generator.specs.Visits.{paths_below}
-use Rattle.cc_fish.specs.Script.{value_text, value_lines, list_begin, listed_text, values_text, names_text, argument_text, child_text, options_text, flags_text, below_text, node_text, visit_text, front_text, key_condition, not_seen, spec_text, head_text, body_text, script_text, fish_script}
+use Rattle.cc_fish.specs.Script.{value_text, value_lines, list_begin, listed_text, values_text, names_text, short_text, long_text, argument_text, child_text, options_text, flags_text, below_text, node_text, visit_text, front_text, key_condition, not_seen, spec_text, head_text, body_text, script_text, fish_script}
 use Rattle.cc_fish.specs.Table.{tables}
 use Rattle.cc_fish.specs.Reader.{no_record, records}
 use Rattle.cc_fish.specs.Records.{Condition, Record}
@@ -145,7 +145,7 @@ deep_texts :
     ∷ [])
     -- `app` without children, with everything that building adds
     × (fish_script (built_under (Some (codes "app")) (new_tree (codes "app"))) ≡ line (codes "complete -c app -s h -l help -d 'Print help'"))
-unfolding encode_utf8 paths_below body_text visit_text node_text options_text flags_text below_text argument_text values_text child_text names_text front_text key_condition not_seen help_argument version_argument help_name help_help version_name fish_escaped script_text head_text
+unfolding encode_utf8 paths_below body_text visit_text node_text options_text flags_text below_text argument_text values_text child_text names_text short_text long_text front_text key_condition not_seen help_argument version_argument help_name help_help version_name fish_escaped script_text head_text
 deep_texts = (refl, refl, refl)
 
 -- an option with a visible and a hidden value
@@ -161,7 +161,7 @@ color_texts :
     (argument_text (front_text (codes "app") (Some (codes "__fish_app_needs_command"))) true color
     ≡ line (codes "complete -c app -n \"__fish_app_needs_command\" -s c -l color -d 'Colour' -r -f -a \"auto\\t''\""))
     × (spec_text color ≡ codes " c/color=")
-unfolding encode_utf8 fish_escaped is_fish_safe fish_quoted fish_quoted_for_eval fish_help_for_eval_of value_text value_lines list_begin listed_text values_text names_text argument_text front_text spec_text
+unfolding encode_utf8 fish_escaped is_fish_safe fish_quoted fish_quoted_for_eval fish_help_for_eval_of value_text value_lines list_begin listed_text values_text names_text short_text long_text argument_text front_text spec_text
 color_texts = (refl, refl)
 
 -- a flag with a quote in its long
@@ -173,5 +173,5 @@ quoted_texts :
     × (spec_text quoted ≡ codes " it\\'s")
     -- a value with a help text that fish would expand
     × (listed_text (record (new_possible_value (codes "v")) { help = Some (codes "$HOME \"x\"") } ∷ []) ≡ codes " -r -f -a \"v\\t'\\$HOME \\\"x\\\"'\"")
-unfolding fish_escaped values_text names_text argument_text front_text spec_text is_fish_safe fish_quoted fish_quoted_for_eval fish_help_for_eval_of value_text value_lines list_begin listed_text
+unfolding fish_escaped values_text names_text short_text long_text argument_text front_text spec_text is_fish_safe fish_quoted fish_quoted_for_eval fish_help_for_eval_of value_text value_lines list_begin listed_text
 quoted_texts = (refl, refl, refl)

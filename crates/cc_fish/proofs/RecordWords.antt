@@ -89,9 +89,11 @@ help_words None = []
 help_words (Some help) = codes "-d" ∷ line_feeds_as_spaces help ∷ []
 
 short_adds : (short : ℕ) → IsShortName short → Adds (short_text short) (short_words short)
+unfolding short_text
 short_adds short h = adds_operand (codes "-s") (encode_utf8 short) (encode_utf8 short) (option_spelled _ refl) (name_spelled (encode_utf8 short) h)
 
 long_adds : (long : List ℕ) → IsName long → Adds (long_text long) (long_words long)
+unfolding long_text
 long_adds long h = adds_operand (codes "-l") (fish_escaped long) long (option_spelled _ refl) (escaped_spelled long h)
 
 single_quoted_spelled : (text : List ℕ) → Spells (single_quoted text) text

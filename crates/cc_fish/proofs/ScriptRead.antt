@@ -147,5 +147,5 @@ pub generated : {S : Type 0} (taken : S → List ℕ) (failed : S → Failures) 
 generated taken failed root at result old new is writes = of result (subst (λ tree. Writes taken failed result old new (fish_script tree)) is writes)
   where
     of : (r : Result (Unit {0}) Error) → Writes taken failed r old new (fish_script root) → Generates taken failed fish_spec root r old new
-    of (Ok u) w = record { ok = w.ok; reads = reads_back root; clashes = tt; failures = w.failures }
-    of (Err error) w = record { ok = tt; reads = tt; clashes = w.kinds; failures = w.failures }
+    of (Ok u) w = record { ok = w.ok; begun = tt; reads = reads_back root; clashes = tt; failures = w.failures }
+    of (Err error) w = record { ok = tt; begun = w.begun; reads = tt; clashes = w.kinds; failures = w.failures }

@@ -58,10 +58,10 @@ front_text bin_name when = codes "complete -c " ++ bin_name ++ condition_text wh
 
 -- ---- the names and the help text of an argument
 
-abbrev pub short_text : ℕ → List ℕ
+unfoldable pub short_text : ℕ → List ℕ
 short_text short = codes " -s " ++ encode_utf8 short
 
-abbrev pub long_text : List ℕ → List ℕ
+unfoldable pub long_text : List ℕ → List ℕ
 long_text long = codes " -l " ++ fish_escaped long
 
 abbrev pub help_text : Option (List ℕ) → List ℕ

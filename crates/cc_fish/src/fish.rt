@@ -82,6 +82,7 @@ fn write_body<W: Sink>(
     write_steps(alloc, sink, bin_name, function, steps)
 }
 
+#[tactic(auto, using(cc_base::proofs::WrittenTexts::in_steps))]
 fn write_steps<W: Sink>(
     alloc: Global,
     sink: &mut W,

@@ -59,6 +59,7 @@ fn write_functions<W: Sink>(sink: &mut W, function: &str) -> Result<(), ErrorKin
     put_pieces(sink, &pieces)
 }
 
+#[tactic(auto, using(cc_base::proofs::WrittenTexts::in_steps))]
 fn write_specs<W: Sink>(sink: &mut W, arguments: &[Arg]) -> Result<(), ErrorKind>
     ensures { Writes W.taken W.failed (as_write result) sink.old sink.new
         (flat_map spec_text (filter (λ argument. not (is_positional argument)) arguments.now)) }
@@ -72,7 +73,7 @@ fn write_specs<W: Sink>(sink: &mut W, arguments: &[Arg]) -> Result<(), ErrorKind
     Ok(())
 }
 
-#[tactic(auto, unfolding(crate::specs::Script::spec_text))]
+#[tactic(auto, using(cc_base::proofs::WrittenTexts::after_bytes), unfolding(crate::specs::Script::spec_text))]
 fn write_spec<W: Sink>(sink: &mut W, argument: &Arg) -> Result<(), ErrorKind>
     ensures { Writes W.taken W.failed (as_write result) sink.old sink.new (spec_text argument.now) }
 {

@@ -51,6 +51,7 @@ fn write_node<W: Sink>(sink: &mut W, front: &str, command: &Command) -> Result<(
 }
 
 // Writes the records of options, which take values, or of flags, which take none.
+#[tactic(auto, using(cc_base::proofs::WrittenTexts::in_steps))]
 fn write_arguments<W: Sink>(
     sink: &mut W,
     front: &str,
@@ -92,6 +93,7 @@ fn write_names<W: Sink>(sink: &mut W, argument: &Arg) -> Result<(), ErrorKind>
     write_help(sink, argument.get_help())
 }
 
+#[tactic(auto, using(cc_base::proofs::WrittenTexts::in_steps))]
 fn write_shorts<W: Sink>(sink: &mut W, argument: &Arg) -> Result<(), ErrorKind>
     ensures { Writes W.taken W.failed (as_write result) sink.old sink.new
         (flat_map short_text (shown_shorts argument.now)) }
@@ -102,6 +104,7 @@ fn write_shorts<W: Sink>(sink: &mut W, argument: &Arg) -> Result<(), ErrorKind>
     Ok(())
 }
 
+#[tactic(auto, using(cc_base::proofs::WrittenTexts::after_bytes), unfolding(crate::specs::Script::short_text))]
 fn write_short<W: Sink>(sink: &mut W, short: char) -> Result<(), ErrorKind>
     ensures { Writes W.taken W.failed (as_write result) sink.old sink.new (short_text short) }
 {
@@ -110,6 +113,7 @@ fn write_short<W: Sink>(sink: &mut W, short: char) -> Result<(), ErrorKind>
     put_piece(sink, short.encode_utf8(&mut buffer))
 }
 
+#[tactic(auto, using(cc_base::proofs::WrittenTexts::in_steps))]
 fn write_longs<W: Sink>(sink: &mut W, argument: &Arg) -> Result<(), ErrorKind>
     ensures { Writes W.taken W.failed (as_write result) sink.old sink.new
         (flat_map long_text (shown_longs argument.now)) }
@@ -120,7 +124,7 @@ fn write_longs<W: Sink>(sink: &mut W, argument: &Arg) -> Result<(), ErrorKind>
     Ok(())
 }
 
-#[tactic(auto, unfolding(cc_quote::specs::FishQuote::fish_escaped))]
+#[tactic(auto, using(cc_base::proofs::WrittenTexts::after_bytes), unfolding(crate::specs::Script::long_text, cc_quote::specs::FishQuote::fish_escaped))]
 fn write_long<W: Sink>(sink: &mut W, long: &str) -> Result<(), ErrorKind>
     ensures { Writes W.taken W.failed (as_write result) sink.old sink.new (long_text long.now) }
 {
@@ -129,7 +133,7 @@ fn write_long<W: Sink>(sink: &mut W, long: &str) -> Result<(), ErrorKind>
 }
 
 // Writes the help text of an argument, or the description of a child.
-#[tactic(auto, unfolding(cc_quote::specs::FishQuote::fish_escaped))]
+#[tactic(auto, using(cc_base::proofs::WrittenTexts::after_bytes), unfolding(cc_quote::specs::FishQuote::fish_escaped))]
 fn write_help<W: Sink>(sink: &mut W, help: Option<&str>) -> Result<(), ErrorKind>
     ensures { Writes W.taken W.failed (as_write result) sink.old sink.new
         (help_text (option_copied help.entry)) }
@@ -160,6 +164,7 @@ fn has_positionals(command: &Command) -> bool
         .any(|argument| argument.is_positional())
 }
 
+#[tactic(auto, using(cc_base::proofs::WrittenTexts::in_steps))]
 fn write_children<W: Sink>(
     sink: &mut W,
     front: &str,
@@ -175,6 +180,7 @@ fn write_children<W: Sink>(
     Ok(())
 }
 
+#[tactic(auto, using(cc_base::proofs::WrittenTexts::in_steps))]
 fn write_child<W: Sink>(
     sink: &mut W,
     front: &str,

@@ -42,7 +42,7 @@ fn write_listed<W: Sink>(sink: &mut W, values: &[PossibleValue]) -> Result<(), E
     put_piece(sink, "\"")
 }
 
-#[tactic(auto, unfolding(crate::specs::Script::value_lines))]
+#[tactic(auto, using(cc_base::proofs::WrittenTexts::in_steps), unfolding(crate::specs::Script::value_lines))]
 fn write_lines<W: Sink>(sink: &mut W, values: &[PossibleValue]) -> Result<(), ErrorKind>
     ensures { Writes W.taken W.failed (as_write result) sink.old sink.new
         (value_lines values.now) }

@@ -1,8 +1,9 @@
 -- The scripts of a shell, and the effect of a call that writes the script of a command tree.
-use Rattle.std.specs.Prelude.{◌≡◌, ◌⊎◌, ℕ, List, ◌++◌, ◌&&◌, Option, Some, None, is_some, IsTrue, Result, Err, OnOk, IfErr}
+use Rattle.std.specs.Prelude.{◌≡◌, ◌⊎◌, ℕ, List, ◌++◌, ◌&&◌, true, Option, Some, None, is_some, IsTrue, Result, Err, OnOk, OnErr, IfErr}
 use Rattle.cc_base.specs.declared.error.Error.{Error}
 use Rattle.cc_base.specs.declared.error.Error.TheVariants.{Memory, LabelClash}
 use Rattle.cc_base.specs.declared.failures.Failures.{Failures}
+use Rattle.cc_base.specs.Partly.{partly}
 use Rattle.cc_base.specs.Writes.{CountsWrite, IsMemoryOrWrite}
 use Rattle.cc_command.specs.Tree.{Tree}
 use Rattle.cc_command.specs.Plain.{is_plain_tree}
@@ -30,11 +31,12 @@ ReportsClash (Some label) result old new =
     ((result ≡ Err (LabelClash label)) ⊎ (result ≡ Err Memory)) × (new ≡ old)
 
 -- The effect of a generator's call on its sink. On `Ok` the sink has taken the script of the tree,
--- which reads back if the tree is plain. A clash of labels is reported. A failed put is counted if
--- and only if the call returns `Write`.
+-- which reads back if the tree is plain. After an error it has taken a beginning of the script. A
+-- clash of labels is reported. A failed put is counted if and only if the call returns `Write`.
 pub record Generates {S : Type 0} (taken : S → List ℕ) (failed : S → Failures)
     (spec : ShellSpec) (tree : Tree) (result : Result (Unit {0}) Error) (old new : S) : Type 0 where
   pub ok : OnOk result (taken new ≡ taken old ++ spec.script tree)
+  pub begun : OnErr result (partly (taken new) (taken old) (spec.script tree) ≡ true)
   pub reads : OnOk result (IsTrue (is_plain_tree tree) → spec.Reads tree)
   pub clashes : ReportsClash (spec.clash tree) result (taken old) (taken new)
   pub failures : CountsWrite result (failed old) (failed new)

@@ -36,7 +36,7 @@ pub trait Generator {
     /// - `Write` if the sink fails.
     /// - `Memory` if an allocation fails.
     ///
-    /// After `Write` or `Memory`, the sink may hold part of the script.
+    /// After an error, the sink holds a beginning of the script.
     fn generate<W: Sink>(&self, alloc: Global, command: &Command, sink: &mut W) -> Result<(), Error>
         requires ready { IsReady command.now }
         ensures { Generates W.taken W.failed (spec self.now) command.now result
@@ -46,7 +46,7 @@ pub trait Generator {
     ///
     /// # Errors
     ///
-    /// The errors of [`Generator::generate`].
+    /// The errors of [`Generator::generate`], with the same effect on the sink.
     fn try_generate<W: Sink>(
         &self,
         alloc: Global,
@@ -71,7 +71,7 @@ pub trait Generator {
 ///
 /// `Memory` if an allocation fails, and the errors of [`Generator::generate`]. If the build fails,
 /// the command stays as it was and nothing is written. If a later step fails, the command stays
-/// built.
+/// built, and the sink holds a beginning of the script.
 pub fn generate<G: Generator + Drop, W: Sink>(
     alloc: Global,
     generator: G,

@@ -126,7 +126,7 @@ impl Rows for Lines {
 }
 
 // Writes the help text, if there is one.
-#[tactic(auto, unfolding(crate::specs::NushellScript::help_text, crate::specs::NushellScript::help_begin))]
+#[tactic(auto, using(cc_base::proofs::WrittenTexts::after_bytes), unfolding(crate::specs::NushellScript::help_text, crate::specs::NushellScript::help_begin))]
 fn write_help<W: Sink>(sink: &mut W, offer: &Offer<'_>) -> Result<(), ErrorKind>
     ensures { Writes W.taken W.failed (as_write result) sink.old sink.new
         (help_text offer.now.description) }

@@ -83,6 +83,7 @@ impl<R: Rows> TableRows for R {
 /// # Errors
 ///
 /// The kind of the put that failed.
+#[tactic(auto, using(cc_base::proofs::WrittenTexts::in_steps))]
 pub fn write_arguments<R: Rows, W: Sink>(
     sink: &mut W,
     rows: &R,
@@ -99,6 +100,7 @@ pub fn write_arguments<R: Rows, W: Sink>(
 }
 
 // Writes a row for each shown name of an argument.
+#[tactic(auto, using(cc_base::proofs::WrittenTexts::in_steps))]
 fn write_argument<R: Rows, W: Sink>(sink: &mut W, rows: &R, argument: &Arg) -> Result<(), ErrorKind>
     ensures { Writes W.taken W.failed (as_write result) sink.old sink.new
         (flat_map (R.row_text rows.now) (argument_offers argument.now)) }
@@ -164,6 +166,7 @@ fn help_of<'a>(help: Option<&'a str>) -> Option<TextRef<'a>>
     }
 }
 
+#[tactic(auto, using(cc_base::proofs::WrittenTexts::in_steps))]
 fn write_children<R: Rows, W: Sink>(
     sink: &mut W,
     rows: &R,
@@ -179,6 +182,7 @@ fn write_children<R: Rows, W: Sink>(
 }
 
 // Writes a row for each visible name of a child.
+#[tactic(auto, using(cc_base::proofs::WrittenTexts::in_steps))]
 fn write_child<R: Rows, W: Sink>(sink: &mut W, rows: &R, child: &Command) -> Result<(), ErrorKind>
     ensures { Writes W.taken W.failed (as_write result) sink.old sink.new
         (flat_map (R.row_text rows.now) (child_offers child.now.node)) }

@@ -137,7 +137,7 @@ impl Rows for PowerShell {
 
     ghost row_text = { λ _. offer_text };
 
-    #[tactic(auto, unfolding(crate::specs::PowershellScript::offer_text, crate::specs::PowershellScript::row_text, crate::specs::PowershellScript::words_text, crate::specs::PowershellScript::details_text, crate::specs::PowershellScript::row_end))]
+    #[tactic(auto, using(cc_base::proofs::WrittenTexts::after_bytes), unfolding(crate::specs::PowershellScript::offer_text, crate::specs::PowershellScript::row_text, crate::specs::PowershellScript::words_text, crate::specs::PowershellScript::details_text, crate::specs::PowershellScript::row_end))]
     #[inline(always)]
     fn write_row<W: Sink>(&self, sink: &mut W, offer: &Offer<'_>) -> Result<(), ErrorKind> {
         write_words(sink, offer)?;

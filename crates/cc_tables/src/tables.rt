@@ -138,6 +138,7 @@ fn write_named<W: Sink>(sink: &mut W, named: &Named<'_>, bin_name: &str) -> Resu
 }
 
 // Writes a table for each remaining visit.
+#[tactic(auto, using(cc_base::proofs::WrittenTexts::in_steps))]
 fn write_visits<R: TableRows, W: Sink>(
     alloc: Global,
     sink: &mut W,
