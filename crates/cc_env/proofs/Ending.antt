@@ -1,6 +1,7 @@
 -- The ends of the whole call, outcome by outcome.
 use Rattle.std.proofs.Common.{◌≡◌, ◌++◌, ◌∙◌, ap, sym, subst, ℕ, Bool, true, List, Option, Some, None, Result, Ok, Err, find, map}
 use Rattle.cc_env.specs.Builtins.{CompleterSpec}
+use Rattle.cc_base.specs.Partly.{partly}
 use Rattle.cc_base.specs.Writes.{IsWrite, Writes}
 use Rattle.cc_base.specs.declared.error.Error.{Error}
 use Rattle.cc_base.specs.declared.error.Error.TheVariants.{Write}
@@ -13,7 +14,8 @@ module _ {S : Type 0} (taken : S → List ℕ) (failed : S → Failures) where
   pub ends_unwritten : (Makes : Result (List ℕ) Error → Type 0) (old new : S) (text made : List ℕ) (error : Error)
       → text ≡ made → Makes (Ok made) → Writes taken failed (Err error) old new text → IsWrite error
       → Ends taken failed Makes old new (Err error)
-  ends_unwritten Makes old new text made (Write kind) same makes writes is = write_failed made kind makes writes.failures
+  ends_unwritten Makes old new text made (Write kind) same makes writes is =
+      write_failed made kind makes (ap (partly (taken new) (taken old)) (sym same) ∙ writes.begun) writes.failures
   ends_unwritten Makes old new text made _ same makes writes is = absurd is
 
   -- the whole text

@@ -3,7 +3,7 @@ use Rattle.std.proofs.Common.{◌≡◌, ◌∙◌, ℕ, Bool, true, List, lengt
 use Rattle.std.proofs.Common.{Result, Ok, Err, IfErr, IsErrAnd}
 use Rattle.std.proofs.Common.{ap, inl, refl, subst, sym}
 use Rattle.cc_env.specs.WantedWords.{WantsThese}
-use Rattle.cc_env.specs.Replies.{FailsToReply, IsWanted, Replies}
+use Rattle.cc_env.specs.Replies.{FailsToReply, IsReply, IsWanted, Replies}
 use Rattle.cc_base.specs.Writes.{IsWrite, Writes}
 use Rattle.cc_base.specs.declared.error.Error.{Error}
 use Rattle.cc_base.specs.declared.error.Error.TheVariants.{Memory, NoCompletion, Write}
@@ -65,17 +65,23 @@ module _ {S : Type 0} (taken : S → List ℕ) (failed : S → Failures) (before
   unwritten : (old new : S) (words : List (List ℕ)) (count index : ℕ)
       (found : List CompletionCandidate) (error : Error) → Wants words index
       → length words ≡ count → after ≡ built_tree before
-      → is_in_range after.node count index ≡ true
+      → is_in_range after.node count index ≡ true → Offers words index found
       → Writes taken failed (Err error) old new (reply found) → IsWrite error
       → Replies taken failed (Err error) old new before after Wants Offers reply
-  unwritten old new words count index found (Write kind) wants e built range w _ = record {
+  unwritten old new words count index found (Write kind) wants e built range offers w _ = record {
     ok = tt;
     built = tt;
     in_range = tt;
     failures = w.failures;
-    errors = (built, range_wanted words count index true wants e range);
+    errors = (
+      built,
+      range_wanted words count index true wants e range,
+      reply found,
+      record { words = words; index = index; wants = wants; holds = (found, offers, refl) },
+      w.begun,
+    );
   }
-  unwritten old new words count index found _ wants e built range w h = absurd h
+  unwritten old new words count index found _ wants e built range offers w h = absurd h
 
   -- candidates are found, and their reply is written, or a put fails
   written : (result : Result (Unit {0}) Error) (old new : S) (words : List (List ℕ))
@@ -96,7 +102,7 @@ module _ {S : Type 0} (taken : S → List ℕ) (failed : S → Failures) (before
     errors = tt;
   }
   written (Err error) old new words count index found wants e built range offers w h =
-      unwritten old new words count index found error wants e built range w h
+      unwritten old new words count index found error wants e built range offers w h
 
   -- the same of candidates that are shown for them
   pub replied : (result : Result (Unit {0}) Error) (old new : S) (words : List (List ℕ))
@@ -122,12 +128,14 @@ module _ {S : Type 0} (taken : S → List ℕ) (failed : S → Failures) (before
   }
 
   these_error : (words : List (List ℕ)) (number : ℕ) → Wants words number → (old new : S)
-      (error : Error) → FailsToReply old new before after (WantsThese words number) error
-      → FailsToReply old new before after Wants error
+      (error : Error) → FailsToReply taken old new before after (WantsThese words number)
+      (IsReply (WantsThese words number) Offers reply) error
+      → FailsToReply taken old new before after Wants (IsReply Wants Offers reply) error
   these_error words number wants old new Memory h = h
   these_error words number wants old new NoCompletion h =
       (h.0, h.1, these_words words number wants _ h.2)
-  these_error words number wants old new (Write _) h = (h.0, these_words words number wants _ h.1)
+  these_error words number wants old new (Write _) h =
+      (h.0, these_words words number wants _ h.1, h.2, these_words words number wants _ h.3, h.4)
   these_error words number wants old new _ h = absurd h
 
   -- a reply for words and an index is one for whatever wants them

@@ -1,5 +1,6 @@
 -- The effects of a call that replies to a shell.
 use Rattle.std.specs.Prelude.{◌≡◌, ◌⊎◌, ◌++◌, ℕ, true, false, List, length, Result, OnOk, IfErr}
+use Rattle.cc_base.specs.Partly.{partly}
 use Rattle.cc_base.specs.Writes.{CountsWrite}
 use Rattle.cc_base.specs.declared.error.Error.{Error}
 use Rattle.cc_base.specs.declared.error.Error.TheVariants.{Memory, NoCompletion, Write}
@@ -35,16 +36,18 @@ IsReply Wants Offers reply text = IsWanted Wants
     (found : List CompletionCandidate) × Offers words index found × (text ≡ reply found))
 
 -- The call fails: out of memory, with nothing taken and the tree as it was, or built; with
--- nothing taken, because the index is out of range; or by a put that failed.
-abbrev pub FailsToReply : {S : Type 0} → S → S → Tree → Tree → (List (List ℕ) → ℕ → Type 0) → Error
-    → Type 0
-FailsToReply old new before after Wants Memory =
+-- nothing taken, because the index is out of range; or by a put that failed, with a beginning of
+-- the reply taken.
+abbrev pub FailsToReply : {S : Type 0} → (S → List ℕ) → S → S → Tree → Tree
+    → (List (List ℕ) → ℕ → Type 0) → (List ℕ → Type 0) → Error → Type 0
+FailsToReply taken old new before after Wants Reply Memory =
     (new ≡ old) × ((after ≡ before) ⊎ (after ≡ built_tree before))
-FailsToReply old new before after Wants NoCompletion =
+FailsToReply taken old new before after Wants Reply NoCompletion =
     (new ≡ old) × (after ≡ built_tree before) × WantsOutOfRange after Wants
-FailsToReply old new before after Wants (Write _) =
+FailsToReply taken old new before after Wants Reply (Write _) =
     (after ≡ built_tree before) × WantsInRange after Wants
-FailsToReply old new before after Wants _ = ⊥
+    × (text : List ℕ) × Reply text × (partly (taken new) (taken old) text ≡ true)
+FailsToReply taken old new before after Wants Reply _ = ⊥
 
 -- If the call returns `Ok`, the reply is taken, the tree is built and the index is in range. A
 -- failure is counted exactly if the call returns `Write`.
@@ -58,4 +61,5 @@ pub record Replies {S : Type 0} (taken : S → List ℕ) (failed : S → Failure
   pub built : OnOk result (after ≡ built_tree before)
   pub in_range : OnOk result (WantsInRange after Wants)
   pub failures : CountsWrite result (failed old) (failed new)
-  pub errors : IfErr result (FailsToReply old new before after Wants)
+  pub errors : IfErr result
+      (FailsToReply taken old new before after Wants (IsReply Wants Offers reply))

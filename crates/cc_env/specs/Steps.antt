@@ -5,6 +5,7 @@ use Rattle.std.specs.declared.io.ErrorKind.{ErrorKind}
 use Rattle.cc_env.specs.Builtins.{CompleterSpec}
 use Rattle.cc_env.specs.Replies.{WantsInRange, WantsOutOfRange, IsReply}
 use Rattle.cc_base.specs.Collected.{collected_bytes}
+use Rattle.cc_base.specs.Partly.{partly}
 use Rattle.cc_base.specs.Sink.{add_failure}
 use Rattle.cc_base.specs.declared.collected.Collected.{Collected}
 use Rattle.cc_base.specs.declared.error.Error.{Error}
@@ -142,8 +143,9 @@ pub data Ends {S : Type 0} (taken : S → List ℕ) (failed : S → Failures)
   -- no text is made
   nothing_written : (error : Error) → Makes (Err error) → new ≡ old
       → Ends taken failed Makes old new (Err error)
-  -- a write failed, which is counted with its kind; how much was written is left open
+  -- a write failed, which is counted with its kind; a beginning of the text is taken
   write_failed : (text : List ℕ) (kind : ErrorKind) → Makes (Ok text)
+      → partly (taken new) (taken old) text ≡ true
       → failed new ≡ add_failure kind (failed old)
       → Ends taken failed Makes old new (Err (Write kind))
   -- the text is written

@@ -164,7 +164,7 @@ impl<'s, F: Fn(Global) -> Result<Command, Error> + Drop, E: EnvCompleter> Comple
     /// In this order: `UnknownShell` if no shell has the name; the error of the factory;
     /// `NoArguments` if `args` is empty; `NoCompletion` if the word to complete is not there or is
     /// the program's name. Nothing is written then, nor after `Memory`. `Write` if `out` fails,
-    /// which may then hold part of the text.
+    /// which then holds a beginning of the text.
     pub fn try_complete<D: Folder, W: Sink>(
         self,
         alloc: Global,

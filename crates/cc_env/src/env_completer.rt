@@ -37,8 +37,8 @@ pub trait EnvCompleter {
     ///
     /// # Errors
     ///
-    /// `Write` if the sink fails, and `Memory` if an allocation fails. The sink may then hold part
-    /// of the text.
+    /// `Write` if the sink fails, and `Memory` if an allocation fails. The sink then holds a
+    /// beginning of the text.
     fn write_registration<W: Sink>(
         &self,
         alloc: Global,
@@ -60,8 +60,8 @@ pub trait EnvCompleter {
     ///
     /// `NoCompletion` if no word, or the program's name, is at the index that the shell asks for;
     /// the command is built all the same. `Memory` if an allocation fails; the command is then as
-    /// it was, or built. Neither error writes anything. `Write` if the sink fails, which may
-    /// then hold part of the reply.
+    /// it was, or built. Neither error writes anything. `Write` if the sink fails, which then holds
+    /// a beginning of the reply.
     fn write_complete<D: Folder, W: Sink>(
         &self,
         alloc: Global,

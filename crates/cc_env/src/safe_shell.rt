@@ -63,8 +63,8 @@ impl SafeShell {
     ///
     /// # Errors
     ///
-    /// `Write` if the sink fails, and `Memory` if an allocation fails. The sink may then hold part
-    /// of the text.
+    /// `Write` if the sink fails, and `Memory` if an allocation fails. The sink then holds a
+    /// beginning of the text.
     pub fn write_registrations<W: Sink>(
         &self,
         alloc: Global,

@@ -10,7 +10,7 @@ use Rattle.cc_base.specs.Bytes.{is_blank, close_bracket, equals, space}
 use Rattle.cc_quote.proofs.BeforeBlanks.{elvish_before_space, bare_first}
 use Rattle.cc_base.specs.Found.{after, with_front, cut_at, up_to, after_mark, between, without_blanks, after_last_from, last_run, word_by, word_after}
 use Rattle.cc_quote.specs.PlainPath.{is_plain_path}
-use Rattle.cc_registrations.specs.ElvishRegistration.{registration_begins, function_head, shell_set, registration_ends, elvish_registration, variable_ends, elvish_variable, elvish_completer, elvish_binary, ElvishRegistrationReads, ElvishReads}
+use Rattle.cc_registrations.specs.ElvishRegistration.{registration_begins, registration_front, function_head, shell_set, registration_ends, elvish_registration, variable_ends, elvish_variable, elvish_completer, elvish_binary, ElvishRegistrationReads, ElvishReads}
 use Rattle.cc_base.proofs.Finding.{past_lacking, past_free, run_on}
 
 module _ (variable bin completer : List ℕ) (variable_plain : IsTrue (is_plain_name variable)) (bin_plain : IsTrue (is_plain_name bin)) (completer_plain : IsTrue (is_plain_path completer)) where
@@ -20,7 +20,7 @@ module _ (variable bin completer : List ℕ) (variable_plain : IsTrue (is_plain_
 
   in_turn : elvish_registration variable bin completer
       ≡ registration_begins ++ (bin ++ (function_head ++ (variable ++ (variable_ends ++ call))))
-  unfolding elvish_registration shell_set variable_ends
+  unfolding elvish_registration registration_front shell_set variable_ends
   in_turn =
       ap₂ (λ b c. (((((registration_begins ++ b) ++ function_head) ++ variable) ++ codes "=\"elvish\" ") ++ c) ++ registration_ends) (posix_plain bin bin_plain) (safe_as_it_is completer (path_safe completer completer_plain))
       ∙ regroup_six (registration_begins ++ bin) function_head variable (codes "=\"elvish\" ") completer registration_ends

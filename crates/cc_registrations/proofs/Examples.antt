@@ -27,7 +27,7 @@ bash_row = record {
 }
 
 fish_row : FishRegistrationReads (codes "V") (codes "my-bin") (codes "/o'p $x COMPLETER \"a\\")
-unfolding is_fish_safe fish_sign fish_quoted fish_quoted_for_eval after with_front cut_at up_to after_mark between without_blanks word_by word_after fish.registration_begins fish.arguments_begin fish.shell_set fish.registration_ends fish.fish_registration fish.fish_binary fish.fish_arguments fish.fish_variable fish.fish_completer
+unfolding is_fish_safe fish_sign fish_quoted fish_quoted_for_eval after with_front cut_at up_to after_mark between without_blanks word_by word_after fish.registration_begins fish.arguments_begin fish.shell_set fish.registration_ends fish.registration_front fish.fish_registration fish.fish_binary fish.fish_arguments fish.fish_variable fish.fish_completer
 fish_row = record {
   variable_read = refl;
   completer_read = refl;
@@ -46,11 +46,11 @@ zsh_row = record {
 -- the whole text for fish, with a completer and a binary that need quotes
 fish_text_row : fish.fish_registration (codes "V") (codes "dyn\\amic") (codes "/p/dyn\\amic/foo")
     ≡ codes "complete --keep-order --exclusive --command 'dyn\\\\amic' --arguments \"(V=fish '/p/dyn\\\\\\\\amic/foo' -- (commandline --current-process --tokenize --cut-at-cursor) (commandline --current-token))\"\n"
-unfolding is_fish_safe fish_sign fish_quoted fish_quoted_for_eval fish.registration_begins fish.arguments_begin fish.shell_set fish.registration_ends fish.fish_registration
+unfolding is_fish_safe fish_sign fish_quoted fish_quoted_for_eval fish.registration_begins fish.arguments_begin fish.shell_set fish.registration_ends fish.registration_front fish.fish_registration
 fish_text_row = refl
 
 elvish_row : ElvishRegistrationReads (codes "V") (codes "my-bin") (codes "/p/dyn_1.x/foo")
-unfolding quoting_sign is_posix_safe is_posix_safe_word posix_quoted after with_front cut_at up_to after_mark between without_blanks after_last_from last_run word_by word_after elvish.registration_begins elvish.function_head elvish.shell_set elvish.registration_ends elvish.elvish_registration elvish.variable_ends elvish.elvish_variable elvish.elvish_completer elvish.elvish_binary
+unfolding quoting_sign is_posix_safe is_posix_safe_word posix_quoted after with_front cut_at up_to after_mark between without_blanks after_last_from last_run word_by word_after elvish.registration_begins elvish.function_head elvish.shell_set elvish.registration_ends elvish.registration_front elvish.elvish_registration elvish.variable_ends elvish.elvish_variable elvish.elvish_completer elvish.elvish_binary
 elvish_row = record {
   variable_read = refl;
   completer_read = refl;
@@ -95,5 +95,5 @@ odd_completers :
     × (between (codes " --arguments \"(") (codes " -- ")
     (fish.fish_registration (codes "V") (codes "n") (codes "/p/$var/c"))
     ≡ Some (codes "V=fish '/p/\\$var/c'"))
-unfolding after with_front cut_at up_to after_mark between function_begins function_head call_begins call_ends name_ends otherwise registration_ends registration_front sorted_call plain_call registration_tail bash_registration is_posix_safe is_posix_safe_word posix_quoted zsh.registration_begins zsh.function_begins zsh.function_head zsh.call_begins zsh.call_ends zsh.name_ends zsh.registration_ends zsh.registration_head zsh.registration_front zsh.registration_tail zsh.zsh_registration is_fish_safe fish_sign fish_quoted fish_quoted_for_eval fish.registration_begins fish.arguments_begin fish.shell_set fish.registration_ends fish.fish_registration
+unfolding after with_front cut_at up_to after_mark between function_begins function_head call_begins call_ends name_ends otherwise registration_ends registration_front sorted_call plain_call registration_tail bash_registration is_posix_safe is_posix_safe_word posix_quoted zsh.registration_begins zsh.function_begins zsh.function_head zsh.call_begins zsh.call_ends zsh.name_ends zsh.registration_ends zsh.registration_head zsh.registration_front zsh.registration_tail zsh.zsh_registration is_fish_safe fish_sign fish_quoted fish_quoted_for_eval fish.registration_begins fish.arguments_begin fish.shell_set fish.registration_ends fish.registration_front fish.fish_registration
 odd_completers = (refl, refl, refl, refl, refl, refl)

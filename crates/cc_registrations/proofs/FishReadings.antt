@@ -12,7 +12,7 @@ use Rattle.cc_quote.proofs.FishWords.{safe_double_escaped}
 use Rattle.cc_quote.proofs.FishReaders.{double_from}
 use Rattle.cc_quote.proofs.BeforeBlanks.{fish_before_space, bare_first}
 use Rattle.cc_base.specs.Found.{after, with_front, cut_at, up_to, after_mark, between, without_blanks, word_by, word_after}
-use Rattle.cc_registrations.specs.FishRegistration.{registration_begins, arguments_begin, shell_set, registration_ends, fish_registration, fish_binary, fish_arguments, fish_variable, fish_completer, FishRegistrationReads, FishReads}
+use Rattle.cc_registrations.specs.FishRegistration.{registration_begins, registration_front, arguments_begin, shell_set, registration_ends, fish_registration, fish_binary, fish_arguments, fish_variable, fish_completer, FishRegistrationReads, FishReads}
 use Rattle.cc_base.proofs.Finding.{cut_at-none, after-none, past_lacking, past_free}
 
 -- the search passes over the space before the binary, which does not begin with `-`
@@ -35,7 +35,7 @@ module _ (variable bin completer : List ℕ) where
 
   in_turn : fish_registration variable bin completer
       ≡ registration_begins ++ (fish_quoted bin ++ (arguments_begin ++ (variable ++ after_variable)))
-  unfolding fish_registration
+  unfolding fish_registration registration_front
   in_turn =
       regroup_six (registration_begins ++ fish_quoted bin) arguments_begin variable shell_set (fish_quoted_for_eval completer) registration_ends
       ∙ append_assoc registration_begins (fish_quoted bin) (arguments_begin ++ (variable ++ after_variable))

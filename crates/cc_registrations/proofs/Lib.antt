@@ -2,7 +2,9 @@ pub mod BashReadings
 pub mod ElvishReadings
 mod Examples
 pub mod FishReadings
+pub mod FixedTexts
 pub mod Identifiers
+pub mod InLoops
 pub mod ListedNames
 pub mod Marks
 pub mod PlainReadings

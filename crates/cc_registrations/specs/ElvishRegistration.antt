@@ -39,11 +39,15 @@ unfoldable pub fixed_texts : ⊤
 unfolding registration_begins function_head shell_set registration_ends
 fixed_texts = tt
 
+-- the text before the completer
+unfoldable pub registration_front : List ℕ → List ℕ → List ℕ
+registration_front variable bin =
+    registration_begins ++ posix_quoted bin ++ function_head ++ variable ++ shell_set
+
 -- the registration
 unfoldable pub elvish_registration : List ℕ → List ℕ → List ℕ → List ℕ
 elvish_registration variable bin completer =
-    registration_begins ++ posix_quoted bin ++ function_head ++ variable ++ shell_set
-    ++ posix_quoted completer ++ registration_ends
+    registration_front variable bin ++ posix_quoted completer ++ registration_ends
 
 -- ---- how it is read
 

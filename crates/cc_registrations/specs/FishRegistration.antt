@@ -30,11 +30,15 @@ unfoldable pub fixed_texts : ⊤
 unfolding registration_begins arguments_begin shell_set registration_ends
 fixed_texts = tt
 
+-- the text before the completer
+unfoldable pub registration_front : List ℕ → List ℕ → List ℕ
+registration_front variable bin =
+    registration_begins ++ fish_quoted bin ++ arguments_begin ++ variable ++ shell_set
+
 -- the registration
 unfoldable pub fish_registration : List ℕ → List ℕ → List ℕ → List ℕ
 fish_registration variable bin completer =
-    registration_begins ++ fish_quoted bin ++ arguments_begin ++ variable ++ shell_set
-    ++ fish_quoted_for_eval completer ++ registration_ends
+    registration_front variable bin ++ fish_quoted_for_eval completer ++ registration_ends
 
 -- ---- how it is read
 

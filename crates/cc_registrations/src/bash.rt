@@ -1,9 +1,10 @@
 //! The registration for bash.
 
-ghost use Rattle.std.specs.Prelude.{IfErr};
+ghost use Rattle.std.specs.Prelude.{◌≡◌, IfErr};
 ghost use Rattle.cc_base.specs.Writes.{IsWrite, Writes, as_write};
-ghost use Rattle.cc_registrations.specs.BashRegistration.{BashReads, bash_registration};
-ghost use Rattle.cc_registrations.specs.BashRegistration.{registration_front, registration_tail};
+ghost use Rattle.cc_registrations.specs.BashRegistration.{BashReads, bash_registration, call_ends};
+ghost use Rattle.cc_registrations.specs.BashRegistration.{plain_call, registration_front};
+ghost use Rattle.cc_registrations.specs.BashRegistration.{registration_tail, sorted_call};
 
 use crate::names::put_underscored;
 use cc_base::{Error, Sink, put_piece};
@@ -98,6 +99,7 @@ fn write_text<W: Sink>(
 }
 
 // Writes the text before the completer.
+#[tactic(auto, using(crate::proofs::FixedTexts::of_bash), unfolding(crate::specs::BashRegistration::registration_front))]
 fn write_front<W: Sink>(sink: &mut W, variable: &str, name: &str) -> Result<(), ErrorKind>
     ensures { Writes W.taken W.failed (as_write result) sink.old sink.new
         (registration_front variable.now name.now) }
@@ -110,15 +112,42 @@ fn write_front<W: Sink>(sink: &mut W, variable: &str, name: &str) -> Result<(), 
 }
 
 // Writes the text from the completer on.
+#[tactic(auto, unfolding(crate::specs::BashRegistration::registration_tail))]
 fn write_tail<W: Sink>(sink: &mut W, name: &str, bin: &str) -> Result<(), ErrorKind>
     ensures { Writes W.taken W.failed (as_write result) sink.old sink.new
         (registration_tail name.now bin.now) }
 {
-    put_piece(sink, CALL_ENDS)?;
+    write_sorted_call(sink, name, bin)?;
+    write_plain_call(sink, name, bin)
+}
+
+// Writes the text before the third occurrence of the name.
+#[tactic(auto, using(crate::proofs::FixedTexts::of_bash), unfolding(crate::specs::BashRegistration::sorted_call))]
+fn write_sorted_call<W: Sink>(sink: &mut W, name: &str, bin: &str) -> Result<(), ErrorKind>
+    ensures { Writes W.taken W.failed (as_write result) sink.old sink.new
+        (sorted_call name.now bin.now) }
+{
+    put_piece(sink, call_ends())?;
     put_underscored(sink, name)?;
     put_piece(sink, NAME_ENDS)?;
     put_piece(sink, bin)?;
-    put_piece(sink, OTHERWISE)?;
+    put_piece(sink, OTHERWISE)
+}
+
+// Returns the text after the completer.
+#[tactic(auto, unfolding(crate::specs::BashRegistration::call_ends))]
+fn call_ends() -> &'static str
+    ensures { result.now ≡ call_ends }
+{
+    CALL_ENDS
+}
+
+// Writes the text from the third occurrence of the name on.
+#[tactic(auto, using(crate::proofs::FixedTexts::of_bash), unfolding(crate::specs::BashRegistration::plain_call))]
+fn write_plain_call<W: Sink>(sink: &mut W, name: &str, bin: &str) -> Result<(), ErrorKind>
+    ensures { Writes W.taken W.failed (as_write result) sink.old sink.new
+        (plain_call name.now bin.now) }
+{
     put_underscored(sink, name)?;
     put_piece(sink, NAME_ENDS)?;
     put_piece(sink, bin)?;

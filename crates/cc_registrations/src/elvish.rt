@@ -2,6 +2,7 @@
 
 ghost use Rattle.cc_base.specs.Writes.{Writes};
 ghost use Rattle.cc_registrations.specs.ElvishRegistration.{ElvishReads, elvish_registration};
+ghost use Rattle.cc_registrations.specs.ElvishRegistration.{registration_front};
 
 use crate::words::put_posix_quoted;
 use cc_base::{Error, Sink, put_piece};
@@ -44,6 +45,7 @@ pub fn write_elvish<W: Sink>(
     write_text(alloc, sink, variable, bin, completer)
 }
 
+#[tactic(auto, using(crate::proofs::FixedTexts::of_elvish), unfolding(crate::specs::ElvishRegistration::elvish_registration))]
 fn write_text<W: Sink>(
     alloc: Global,
     sink: &mut W,
@@ -54,11 +56,20 @@ fn write_text<W: Sink>(
     ensures { Writes W.taken W.failed result sink.old sink.new
         (elvish_registration variable.now bin.now completer.now) }
 {
+    write_front(alloc, sink, variable, bin)?;
+    put_posix_quoted(alloc, sink, completer)?;
+    Ok(put_piece(sink, REGISTRATION_ENDS)?)
+}
+
+// Writes the text before the completer.
+#[tactic(auto, using(crate::proofs::FixedTexts::of_elvish), unfolding(crate::specs::ElvishRegistration::registration_front))]
+fn write_front<W: Sink>(alloc: Global, sink: &mut W, variable: &str, bin: &str) -> Result<(), Error>
+    ensures { Writes W.taken W.failed result sink.old sink.new
+        (registration_front variable.now bin.now) }
+{
     put_piece(sink, REGISTRATION_BEGINS)?;
     put_posix_quoted(alloc, sink, bin)?;
     put_piece(sink, FUNCTION_HEAD)?;
     put_piece(sink, variable)?;
-    put_piece(sink, SHELL_SET)?;
-    put_posix_quoted(alloc, sink, completer)?;
-    Ok(put_piece(sink, REGISTRATION_ENDS)?)
+    Ok(put_piece(sink, SHELL_SET)?)
 }

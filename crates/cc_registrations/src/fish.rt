@@ -2,6 +2,7 @@
 
 ghost use Rattle.cc_base.specs.Writes.{Writes};
 ghost use Rattle.cc_registrations.specs.FishRegistration.{FishReads, fish_registration};
+ghost use Rattle.cc_registrations.specs.FishRegistration.{registration_front};
 
 use crate::words::put_fish_quoted;
 use cc_base::{Error, Sink, put_piece};
@@ -39,6 +40,7 @@ pub fn write_fish<W: Sink>(
     write_text(alloc, sink, variable, bin, completer)
 }
 
+#[tactic(auto, using(crate::proofs::FixedTexts::of_fish), unfolding(crate::specs::FishRegistration::fish_registration))]
 fn write_text<W: Sink>(
     alloc: Global,
     sink: &mut W,
@@ -49,11 +51,20 @@ fn write_text<W: Sink>(
     ensures { Writes W.taken W.failed result sink.old sink.new
         (fish_registration variable.now bin.now completer.now) }
 {
+    write_front(alloc, sink, variable, bin)?;
+    put_fish_quoted_for_eval(sink, completer)?;
+    Ok(put_piece(sink, REGISTRATION_ENDS)?)
+}
+
+// Writes the text before the completer.
+#[tactic(auto, using(crate::proofs::FixedTexts::of_fish), unfolding(crate::specs::FishRegistration::registration_front))]
+fn write_front<W: Sink>(alloc: Global, sink: &mut W, variable: &str, bin: &str) -> Result<(), Error>
+    ensures { Writes W.taken W.failed result sink.old sink.new
+        (registration_front variable.now bin.now) }
+{
     put_piece(sink, REGISTRATION_BEGINS)?;
     put_fish_quoted(alloc, sink, bin)?;
     put_piece(sink, ARGUMENTS_BEGIN)?;
     put_piece(sink, variable)?;
-    put_piece(sink, SHELL_SET)?;
-    put_fish_quoted_for_eval(sink, completer)?;
-    Ok(put_piece(sink, REGISTRATION_ENDS)?)
+    Ok(put_piece(sink, SHELL_SET)?)
 }

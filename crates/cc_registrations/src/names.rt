@@ -21,6 +21,7 @@ pub(crate) fn put_underscored<W: Sink>(sink: &mut W, name: &str) -> Result<(), E
 
 /// Writes `text` as an identifier, with `_` for each byte that is not an ASCII letter, a digit or
 /// `_`.
+#[tactic(auto, using(crate::proofs::InLoops::in_bytes))]
 pub(crate) fn put_identifier<W: Sink>(sink: &mut W, text: &str) -> Result<(), Error>
     ensures { Writes W.taken W.failed result sink.old sink.new (identifier text.now) }
 {

@@ -101,6 +101,7 @@ fn write_text<W: Sink>(
 }
 
 // Writes the text before the first occurrence of the variable.
+#[tactic(auto, using(crate::proofs::FixedTexts::of_powershell), unfolding(crate::specs::PowershellRegistration::registration_head))]
 fn write_head<W: Sink>(alloc: Global, sink: &mut W, bin: &str) -> Result<(), Error>
     ensures { Writes W.taken W.failed result sink.old sink.new (registration_head bin.now) }
 {

@@ -62,6 +62,7 @@ pub fn write_safe_elvish<W: Sink>(
     write_text(alloc, sink, variable, name, bins, completer)
 }
 
+#[tactic(auto, using(crate::proofs::FixedTexts::of_safe_elvish), unfolding(crate::specs::SafeElvish::safe_elvish))]
 fn write_text<W: Sink>(
     alloc: Global,
     sink: &mut W,
@@ -79,6 +80,7 @@ fn write_text<W: Sink>(
 }
 
 // Writes the text before the completer.
+#[tactic(auto, using(crate::proofs::FixedTexts::of_safe_elvish), unfolding(crate::specs::SafeElvish::registration_front))]
 fn write_front<W: Sink>(
     alloc: Global,
     sink: &mut W,

@@ -116,6 +116,7 @@ fn write_text<W: Sink>(
 }
 
 // Writes the text before the first occurrence of the variable.
+#[tactic(auto, using(crate::proofs::FixedTexts::of_safe_powershell), unfolding(crate::specs::SafePowershell::registration_head))]
 fn write_head<W: Sink>(alloc: Global, sink: &mut W, bins: &[&str]) -> Result<(), Error>
     ensures { Writes W.taken W.failed result sink.old sink.new
         (registration_head (map (λ bin. bin.now) bins.now)) }
@@ -126,6 +127,7 @@ fn write_head<W: Sink>(alloc: Global, sink: &mut W, bins: &[&str]) -> Result<(),
 }
 
 // Writes the text after that, before the completer.
+#[tactic(auto, using(crate::proofs::FixedTexts::of_safe_powershell), unfolding(crate::specs::SafePowershell::call))]
 fn write_call<W: Sink>(sink: &mut W, variable: &str) -> Result<(), Error>
     ensures { Writes W.taken W.failed result sink.old sink.new (call variable.now) }
 {
@@ -136,6 +138,7 @@ fn write_call<W: Sink>(sink: &mut W, variable: &str) -> Result<(), Error>
 }
 
 // Writes the text after the completer.
+#[tactic(auto, using(crate::proofs::FixedTexts::of_safe_powershell), unfolding(crate::specs::SafePowershell::registration_tail))]
 fn write_tail<W: Sink>(sink: &mut W, variable: &str) -> Result<(), Error>
     ensures { Writes W.taken W.failed result sink.old sink.new
         (registration_tail variable.now) }

@@ -1,9 +1,10 @@
 //! The registration for zsh.
 
 ghost use Rattle.cc_base.specs.Writes.{Writes};
+ghost use Rattle.std.specs.Prelude.{◌≡◌};
 ghost use Rattle.cc_registrations.specs.ZshRegistration.{ZshReads, registration_front};
 ghost use Rattle.cc_registrations.specs.ZshRegistration.{registration_head, registration_tail};
-ghost use Rattle.cc_registrations.specs.ZshRegistration.{zsh_registration};
+ghost use Rattle.cc_registrations.specs.ZshRegistration.{call_ends, zsh_registration};
 
 use crate::names::put_underscored;
 use crate::words::put_posix_quoted;
@@ -85,6 +86,7 @@ pub fn write_zsh<W: Sink>(
 }
 
 // Writes the text before the completer.
+#[tactic(auto, using(crate::proofs::FixedTexts::of_zsh), unfolding(crate::specs::ZshRegistration::registration_front))]
 fn write_front<W: Sink>(
     alloc: Global,
     sink: &mut W,
@@ -103,6 +105,7 @@ fn write_front<W: Sink>(
 }
 
 // Writes the text before the name.
+#[tactic(auto, using(crate::proofs::FixedTexts::of_zsh), unfolding(crate::specs::ZshRegistration::registration_head))]
 fn write_head<W: Sink>(alloc: Global, sink: &mut W, bin: &str) -> Result<(), Error>
     ensures { Writes W.taken W.failed result sink.old sink.new (registration_head bin.now) }
 {
@@ -112,13 +115,22 @@ fn write_head<W: Sink>(alloc: Global, sink: &mut W, bin: &str) -> Result<(), Err
 }
 
 // Writes the text after the completer.
+#[tactic(auto, using(crate::proofs::FixedTexts::of_zsh), unfolding(crate::specs::ZshRegistration::registration_tail))]
 fn write_tail<W: Sink>(alloc: Global, sink: &mut W, name: &str, bin: &str) -> Result<(), Error>
     ensures { Writes W.taken W.failed result sink.old sink.new
         (registration_tail name.now bin.now) }
 {
-    put_piece(sink, CALL_ENDS)?;
+    put_piece(sink, call_ends())?;
     put_underscored(sink, name)?;
     put_piece(sink, NAME_ENDS)?;
     put_posix_quoted(alloc, sink, bin)?;
     Ok(put_piece(sink, REGISTRATION_ENDS)?)
+}
+
+// Returns the text after the completer.
+#[tactic(auto, unfolding(crate::specs::ZshRegistration::call_ends))]
+fn call_ends() -> &'static str
+    ensures { result.now ≡ call_ends }
+{
+    CALL_ENDS
 }

@@ -9,6 +9,7 @@ pub mod FirstLines
 pub mod FirstOfValues
 pub mod GivenEntries
 mod GivenExamples
+pub mod InLoops
 mod ListExamples
 pub mod ListReadings
 pub mod ListWidths

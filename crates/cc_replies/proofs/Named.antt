@@ -1,5 +1,5 @@
 -- Variables with their names.
-use Rattle.std.proofs.Common.{◌≡◌, ◌<◌, ◌++◌, ◌∷◌, [], ℕ, List, Bor, Contains, String, get_or, length, map, string_bytes, subst, sym}
+use Rattle.std.proofs.Common.{◌≡◌, ◌<◌, ◌++◌, ◌∷◌, [], ℕ, List, Bor, Contains, IfSome, Option, Some, String, get_or, length, map, string_bytes, subst, sym}
 use Rattle.std.proofs.lemmas.List.Elements.{Contains-get_or}
 use Rattle.std.specs.List.{AllByRecursion}
 use Rattle.std.specs.declared.alloc.Global.{Global}
@@ -23,3 +23,13 @@ more_named names i d found one less same all =
           (IsIn-from_Contains names name (Contains-get_or names i d less)))),
       tt,
     )
+
+-- the same of a list that is known by another term, and of one more that is known to have its name
+pub with_named : (names : List (Bor (List ℕ))) (i : ℕ) (d : Bor (List ℕ)) (found after : List Variable)
+    (given : Option Variable) (one : Variable) → after ≡ found ++ one ∷ [] → given ≡ Some one → i < length names
+    → IfSome given (λ variable. string_bytes variable.0 ≡ (get_or names i d).now)
+    → AllByRecursion (Named names) found → AllByRecursion (Named names) after
+with_named names i d found after given one is given_is less same all =
+    subst (λ (xs : List Variable). AllByRecursion (Named names) xs) (sym is)
+    (more_named names i d found one less
+    (subst (λ o. IfSome o (λ variable. string_bytes variable.0 ≡ (get_or names i d).now)) given_is same) all)

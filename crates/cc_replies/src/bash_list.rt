@@ -264,6 +264,7 @@ fn closing_quote(quote: OpenQuote) -> &'static str
     }
 }
 
+#[tactic(auto, using(crate::proofs::InLoops::in_spaces))]
 fn put_spaces<W: Sink>(sink: &mut W, count: usize) -> Result<(), ErrorKind>
     ensures { Writes W.taken W.failed (as_write result) sink.old sink.new
         (replicate count space) }

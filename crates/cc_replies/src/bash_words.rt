@@ -141,7 +141,7 @@ fn put_bare<W: Sink>(sink: &mut W, kept: &str, rest: &str) -> Result<(), ErrorKi
 }
 
 // Writes a word from its start, where bash reads `~/` as the home directory.
-#[tactic(auto, unfolding(crate::specs::BashWords::start_text))]
+#[tactic(auto, using(cc_base::proofs::WrittenTexts::after_bytes), unfolding(crate::specs::BashWords::start_text))]
 fn put_word_start<W: Sink>(sink: &mut W, word: &str) -> Result<(), ErrorKind>
     ensures { Writes W.taken W.failed (as_write result) sink.old sink.new
         (start_text word.now) }

@@ -1,9 +1,10 @@
 //! The reply to PowerShell: the word to insert and the entry to list. PowerShell inserts the word
 //! unchanged.
 
-ghost use Rattle.std.specs.Prelude.{◌≡◌, ◌<◌, ◌+◌, IfErr, drop, length, slice_index};
+ghost use Rattle.std.specs.Prelude.{◌≡◌, ◌<◌, ◌+◌, ◌++◌, IfErr, codes, drop, length, slice_index};
 ghost use Rattle.std.specs.List.{list_all, list_any};
 ghost use Rattle.cc_base.specs.Writes.{IsWrite, Writes, as_write};
+ghost use Rattle.cc_quote.specs.PowershellQuote.{powershell_escaped};
 ghost use Rattle.cc_replies.specs.PowershellWords.{PowershellWordsRead, begins_other_quote};
 ghost use Rattle.cc_replies.specs.PowershellWords.{is_powershell_bare, is_powershell_byte};
 ghost use Rattle.cc_replies.specs.PowershellWords.{is_received, is_split_parameter, is_splitting};
@@ -83,6 +84,15 @@ fn put_powershell_word<W: Sink>(sink: &mut W, value: &str) -> Result<(), ErrorKi
     if is_powershell_bare(value.as_bytes()) {
         return put_piece(sink, value);
     }
+    put_quoted(sink, value)
+}
+
+// Writes a value between two `'`.
+#[tactic(auto, using(cc_base::proofs::WrittenTexts::after_bytes))]
+fn put_quoted<W: Sink>(sink: &mut W, value: &str) -> Result<(), ErrorKind>
+    ensures { Writes W.taken W.failed (as_write result) sink.old sink.new
+        (codes "'" ++ powershell_escaped value.now ++ codes "'") }
+{
     put_piece(sink, "'")?;
     put_escaped(sink, &PowershellEscape, value)?;
     put_piece(sink, "'")

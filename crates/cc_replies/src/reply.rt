@@ -69,6 +69,7 @@ pub fn write_lines<W: Sink>(sink: &mut W, candidates: &[CompletionCandidate]) ->
     Ok(put_lines(sink, candidates)?)
 }
 
+#[tactic(auto, using(crate::proofs::InLoops::in_parts))]
 fn put_values<W: Sink>(
     sink: &mut W,
     between: &str,
@@ -79,12 +80,14 @@ fn put_values<W: Sink>(
 {
     let mut begun = false;
     for candidate in candidates {
+        let value = candidate.get_value();
         put_separator(sink, between, &mut begun)?;
-        put_piece(sink, candidate.get_value())?;
+        put_piece(sink, value)?;
     }
     Ok(())
 }
 
+#[tactic(auto, using(crate::proofs::InLoops::in_parts))]
 fn put_zsh_items<W: Sink>(
     sink: &mut W,
     between: &str,
@@ -95,8 +98,9 @@ fn put_zsh_items<W: Sink>(
 {
     let mut begun = false;
     for candidate in candidates {
+        let value = candidate.get_value();
         put_separator(sink, between, &mut begun)?;
-        put_zsh_item(sink, candidate.get_value(), help_line(candidate.get_help()))?;
+        put_zsh_item(sink, value, help_line(candidate.get_help()))?;
     }
     Ok(())
 }
@@ -115,7 +119,7 @@ pub(crate) fn put_zsh_item<W: Sink>(
     put_colon_help(sink, help)
 }
 
-#[tactic(auto, unfolding(crate::specs::Reply::colon_help))]
+#[tactic(auto, using(cc_base::proofs::WrittenTexts::after_bytes), unfolding(crate::specs::Reply::colon_help))]
 fn put_colon_help<W: Sink>(sink: &mut W, help: Option<&str>) -> Result<(), ErrorKind>
     ensures { Writes W.taken W.failed (as_write result) sink.old sink.new
         (colon_help (option_copied help.entry)) }
@@ -127,6 +131,7 @@ fn put_colon_help<W: Sink>(sink: &mut W, help: Option<&str>) -> Result<(), Error
     put_escaped(sink, &ZshReplyHelp, help)
 }
 
+#[tactic(auto, using(cc_base::proofs::WrittenTexts::in_steps))]
 fn put_lines<W: Sink>(sink: &mut W, candidates: &[CompletionCandidate]) -> Result<(), ErrorKind>
     ensures { Writes W.taken W.failed (as_write result) sink.old sink.new
         (lines_reply candidates.now) }
@@ -152,7 +157,7 @@ pub(crate) fn put_shown_line<W: Sink>(
     put_piece(sink, "\n")
 }
 
-#[tactic(auto, unfolding(crate::specs::Reply::tab_help))]
+#[tactic(auto, using(cc_base::proofs::WrittenTexts::after_bytes), unfolding(crate::specs::Reply::tab_help))]
 fn put_tab_help<W: Sink>(sink: &mut W, help: Option<&str>) -> Result<(), ErrorKind>
     ensures { Writes W.taken W.failed (as_write result) sink.old sink.new
         (tab_help (option_copied help.entry)) }

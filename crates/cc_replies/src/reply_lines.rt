@@ -38,6 +38,7 @@ pub(crate) trait ReplyLines {
 }
 
 /// Writes a line for each candidate whose value the shell can insert.
+#[tactic(auto, using(cc_base::proofs::WrittenTexts::in_steps))]
 pub(crate) fn put_each<L: ReplyLines, W: Sink>(
     sink: &mut W,
     lines: &L,
