@@ -75,6 +75,7 @@ def listed() -> List[Test]:
         tested(both, [], "tests/offered.py"), tested(complgen, needs_of_folders(), "tests/folders"),
         tested(complgen, [], "tests/check.py"), tested(complgen, [], "tests/bash_texts.py"),
         tested(complgen, [], "tests/shell_syntax.py"), tested(complgen, [], "tests/man_pages.py"),
+        tested(complgen, [], "tests/own_tree.py"),
         tested([], ["git"], "tests/first-minutes", "--without-rt"), tested([], [], "tools/documents.py"),
         tested([], [], "tools/calls.py", "--check"), tested([], [], "tools/clauses.py", "--check"),
         tested([], [], "tools/keys.py", "--check"), tested([], [], "release/declarations.py"),

@@ -409,6 +409,7 @@ def nested(chance, _):
     """Returns a tree file whose lists or commands nest nearly as deep as a file may, or deeper."""
     depth = DEEPEST + chance.choice([-2, -1, 0, 1, 2, 1000])
     if chance.randrange(2):
+        depth = chance.choice([depth, depth, depth, 1_000_000])
         return b'{"name": "app", "aliases": ' + b"[" * (depth - 1) + b"]" * (depth - 1) + b"}"
     command = {"name": "app"} if depth % 2 else {"name": "app", "aliases": []}
     for _ in range((depth - 1) // 2):

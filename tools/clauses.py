@@ -37,7 +37,6 @@ PAGES = [os.path.join("docs", f"{it}.md") for it in NAMES] + ["README.md"]
 # Tests, their trees and callers that show how contracts are used.
 NO_LIBRARY = {
     "cc_caller", "cc_core_tests", "cc_fixtures", "cc_library_tests", "complgen_cases",
-    "complgen_tests",
 }
 DEFINED = re.compile(r"^(?:(?:pub|abbrev|unfoldable|data|record) +)+(\w+)\b", re.MULTILINE)
 

@@ -22,9 +22,11 @@ use std::alloc::Global;
 /// Builds `command` and returns the candidates for the word at `index`, as `complete_from` does,
 /// the parser of the command, as `parser` does, and the built command. The parser is in `store`.
 ///
-/// If no argument of the built command is global and it fits its parser, the two agree. The words
-/// before the index lead to one command. If this is the root, each candidate is a name that the
-/// parser accepts, with the id of its argument, or the value of an argument.
+/// If no argument of the built command is global, and the command fits its parser (`fits_parser`),
+/// the two agree. The words before the index lead to one command. If this is the root, each
+/// candidate is the name of a child that the parser knows, a long or a short that it knows, with
+/// the id of its argument, a value, or the name of another program. For other commands, or with
+/// global arguments, use `candidates_and_reached_parser`.
 ///
 /// # Errors
 ///

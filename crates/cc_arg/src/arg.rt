@@ -458,7 +458,8 @@ impl Arg {
         self.parts.required
     }
 
-    /// Sets whether the argument can be given only after `--`.
+    /// Sets whether the parser accepts the argument only after `--`. Live completion does not look
+    /// at it.
     pub fn last(mut self, last: bool) -> Arg
         ensures { result ≡ record self { last = last } }
     {
@@ -466,7 +467,7 @@ impl Arg {
         self
     }
 
-    /// Returns whether the argument can be given only after `--`.
+    /// Returns whether the parser accepts the argument only after `--`.
     pub fn is_last_set(&self) -> bool
         ensures { result ≡ self.now.last }
     {
@@ -519,8 +520,8 @@ impl Arg {
         self.parts.allow_hyphen_values
     }
 
-    /// Sets the completer of the values, by its number. It takes precedence over a list of
-    /// candidates, the possible values and the value hint.
+    /// Sets the completer of the values, by its number, instead of an earlier one. It takes
+    /// precedence over a list of candidates, the possible values and the value hint.
     pub fn add(mut self, completer: ArgValueCompleter) -> Arg
         ensures { result ≡ record self { completer = Some completer } }
     {

@@ -1,13 +1,13 @@
 -- `Writes` for an equal text and for one text written after another, and the beginnings of texts
 -- that are written in parts.
-use Rattle.std.proofs.Common.{◌≡◌, ◌≤◌, ◌<◌, ℕ, List, [], ◌∷◌, ◌++◌, Result, Ok, ap, ◌∙◌, append_assoc, subst, refl, length, drop, get_or, arith, flat_map}
-use Rattle.std.specs.Prelude.{Bool, true, ◌||◌, ◌&&◌}
+use Rattle.std.proofs.Common.{◌≡◌, ◌≤◌, ℕ, List, [], ◌∷◌, ◌++◌, Result, Ok, ap, ◌∙◌, append_assoc, subst, refl, length, arith}
+use Rattle.std.specs.Prelude.{Bool, true, false, ◌||◌, ◌&&◌, ◌==◌}
 use Rattle.std.proofs.lemmas.Result.{on_ok_weaker, on_err_weaker}
-use Rattle.std.proofs.lemmas.Bool.{and_parts, and_from, false≢true}
+use Rattle.std.proofs.lemmas.Bool.{and_parts, and_from, eq-eqb, false≢true}
 use Rattle.std.proofs.lemmas.Grind.{common_steps}
 use Rattle.std.proofs.lemmas.List.{append-nil}
 use Rattle.cc_base.specs.declared.error.Error.{Error}
-use Rattle.cc_base.specs.Partly.{begins, as_long, within, partly, begins_split, partly_split, partly_self, begins_self}
+use Rattle.cc_base.specs.Partly.{begins, partly, begins_split, partly_split, partly_self}
 use Rattle.cc_base.specs.Sink.{Failures}
 use Rattle.cc_base.specs.Writes.{Writes, CountsWrite}
 
@@ -27,49 +27,60 @@ pub writes_same : {S : Type 0} {taken : S → List ℕ} {failed : S → Failures
 writes_same {S} {taken} {failed} {result} {old} {new} text other e w =
     let P : List ℕ → Type 0 = λ t. Writes taken failed result old new t in subst P e w
 
-le_as_long : (low n : List ℕ) → length low ≤ length n → as_long low n ≡ true
-unfolding as_long
-le_as_long [] n l = refl
-le_as_long (x ∷ low) [] l = absurd (omega arith)
-le_as_long (x ∷ low) (y ∷ n) l = le_as_long low n (omega arith)
-
-as_long_le : (low n : List ℕ) → as_long low n ≡ true → length low ≤ length n
-unfolding as_long
-as_long_le [] n e = omega arith
-as_long_le (x ∷ low) [] e = absurd (false≢true e)
-as_long_le (x ∷ low) (y ∷ n) e = let l : length low ≤ length n = as_long_le low n e in omega arith
+-- whether the first text is no longer than the second, with which the third begins
+unfoldable pub within : List ℕ → List ℕ → List ℕ → Bool
+within [] new whole = begins new whole
+within (x ∷ low) [] whole = false
+within (x ∷ low) (y ∷ new) [] = false
+within (x ∷ low) (y ∷ new) (z ∷ whole) = (y == z) && within low new whole
 
 pub partly_within : (new old text : List ℕ) → partly new old text ≡ within old new (old ++ text)
-unfolding partly
-partly_within new old text = refl
+unfolding partly within
+partly_within new [] text = refl
+partly_within [] (x ∷ old) text = refl
+partly_within (x ∷ new) (y ∷ old) text = ap (λ t. (x == y) && t) (partly_within new old text)
+
+-- a part of a text is a beginning of the whole
+begins_whole : (new old a b : List ℕ) → partly new old a ≡ true → begins new ((old ++ a) ++ b) ≡ true
+unfolding partly begins
+begins_whole new [] a b p = begins_split new a b ∙ ap (λ t. t || partly new a b) p
+begins_whole [] (y ∷ old) a b p = refl
+begins_whole (x ∷ new) (y ∷ old) a b p =
+    let k = and_parts (x == y) (partly new old a) p in
+    and_from (x == y) (begins new ((old ++ a) ++ b)) k.0 (begins_whole new old a b k.1)
 
 -- a part of what is written next is a part of the whole
-pub within_loop : (low n m a b : List ℕ) → length low ≤ length m → partly n m a ≡ true →
-    within low n ((m ++ a) ++ b) ≡ true
+pub within_loop : (low new old a b : List ℕ) → length low ≤ length old → partly new old a ≡ true →
+    within low new ((old ++ a) ++ b) ≡ true
 unfolding partly within
-within_loop low n m a b l p =
-    let k = and_parts (as_long m n) (begins n (m ++ a)) p in
-    let w : length m ≤ length n = as_long_le m n k.0 in
-    let P : Bool → Bool = λ t. t || (as_long (m ++ a) n && begins n ((m ++ a) ++ b)) in
-    and_from (as_long low n) (begins n ((m ++ a) ++ b)) (le_as_long low n (omega arith))
-    (begins_split n (m ++ a) b ∙ ap P k.1)
+within_loop [] new old a b l p = begins_whole new old a b p
+within_loop (z ∷ low) new [] a b l p = absurd (omega arith)
+within_loop (z ∷ low) [] (y ∷ old) a b l p = absurd (false≢true p)
+within_loop (z ∷ low) (x ∷ new) (y ∷ old) a b l p =
+    let k = and_parts (x == y) (partly new old a) p in
+    and_from (x == y) (within low new ((old ++ a) ++ b)) k.0 (within_loop low new old a b (omega arith) k.1)
 
-pub within_step : (low n m a b : List ℕ) → length low ≤ length m → partly n m a ≡ true →
-    within low n (m ++ (a ++ b)) ≡ true
-within_step low n m a b l p =
-    let P : List ℕ → Type 0 = λ t. within low n t ≡ true in
-    subst P (append_assoc m a b) (within_loop low n m a b l p)
+pub within_step : (low new old a b : List ℕ) → length low ≤ length old → partly new old a ≡ true →
+    within low new (old ++ (a ++ b)) ≡ true
+within_step low new old a b l p =
+    subst (λ t. within low new t ≡ true) (append_assoc old a b) (within_loop low new old a b l p)
 
-pub within_last : (low n m a : List ℕ) → length low ≤ length m → partly n m a ≡ true →
-    within low n (m ++ a) ≡ true
-within_last low n m a l p =
-    let P : List ℕ → Type 0 = λ t. within low n t ≡ true in
-    subst P (append-nil (m ++ a)) (within_loop low n m a [] l p)
+pub within_byte : (low new old : List ℕ) (x : ℕ) (b : List ℕ) → length low ≤ length old →
+    partly new old (x ∷ []) ≡ true → within low new (old ++ (x ∷ b)) ≡ true
+within_byte low new old x b l p = within_step low new old (x ∷ []) b l p
+
+pub within_last : (low new old a : List ℕ) → length low ≤ length old → partly new old a ≡ true →
+    within low new (old ++ a) ≡ true
+within_last low new old a l p =
+    subst (λ t. within low new t ≡ true) (append-nil (old ++ a)) (within_loop low new old a [] l p)
 
 -- what is taken so far is a part of the whole
-pub within_self : (low m b : List ℕ) → length low ≤ length m → within low m (m ++ b) ≡ true
-unfolding within
-within_self low m b l = and_from (as_long low m) (begins m (m ++ b)) (le_as_long low m l) (begins_self m b)
+pub within_self : (low new b : List ℕ) → length low ≤ length new → within low new (new ++ b) ≡ true
+unfolding within begins
+within_self [] [] b l = refl
+within_self [] (x ∷ new) b l = and_from (x == x) (begins new (new ++ b)) (eq-eqb x x refl) (within_self [] new b (omega arith))
+within_self (z ∷ low) [] b l = absurd (omega arith)
+within_self (z ∷ low) (x ∷ new) b l = and_from (x == x) (within low new (new ++ b)) (eq-eqb x x refl) (within_self low new b (omega arith))
 
 pub partly_first : (new old : List ℕ) (x : ℕ) (b : List ℕ) →
     partly new old (x ∷ b) ≡ (partly new old (x ∷ []) || partly new (old ++ x ∷ []) b)

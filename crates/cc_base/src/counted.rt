@@ -55,7 +55,7 @@ impl<W> Counted<W> {
 }
 
 impl<W: io::Write> Counted<W> {
-    /// Flushes the writer. A failed flush counts as a failed write.
+    /// Flushes the writer, once. A failed flush counts as a failed write.
     ///
     /// # Errors
     ///

@@ -12,8 +12,7 @@ use std::io::ErrorKind;
 ///
 /// # Errors
 ///
-/// The kind of the put that failed. The contract then says neither how much of the separator was
-/// taken nor what `begun` is.
+/// The kind of the put that failed. The contract then says nothing of `begun`.
 pub fn put_separator<S: Sink>(
     sink: &mut S,
     between: &str,

@@ -17,11 +17,12 @@ pub trait Sink {
     // how many writes failed, and the kind of the last failure
     ghost failed: { Self → Failures };
 
-    /// Takes a prefix of `bytes` and returns its length.
+    /// Takes a beginning of `bytes` and returns its length. To take nothing of bytes that are not
+    /// empty counts as a failure of the kind `WriteZero`.
     ///
     /// # Errors
     ///
-    /// The kind of the failure. Nothing was taken then.
+    /// The kind of the failure, which is counted. Nothing was taken then.
     fn put(&mut self, bytes: &[u8]) -> Result<usize, ErrorKind>
         ensures within { IfOk result (λ count. count ≤ length bytes.now) }
         ensures ok { IfOk result
@@ -33,6 +34,9 @@ pub trait Sink {
     /// is not empty, and flushes that failed. A count of `u64::MAX` stays as it is.
     fn failures(&self) -> u64
         ensures { result ≡ (failed self.now).count };
+
+    // Two laws of texts for the proofs of functions that write to any sink. They have their proofs
+    // here, so an implementation states nothing.
 
     // a part of two texts is a part of the first, or the first and a part of the second
     ghost splits: { (new old a b : List ℕ) →

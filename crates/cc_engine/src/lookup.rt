@@ -19,7 +19,9 @@ pub trait Lookup {
     // the directory where relative paths begin
     ghost current: { Self → Option (List ℕ) };
 
-    /// Returns the directory where relative paths begin, if there is one.
+    /// Returns the directory where relative paths begin, if there is one, the same at each call. A
+    /// registration needs it if the program was called by a relative path. No clause links it to
+    /// `values`, which has to begin there by itself.
     fn current_dir(&self) -> Option<&str>
         ensures { option_copied result ≡ current self.now };
 

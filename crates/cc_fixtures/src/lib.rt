@@ -1,4 +1,4 @@
-//! Fixtures for the tests of several crates: small trees, words, and a writer that fails.
+//! Fixtures for the tests of several crates: small trees and words.
 //!
 //! ```rattle
 //! use cc_fixtures::trees::{NESTED, read};
@@ -10,4 +10,3 @@
 
 pub mod trees;
 pub mod words;
-pub mod writers;

@@ -88,7 +88,8 @@ impl<'a> Flat<'a> {
         self.nodes[number].parent
     }
 
-    /// Returns the numbers of the children of the node with this `number`, in order.
+    /// Returns the numbers of the children of the node with this `number`, which must be below
+    /// `len`, in order.
     pub fn children(&self, number: usize) -> Range<usize>
         requires { number < length self.now }
         ensures first { result.start ≡ (entry_at self.now number).first_child }

@@ -23,12 +23,12 @@ past_leading [] = []
 past_leading (byte ∷ rest) =
     if is_leading (byte ∷ rest) 0 then past_leading rest else byte ∷ rest
 
--- The whole word names a directory: it is empty, ends in a slash, or its last component is `.` or
--- `..`.
+-- The whole word names a directory: it is empty, ends in a slash or in the component `..`, or has no
+-- component but `.`.
 abbrev pub is_folder_word : List ℕ → Bool
 is_folder_word word = ends_in_slash word || is_none (path_file_name word)
 
--- the part of the word that names a directory, as the user typed it
+-- the part of the word that names a directory
 unfoldable pub word_prefix : List ℕ → List ℕ
 word_prefix word = if is_folder_word word then word else unwrap_or (path_parent word) []
 

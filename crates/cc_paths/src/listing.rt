@@ -19,13 +19,18 @@ use std::alloc::{AllocError, Global};
 /// Returns the candidates for `word`: the paths that pass `test`, sorted, then the other
 /// directories, sorted.
 ///
-/// The word consists of a directory, kept as the user typed it, and the beginning of a name in it.
+/// The word is a directory and the beginning of a name in it. A word that is empty, ends in a slash
+/// or in the component `..`, or has no component but `.`, is a directory, and each name counts. Any
+/// other word is split as by `parent` and `file_name` of Rust's `Path`: so `a//b` counts as `a/b`,
+/// and `src/.` is the beginning `src` of a name.
 ///
-/// - A word that begins with `~/` refers to the home directory, any other relative word to
-///   `current_dir`. Without that directory, there are no candidates.
+/// - If the first component of that directory is `~`, it is below the home directory. Any other
+///   relative directory is below `current_dir`. If the home directory or `current_dir` is needed
+///   and missing, there are no candidates.
 /// - The value of a directory ends in a slash.
 /// - A name that begins with a dot is a hidden candidate.
-/// - For an empty word, `.` is a candidate if the current directory passes the test.
+/// - For an empty word, `.` is a candidate if the current directory passes the test. It is visible
+///   and has no slash.
 /// - An unreadable directory has no names.
 ///
 /// # Errors

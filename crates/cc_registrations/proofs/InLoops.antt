@@ -1,12 +1,8 @@
 -- Beginnings of texts that loops write byte by byte, or in two parts.
 use Rattle.std.proofs.Common.{◌≡◌, ◌≤◌, ◌∙◌, ap, ℕ, List, [], ◌∷◌, ◌++◌, length, true}
 use Rattle.std.specs.Prelude.{Bool, ◌||◌}
-use Rattle.cc_base.specs.Partly.{partly, partly_split, within}
-use Rattle.cc_base.proofs.WrittenTexts.{in_steps, within_step}
-
-pub within_byte : (low n m : List ℕ) (x : ℕ) (b : List ℕ) → length low ≤ length m
-    → partly n m (x ∷ []) ≡ true → within low n (m ++ (x ∷ b)) ≡ true
-within_byte low n m x b l p = within_step low n m (x ∷ []) b l p
+use Rattle.cc_base.specs.Partly.{partly, partly_split}
+use Rattle.cc_base.proofs.WrittenTexts.{in_steps, within, within_byte, within_step}
 
 pub within_part : (low n m a b c : List ℕ) → length low ≤ length m → partly n m a ≡ true
     → within low n (m ++ ((a ++ b) ++ c)) ≡ true

@@ -1,14 +1,10 @@
 -- Beginnings of texts that loops write in two parts, or space by space.
 use Rattle.std.proofs.Common.{◌≡◌, ◌≤◌, ◌<◌, ◌+◌, ◌-◌, ap, ℕ, suc, List, [], ◌∷◌, ◌++◌, length, true, replicate, arith}
-use Rattle.cc_base.specs.Partly.{partly, partly_split, within}
-use Rattle.cc_base.proofs.WrittenTexts.{in_steps, within_step}
+use Rattle.cc_base.specs.Partly.{partly_split}
+use Rattle.cc_base.proofs.WrittenTexts.{in_steps, within_byte}
 use Rattle.cc_replies.specs.BashList.{space}
 
 pub ruleset in_parts = (in_steps, partly_split)
-
-pub within_byte : (low n m : List ℕ) (x : ℕ) (b : List ℕ) → length low ≤ length m
-    → partly n m (x ∷ []) ≡ true → within low n (m ++ (x ∷ b)) ≡ true
-within_byte low n m x b l p = within_step low n m (x ∷ []) b l p
 
 -- the next of the spaces that are left
 pub next_space : (count done : ℕ) → done < count

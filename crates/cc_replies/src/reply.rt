@@ -52,12 +52,13 @@ pub fn write_zsh_items<W: Sink>(
     Ok(put_zsh_items(sink, between, candidates)?)
 }
 
-/// Writes a line for each candidate: its value, a tab, and the first line of its help text. fish
-/// and PowerShell get this reply, and read it by rules of their own.
+/// Writes a line for each candidate: its value and, if it has a help text, a tab and the first line
+/// of that text. Nothing is escaped or left out. fish and PowerShell get this reply, and read it by
+/// rules of their own.
 ///
 /// # Errors
 ///
-/// `Write` if the sink fails.
+/// `Write` at the first put that fails. The sink then holds a beginning of the reply.
 #[tactic(auto, using(crate::proofs::ReplyReadings::lines_back, crate::proofs::EntryReadings::entries_back))]
 pub fn write_lines<W: Sink>(sink: &mut W, candidates: &[CompletionCandidate]) -> Result<(), Error>
     ensures written { Writes W.taken W.failed result sink.old sink.new

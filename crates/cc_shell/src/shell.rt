@@ -115,7 +115,8 @@ impl Shell {
         ALL
     }
 
-    /// Parses the name of a shell. Case-sensitive.
+    /// Parses the name of a shell: its variant in lower case, such as `powershell`, and not the name
+    /// of a program, such as `pwsh`.
     ///
     /// # Errors
     ///
@@ -217,7 +218,8 @@ impl FromStr for Shell {
 
     ghost from_str_gives = { ReadsShell };
 
-    /// Parses the name of a shell. Case-sensitive.
+    /// Parses the name of a shell: its variant in lower case, such as `powershell`, and not the name
+    /// of a program, such as `pwsh`.
     ///
     /// # Errors
     ///

@@ -1,5 +1,6 @@
 -- The faults in a value of a tree file: there are some exactly if the value does not fit.
 use Rattle.std.specs.Prelude.{◌≡◌, ◌&&◌, List, [], ◌∷◌, Bool, true, false, Option, is_some}
+use Rattle.complgen_tree_file.specs.declared.faults.Fault.{Fault}
 use Rattle.complgen_tree_file.specs.declared.faults.Faults.{Faults}
 
 -- whether a list has no item
@@ -7,9 +8,13 @@ abbrev pub is_nil : {A : Type 0} → List A → Bool
 is_nil [] = true
 is_nil (a ∷ more) = false
 
+-- what is found wrong so far
+abbrev pub faults_in : Faults → List Fault
+faults_in faults = faults.list.items
+
 -- whether nothing is found wrong
 abbrev pub has_none : Faults → Bool
-has_none faults = is_nil faults.list.items
+has_none faults = is_nil (faults_in faults)
 
 -- something more is found wrong, unless the value fits
 abbrev pub FindsUnless : Bool → Faults → Faults → Type 0

@@ -1,7 +1,7 @@
 //! Collects what is wrong with the values of a tree file, each with the path to it.
 
 ghost use Rattle.std.specs.Prelude.{◌≡◌, ◌&&◌, IfOk, false, true};
-ghost use Rattle.complgen_tree_file.specs.Faults.{has_none, is_nil};
+ghost use Rattle.complgen_tree_file.specs.Faults.{faults_in, has_none};
 
 use crate::kinds::{ObjectKind, ValueKind};
 use std::alloc::{AllocError, Global};
@@ -80,7 +80,7 @@ impl<'t> Faults<'t> {
         self.alloc
     }
 
-    /// Returns whether nothing is wrong.
+    /// Returns whether nothing wrong was found so far.
     pub fn is_empty(&self) -> bool
         ensures { result ≡ has_none self.now }
     {
@@ -151,7 +151,7 @@ impl<'t> Faults<'t> {
 
     /// Returns all faults.
     pub fn into_vec(self) -> Vec<Fault<'t>>
-        ensures { is_nil result.items ≡ has_none self.entry }
+        ensures { result.items ≡ faults_in self.entry }
     {
         self.list
     }

@@ -1,6 +1,6 @@
 //! The builders that add an argument or a child to a command.
 
-ghost use Rattle.std.specs.Prelude.{◌≡◌, ◌++◌, ◌∷◌, [], fold, IfOk, IfErr, OnOk, false};
+ghost use Rattle.std.specs.Prelude.{◌≡◌, ◌++◌, ◌∷◌, [], fold, IfOk, IfErr, OnOk, OnErr, false};
 ghost use Rattle.cc_command.specs.Made.{ordered_node, with_argument, with_child};
 ghost use Rattle.cc_command.specs.Made.{order_after, order_after_child};
 ghost use Rattle.cc_command.specs.Made.{ordered_arguments, ordered_children};
@@ -58,10 +58,14 @@ impl Command {
 ///
 /// # Errors
 ///
-/// `AllocError` if the allocation fails. The argument is then dropped.
+/// `AllocError` if the allocation fails. The argument is then dropped. The node keeps its arguments
+/// and counts as not built, and its counter may have advanced.
 pub fn add_argument(node: &mut Node, mut argument: Arg) -> Result<(), AllocError>
     ensures ok { OnOk result (node.new ≡ with_argument node.old argument) }
-    ensures built { node.new.built ≡ false }
+    ensures err { OnErr result (node.new ≡ record node.old {
+      next_order = order_after node.old.next_order argument;
+      built = false;
+    }) }
 {
     node.built = false;
     if !argument.is_positional() {
@@ -77,9 +81,11 @@ pub fn add_argument(node: &mut Node, mut argument: Arg) -> Result<(), AllocError
 ///
 /// # Errors
 ///
-/// `AllocError` if the allocation fails. The child is then dropped.
+/// `AllocError` if the allocation fails. The child is then dropped, and the command keeps its
+/// children.
 pub fn add_child(command: &mut Command, mut child: Command) -> Result<(), AllocError>
     ensures ok { OnOk result (command.new ≡ with_child command.old child) }
+    ensures err { OnErr result (command.new.children ≡ command.old.children) }
 {
     command.node.built = false;
     child.fill_display_order(command.node.next_order);
@@ -93,9 +99,14 @@ pub fn add_child(command: &mut Command, mut child: Command) -> Result<(), AllocE
 ///
 /// # Errors
 ///
-/// `AllocError` if the allocation fails. The arguments are then dropped.
+/// `AllocError` if the allocation fails. The arguments are then dropped. The node keeps its
+/// arguments and counts as not built, and its counter may have advanced.
 pub fn add_arguments(node: &mut Node, mut arguments: Vec<Arg>) -> Result<(), AllocError>
     ensures ok { OnOk result (node.new ≡ fold with_argument node.old arguments.items) }
+    ensures err { OnErr result (node.new ≡ record node.old {
+      next_order = fold order_after node.old.next_order arguments.items;
+      built = false;
+    }) }
 {
     if arguments.is_empty() {
         return Ok(());
@@ -110,9 +121,11 @@ pub fn add_arguments(node: &mut Node, mut arguments: Vec<Arg>) -> Result<(), All
 ///
 /// # Errors
 ///
-/// `AllocError` if the allocation fails. The children are then dropped.
+/// `AllocError` if the allocation fails. These children are then dropped, and the command keeps its
+/// own.
 pub fn add_children(command: &mut Command, mut children: Vec<Command>) -> Result<(), AllocError>
     ensures ok { OnOk result (command.new ≡ fold with_child command.old children.items) }
+    ensures err { OnErr result (command.new.children ≡ command.old.children) }
 {
     if children.is_empty() {
         return Ok(());
@@ -151,6 +164,7 @@ pub fn reserve_children(command: &mut Command, count: usize) -> Result<(), Alloc
 // for four, but in a deep tree most commands have one child.
 fn push_child(children: &mut Vec<Command>, child: Command) -> Result<(), AllocError>
     ensures ok { OnOk result (children.new.items ≡ children.old.items ++ child ∷ []) }
+    ensures err { OnErr result (children.new.items ≡ children.old.items) }
 {
     if children.is_empty() {
         children.reserve_exact(1)?;
@@ -194,6 +208,7 @@ fn order_children(children: &mut [Command], order: usize) -> usize
 fn append_arguments(node: &mut Node, arguments: Vec<Arg>) -> Result<(), AllocError>
     ensures ok { OnOk result
         (node.new ≡ record node.old { arguments = node.old.arguments ++ arguments.items }) }
+    ensures err { OnErr result (node.new ≡ node.old) }
 {
     let alloc = *arguments.allocator();
     let mut own = replace(&mut node.arguments, Items::new(alloc)).into_vec();
@@ -202,9 +217,11 @@ fn append_arguments(node: &mut Node, arguments: Vec<Arg>) -> Result<(), AllocErr
     appended
 }
 
-// Appends `added` to the items. If there are none, it becomes the list, so no item is moved.
+// Appends `added` to the items. If there are none, it becomes the list, so no item is moved. If an
+// allocation fails, the items stay.
 fn append_to<T: Drop>(items: &mut Vec<T>, mut added: Vec<T>) -> Result<(), AllocError>
     ensures ok { OnOk result (items.new.items ≡ items.old.items ++ added.items) }
+    ensures err { OnErr result (items.new.items ≡ items.old.items) }
 {
     if items.is_empty() {
         *items = added;

@@ -1,7 +1,7 @@
 use Rattle.std.proofs.Common.{◌≡◌, ◌∙◌, ◌<◌, ◌++◌, ℕ, List, length, ap, sym, arith}
 use Rattle.std.specs.Prelude.{fold}
 use Rattle.std.proofs.lemmas.Bool.Decides.{nat_tests}
-use Rattle.std.proofs.lemmas.Result.{on_ok_weaker}
+use Rattle.std.proofs.lemmas.Result.{on_ok_weaker, on_err_weaker}
 use Rattle.cc_arg.specs.declared.parts.ArgParts.{ArgParts as Arg}
 use Rattle.cc_command.specs.declared.node.Node.{Node}
 use Rattle.cc_command.specs.Made.{order_after, ordered_arguments}
@@ -27,4 +27,6 @@ returns c =
           (λ appended. appended ∙ ap (λ list. changed_node node (node.arguments ++ list) next) (full ∙ is_ordered) ∙
           ap (changed_node node (node.arguments ++ ordered_arguments node.next_order all)) is_next ∙ sym (added_arguments node all some))
           c.append_arguments.ensures.ok;
+      err = on_err_weaker c.append_arguments.result
+          (λ kept. kept ∙ ap (changed_node node node.arguments) is_next) c.append_arguments.ensures.err;
     }

@@ -1,7 +1,7 @@
 use Rattle.std.proofs.Common.{◌≡◌, ◌∙◌, ◌<◌, ◌++◌, ℕ, List, length, ap, sym, arith}
 use Rattle.std.specs.Prelude.{fold}
 use Rattle.std.proofs.lemmas.Bool.Decides.{nat_tests}
-use Rattle.std.proofs.lemmas.Result.{on_ok_weaker}
+use Rattle.std.proofs.lemmas.Result.{on_ok_weaker, on_err_weaker}
 use Rattle.cc_command.specs.declared.node.Node.{Node}
 use Rattle.cc_command.specs.Tree.{Tree, join, forest_of}
 use Rattle.cc_command.specs.Made.{with_child, order_after_child, ordered_children}
@@ -31,4 +31,6 @@ returns c =
           ap (changed_tree node (join (forest_of own) (forest_of (ordered_children node.next_order all)))) is_next ∙
           sym (added_children (record { node = node; children = forest_of own }) all some) ∙ ap (λ tree. fold with_child tree all) c.command.view_is)
           c.append_to.ensures.ok;
+      err = on_err_weaker c.append_to.result
+          (λ kept. ap forest_of kept ∙ ap (λ tree. tree.children) c.command.view_is) c.append_to.ensures.err;
     }
