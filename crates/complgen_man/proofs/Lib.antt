@@ -1,4 +1,3 @@
-mod CutOff
 mod PageRead
 mod Parts
 mod Rows

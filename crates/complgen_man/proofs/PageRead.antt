@@ -14,7 +14,7 @@ use Rattle.cc_command.specs.Names.{full_name}
 use Rattle.cc_command.specs.Tree.{Forest, none, more, Tree}
 use Rattle.cc_base.specs.Bytes.{backslash, backtick, dash, double_quote, line_feed, single_quote}
 use Rattle.cc_quote.specs.Escapes.{escaped_byte}
-use Rattle.complgen_man.specs.Page.{about_text, aliases_text, argument_text, arguments_text, bold_text, command_head, command_mark, command_text, command_words, commands_section, commands_text, default_line, default_text, described_text, description, front_text, further_bold, further_value, has_shown, heading_text, is_optional, is_shown_argument, is_shown_option, is_shown_positional, is_shown_value, label_text, labels_text, listed_text, man_page, name_section, name_text, names_text, notes_text, options_mark, options_section, paragraph_text, possible_text, possible_values_text, source_text, spaced_values, synopsis_text, takes_more, title_text, titled_commands, usage_text, value_help_text, value_line, value_text, values_text, where_true}
+use Rattle.complgen_man.specs.Page.{about_text, alias_line, aliases_text, argument_text, arguments_text, bold_text, command_head, command_mark, command_text, command_words, commands_section, commands_text, default_line, default_text, described_text, description, front_text, further_bold, further_value, has_shown, heading_text, is_optional, is_shown_argument, is_shown_option, is_shown_positional, is_shown_value, label_text, labels_text, listed_text, man_page, name_section, name_text, names_text, notes_text, opening_text, options_mark, options_section, paragraph_text, possible_text, possible_values_text, request_text, source_text, spaced_values, synopsis_text, takes_more, title_text, titled_commands, titled_options, usage_text, value_help_text, value_line, value_text, values_text, where_true}
 use Rattle.complgen_man.specs.Reader.{Font, roman, bold, italic, Sign, control, line_end, quote, at_first, inside, glyph}
 use Rattle.complgen_man.specs.Shown.{ReadsBack, about_shown, aliases_shown, argument_shown, arguments_shown, command_shown, commands_shown, default_shown, front_shown, further_alias, further_shown, label_shown, labels_shown, name_section_shown, name_shown, names_shown, notes_shown, page_shown, possible_shown, possible_values_shown, request, signs_where, source_shown, spaced_shown, synopsis_shown, title_begins, title_ends, title_goes_on, title_shown, usage_shown, value_help_shown, value_line_shown, value_shown, values_shown, word, words_shown, prose, prose_sign, shown_byte}
 use Rattle.complgen_man.specs.Roff.{caret, escaped_prose, escaped_word, is_control, is_escaped, prose_replacement, tilde, word_replacement}
@@ -144,7 +144,7 @@ unfolding possible_text
 possible_reads value = then (bold_reads value.name) (value_help_reads value.help)
 
 value_line_reads : (values : List PossibleValue) → Reads (at_first roman) (value_line values) (value_line_shown values) (at_first roman)
-unfolding value_line
+unfolding value_line request_text
 value_line_reads values =
     then
     (then
@@ -158,7 +158,7 @@ possible_values_read None = nothing
 possible_values_read (Some values) = when (list_any is_shown_value values) (value_line_reads values)
 
 default_reads : (value : Option (List ℕ)) → Reads (at_first roman) (default_text value) (default_shown value) (at_first roman)
-unfolding default_line
+unfolding default_line request_text
 default_reads None = nothing
 default_reads (Some value) =
     then
@@ -166,7 +166,7 @@ default_reads (Some value) =
     line_reads
 
 argument_reads : (argument : Arg) → Reads (at_first roman) (argument_text argument) (argument_shown argument) (at_first roman)
-unfolding argument_text described_text
+unfolding argument_text described_text request_text
 argument_reads argument =
     then
     (then (then (fixed (codes ".TP\n\\&") (request (codes "TP")) refl refl) (label_reads argument)) line_reads)
@@ -205,6 +205,7 @@ unfolding further_bold
 alias_reads alias = then comma_reads (bold_reads alias)
 
 aliases_read : (aliases : List (List ℕ)) → Reads (at_first roman) (aliases_text aliases) (aliases_shown aliases) (at_first roman)
+unfolding alias_line request_text
 aliases_read [] = nothing
 aliases_read (alias ∷ aliases) =
     then
@@ -221,11 +222,12 @@ paragraph_begins : Reads (at_first roman) (codes ".PP\n") (request (codes "PP"))
 paragraph_begins = computed refl refl
 
 notes_read : (notes : Option (List ℕ)) → Reads (at_first roman) (notes_text notes) (notes_shown notes) (at_first roman)
+unfolding request_text
 notes_read None = nothing
 notes_read (Some text) = then paragraph_begins (paragraph_reads text)
 
 command_reads : (tree : Tree) → Reads (at_first roman) (command_text tree) (command_shown tree) (at_first roman)
-unfolding command_text command_head
+unfolding command_text command_head request_text
 command_reads tree =
     then
     (then
@@ -255,7 +257,7 @@ source_reads name None = word_reads roman name
 source_reads name (Some version) = then (then (word_reads roman name) space_reads) (word_reads roman version)
 
 title_reads : (name : List ℕ) (version : Option (List ℕ)) → Reads (at_first roman) (title_text name version) (title_shown name version) (at_first roman)
-unfolding title_text
+unfolding title_text request_text
 title_reads name version =
     then
     (then
@@ -270,7 +272,7 @@ about_reads None = nothing
 about_reads (Some about) = then (fixed (codes " \\- ") (word roman (codes " - ")) refl refl) (word_reads roman about)
 
 name_section_reads : (name : List ℕ) (about : Option (List ℕ)) → Reads (at_first roman) (name_section name about) (name_section_shown name about) (at_first roman)
-unfolding name_section
+unfolding name_section request_text
 name_section_reads name about =
     then
     (then
@@ -279,7 +281,7 @@ name_section_reads name about =
     line_reads
 
 front_reads : (tree : Tree) → Reads (at_first roman) (front_text tree) (front_shown tree) (at_first roman)
-unfolding front_text heading_text
+unfolding front_text opening_text heading_text request_text
 front_reads tree =
     then
     (then
@@ -292,7 +294,7 @@ front_reads tree =
     (paragraph_reads (description tree.node))
 
 whole : (tree : Tree) → Reads (at_first roman) (man_page tree) (page_shown tree) (at_first roman)
-unfolding man_page page_shown options_section commands_section titled_commands
+unfolding man_page page_shown options_section titled_options commands_section titled_commands request_text
 whole tree =
     then
     (then

@@ -15,7 +15,11 @@ use Rattle.cc_command.specs.Names.{full_name}
 use Rattle.cc_command.specs.Tree.{Forest, none, more, Tree}
 use Rattle.complgen_man.specs.Roff.{escaped_prose, escaped_word}
 
--- ---- texts in a font, and paragraphs
+-- ---- requests, texts in a font, and paragraphs
+
+-- a text that begins with a request: a period at the start of a line, and its name
+unfoldable pub request_text : List ℕ → List ℕ
+request_text text = codes "." ++ text
 
 unfoldable pub bold_text : List ℕ → List ℕ
 bold_text text = codes "\\fB" ++ escaped_word text ++ codes "\\fR"
@@ -100,7 +104,7 @@ abbrev pub value_list : List PossibleValue → List ℕ
 value_list values = joined (codes ", ") (map possible_text (filter is_shown_value values))
 
 unfoldable pub value_line : List PossibleValue → List ℕ
-value_line values = codes ".br\nPossible values: " ++ value_list values ++ codes "\n"
+value_line values = request_text (codes "br\nPossible values: ") ++ value_list values ++ codes "\n"
 
 -- the line of the values, if one of them is not hidden
 unfoldable pub listed_text : List PossibleValue → List ℕ
@@ -111,7 +115,7 @@ possible_values_text None = []
 possible_values_text (Some values) = listed_text values
 
 unfoldable pub default_line : List ℕ → List ℕ
-default_line value = codes ".br\nDefault: " ++ bold_text value ++ codes "\n"
+default_line value = request_text (codes "br\nDefault: ") ++ bold_text value ++ codes "\n"
 
 abbrev pub default_text : Option (List ℕ) → List ℕ
 default_text None = []
@@ -126,7 +130,7 @@ described_text argument =
 
 unfoldable pub argument_text : Arg → List ℕ
 argument_text argument =
-    codes ".TP\n\\&" ++ label_text argument ++ codes "\n" ++ described_text argument
+    request_text (codes "TP\n\\&") ++ label_text argument ++ codes "\n" ++ described_text argument
 
 -- ---- the arguments of a command
 
@@ -172,10 +176,14 @@ synopsis_text tree =
     ++ flat_map spaced_values (filter is_shown_positional tree.node.arguments)
     ++ command_mark tree ++ codes "\n"
 
+unfoldable pub alias_line : List ℕ → List (List ℕ) → List ℕ
+alias_line alias others =
+    request_text (codes "br\nAliases: ") ++ bold_text alias ++ flat_map further_bold others
+    ++ codes "\n"
+
 abbrev pub aliases_text : List (List ℕ) → List ℕ
 aliases_text [] = []
-aliases_text (alias ∷ aliases) =
-    codes ".br\nAliases: " ++ bold_text alias ++ flat_map further_bold aliases ++ codes "\n"
+aliases_text (alias ∷ aliases) = alias_line alias aliases
 
 unfoldable pub usage_text : Tree → List ℕ
 usage_text tree = synopsis_text tree ++ aliases_text tree.node.visible_aliases
@@ -188,15 +196,15 @@ description node = unwrap_or node.long_about (unwrap_or node.about [])
 
 abbrev pub notes_text : Option (List ℕ) → List ℕ
 notes_text None = []
-notes_text (Some text) = codes ".PP\n" ++ paragraph_text text
+notes_text (Some text) = request_text (codes "PP\n") ++ paragraph_text text
 
 -- ---- the commands below the root, in preorder
 
 -- the title of a command, and how it is called
 unfoldable pub command_head : Tree → List ℕ
 command_head tree =
-    codes ".SS \"" ++ escaped_word (full_name tree.node) ++ codes "\"\n\\&" ++ usage_text tree
-    ++ codes ".PP\n"
+    request_text (codes "SS \"") ++ escaped_word (full_name tree.node) ++ codes "\"\n\\&"
+    ++ usage_text tree ++ request_text (codes "PP\n")
 
 -- a command without those below it
 unfoldable pub command_text : Tree → List ℕ
@@ -224,8 +232,8 @@ source_text name (Some version) = escaped_word name ++ codes " " ++ escaped_word
 -- the title, and no hyphenation
 unfoldable pub title_text : List ℕ → Option (List ℕ) → List ℕ
 title_text name version =
-    codes ".TH \"" ++ escaped_word name ++ codes "\" \"1\" \"\" \"" ++ source_text name version
-    ++ codes "\" \"User Commands\"\n.nh\n"
+    request_text (codes "TH \"") ++ escaped_word name ++ codes "\" \"1\" \"\" \""
+    ++ source_text name version ++ codes "\" \"User Commands\"\n.nh\n"
 
 abbrev pub about_text : Option (List ℕ) → List ℕ
 about_text None = []
@@ -234,24 +242,30 @@ about_text (Some about) = codes " \\- " ++ escaped_word about
 -- the name and what the program is for, as `whatis` reads them
 unfoldable pub name_section : List ℕ → Option (List ℕ) → List ℕ
 name_section name about =
-    codes ".SH NAME\n\\&" ++ escaped_word name ++ about_text about ++ codes "\n"
+    request_text (codes "SH NAME\n\\&") ++ escaped_word name ++ about_text about ++ codes "\n"
 
 unfoldable pub heading_text : Node → List ℕ
 heading_text node =
     title_text (full_name node) node.version ++ name_section (full_name node) node.about
 
+unfoldable pub opening_text : Tree → List ℕ
+opening_text tree =
+    heading_text tree.node ++ request_text (codes "SH SYNOPSIS\n\\&") ++ usage_text tree
+
 unfoldable pub front_text : Tree → List ℕ
 front_text tree =
-    heading_text tree.node ++ codes ".SH SYNOPSIS\n\\&" ++ usage_text tree
-    ++ codes ".SH DESCRIPTION\n" ++ paragraph_text (description tree.node)
+    opening_text tree ++ request_text (codes "SH DESCRIPTION\n")
+    ++ paragraph_text (description tree.node)
+
+unfoldable pub titled_options : Node → List ℕ
+titled_options node = request_text (codes "SH OPTIONS\n") ++ arguments_text node
 
 unfoldable pub options_section : Node → List ℕ
 options_section node =
-    where_true (list_any is_shown_argument node.arguments)
-    (codes ".SH OPTIONS\n" ++ arguments_text node)
+    where_true (list_any is_shown_argument node.arguments) (titled_options node)
 
 unfoldable pub titled_commands : Forest → List ℕ
-titled_commands children = codes ".SH COMMANDS\n" ++ commands_text children
+titled_commands children = request_text (codes "SH COMMANDS\n") ++ commands_text children
 
 unfoldable pub commands_section : Forest → List ℕ
 commands_section children = where_true (has_shown children) (titled_commands children)

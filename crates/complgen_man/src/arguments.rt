@@ -6,13 +6,14 @@ ghost use Rattle.std.specs.Option.{option_copied};
 ghost use Rattle.cc_arg.specs.Arguments.{possible_values};
 ghost use Rattle.cc_base.specs.Joined.{separator};
 ghost use Rattle.cc_base.specs.Writes.{Writes, as_write};
-ghost use Rattle.complgen_man.specs.Page.{argument_text, arguments_text, default_line};
+ghost use Rattle.complgen_man.specs.Page.{argument_text, arguments_text, bold_text, default_line};
 ghost use Rattle.complgen_man.specs.Page.{default_text, described_text, is_shown_option};
 ghost use Rattle.complgen_man.specs.Page.{is_shown_positional, is_shown_value, listed_text};
-ghost use Rattle.complgen_man.specs.Page.{possible_text, possible_values_text, value_help_text};
+ghost use Rattle.complgen_man.specs.Page.{possible_text, possible_values_text, request_text};
+ghost use Rattle.complgen_man.specs.Page.{value_help_text};
 ghost use Rattle.complgen_man.specs.Page.{value_line, value_list};
 
-use crate::escapes::{put_word_between, write_bold, write_paragraph};
+use crate::escapes::{put_request, put_word_between, write_bold, write_paragraph};
 use crate::labels::write_label;
 use cc_arg::{Arg, PossibleValue, possible_values};
 use cc_base::{Sink, put_piece, put_separator};
@@ -76,7 +77,7 @@ fn write_argument<W: Sink>(sink: &mut W, argument: &Arg) -> Result<(), ErrorKind
     ensures { Writes W.taken W.failed (as_write result) sink.old sink.new
         (argument_text argument.now) }
 {
-    put_piece(sink, ".TP\n\\&")?;
+    put_request(sink, "TP\n\\&")?;
     write_label(sink, argument)?;
     put_piece(sink, "\n")?;
     write_described(sink, argument)
@@ -113,11 +114,24 @@ fn write_listed<W: Sink>(sink: &mut W, values: &[PossibleValue]) -> Result<(), E
     write_value_line(sink, values)
 }
 
+#[tactic(auto, unfolding(crate::specs::Page::value_line))]
 fn write_value_line<W: Sink>(sink: &mut W, values: &[PossibleValue]) -> Result<(), ErrorKind>
     ensures { Writes W.taken W.failed (as_write result) sink.old sink.new
         (value_line values.now) }
 {
-    put_piece(sink, ".br\nPossible values: ")?;
+    write_titled_values(sink, "br\nPossible values: ", values)
+}
+
+// Proofs are short if the title is a variable.
+fn write_titled_values<'a, W: Sink>(
+    sink: &mut W,
+    title: &'a str,
+    values: &'a [PossibleValue],
+) -> Result<(), ErrorKind>
+    ensures { Writes W.taken W.failed (as_write result) sink.old sink.new
+        (request_text title.now ++ value_list values.now ++ codes "\n") }
+{
+    put_request(sink, title)?;
     write_values(sink, values)?;
     put_piece(sink, "\n")
 }
@@ -184,8 +198,22 @@ fn write_default<W: Sink>(sink: &mut W, value: Option<&str>) -> Result<(), Error
     }
 }
 
+#[tactic(auto, unfolding(crate::specs::Page::default_line))]
 fn write_default_line<W: Sink>(sink: &mut W, value: &str) -> Result<(), ErrorKind>
     ensures { Writes W.taken W.failed (as_write result) sink.old sink.new (default_line value.now) }
 {
-    put_word_between(sink, ".br\nDefault: \\fB", value, "\\fR\n")
+    write_titled_value(sink, "br\nDefault: ", value)
+}
+
+fn write_titled_value<'a, W: Sink>(
+    sink: &mut W,
+    title: &'a str,
+    value: &'a str,
+) -> Result<(), ErrorKind>
+    ensures { Writes W.taken W.failed (as_write result) sink.old sink.new
+        (request_text title.now ++ bold_text value.now ++ codes "\n") }
+{
+    put_request(sink, title)?;
+    write_bold(sink, value)?;
+    put_piece(sink, "\n")
 }

@@ -3,7 +3,7 @@
 ghost use Rattle.std.specs.Prelude.{◌≡◌, ◌++◌, Some, None, codes, if◌then◌else◌};
 ghost use Rattle.std.specs.Option.{option_copied};
 ghost use Rattle.cc_base.specs.Writes.{Writes, as_write};
-ghost use Rattle.complgen_man.specs.Page.{bold_text, further_bold, paragraph_text};
+ghost use Rattle.complgen_man.specs.Page.{bold_text, further_bold, paragraph_text, request_text};
 ghost use Rattle.complgen_man.specs.Roff.{escaped_prose, escaped_word, is_control};
 
 use cc_base::{Sink, put_piece};
@@ -77,7 +77,16 @@ fn put_prose<W: Sink>(sink: &mut W, text: &str) -> Result<(), ErrorKind>
     put_escaped(sink, &ProseEscape, text)
 }
 
-/// Puts such a text between two others.
+/// Puts a text that begins with a request: a period at the start of a line, and its name.
+#[tactic(auto, using(cc_base::proofs::WrittenTexts::after_bytes), unfolding(crate::specs::Page::request_text))]
+pub(crate) fn put_request<W: Sink>(sink: &mut W, text: &str) -> Result<(), ErrorKind>
+    ensures { Writes W.taken W.failed (as_write result) sink.old sink.new (request_text text.now) }
+{
+    put_piece(sink, ".")?;
+    put_piece(sink, text)
+}
+
+/// Puts a name, or another text that is shown on one line, between two texts.
 pub(crate) fn put_word_between<'a, W: Sink>(
     sink: &mut W,
     before: &'a str,

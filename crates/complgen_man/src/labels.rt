@@ -61,7 +61,7 @@ fn write_name<W: Sink>(sink: &mut W, name: &ShownName<'_>) -> Result<(), ErrorKi
 {
     match name {
         ShownName::Short(short) => write_short(sink, *short),
-        ShownName::Long(long) => { put_word_between(sink, "\\fB\\-\\-", long.as_str(), "\\fR") },
+        ShownName::Long(long) => put_word_between(sink, "\\fB\\-\\-", long.as_str(), "\\fR"),
     }
 }
 

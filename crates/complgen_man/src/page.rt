@@ -9,15 +9,14 @@ ghost use Rattle.cc_command.specs.Built.{built_under};
 ghost use Rattle.cc_command.specs.Tree.{forest_of};
 ghost use Rattle.complgen_man.specs.Outcome.{LeavesBuilt};
 ghost use Rattle.complgen_man.specs.Shown.{ReadsBack};
-ghost use Rattle.complgen_man.specs.Page.{about_text, arguments_text, commands_section, front_text};
-ghost use Rattle.complgen_man.specs.Page.{heading_text};
-ghost use Rattle.complgen_man.specs.Page.{is_shown_argument, man_page, name_section};
+ghost use Rattle.complgen_man.specs.Page.{about_text, commands_section, front_text, heading_text};
+ghost use Rattle.complgen_man.specs.Page.{is_shown_argument, man_page, name_section, opening_text};
 ghost use Rattle.complgen_man.specs.Page.{options_section, source_text, title_text};
-ghost use Rattle.complgen_man.specs.Page.{titled_commands};
+ghost use Rattle.complgen_man.specs.Page.{titled_commands, titled_options};
 
 use crate::arguments::write_arguments;
 use crate::commands::write_commands;
-use crate::escapes::{put_word, put_word_between, write_paragraph};
+use crate::escapes::{put_request, put_word, write_paragraph};
 use crate::usage::{description, has_shown, write_notes, write_usage};
 use cc_arg::Arg;
 use cc_base::{Error, Sink, put_piece};
@@ -81,11 +80,18 @@ fn write_parts<W: Sink>(sink: &mut W, root: &Command) -> Result<(), ErrorKind>
 fn write_front<W: Sink>(sink: &mut W, root: &Command) -> Result<(), ErrorKind>
     ensures { Writes W.taken W.failed (as_write result) sink.old sink.new (front_text root.now) }
 {
-    write_heading(sink, root)?;
-    put_piece(sink, ".SH SYNOPSIS\n\\&")?;
-    write_usage(sink, root)?;
-    put_piece(sink, ".SH DESCRIPTION\n")?;
+    write_opening(sink, root)?;
+    put_request(sink, "SH DESCRIPTION\n")?;
     write_paragraph(sink, description(root))
+}
+
+#[tactic(auto, unfolding(crate::specs::Page::opening_text))]
+fn write_opening<W: Sink>(sink: &mut W, root: &Command) -> Result<(), ErrorKind>
+    ensures { Writes W.taken W.failed (as_write result) sink.old sink.new (opening_text root.now) }
+{
+    write_heading(sink, root)?;
+    put_request(sink, "SH SYNOPSIS\n\\&")?;
+    write_usage(sink, root)
 }
 
 #[tactic(auto, unfolding(crate::specs::Page::heading_text))]
@@ -102,7 +108,9 @@ fn write_title<W: Sink>(sink: &mut W, name: &str, version: Option<&str>) -> Resu
     ensures { Writes W.taken W.failed (as_write result) sink.old sink.new
         (title_text name.now (option_copied version.entry)) }
 {
-    put_word_between(sink, ".TH \"", name, "\" \"1\" \"\" \"")?;
+    put_request(sink, "TH \"")?;
+    put_word(sink, name)?;
+    put_piece(sink, "\" \"1\" \"\" \"")?;
     write_source(sink, name, version)?;
     put_piece(sink, "\" \"User Commands\"\n.nh\n")
 }
@@ -125,7 +133,7 @@ fn write_name<W: Sink>(sink: &mut W, name: &str, about: Option<&str>) -> Result<
     ensures { Writes W.taken W.failed (as_write result) sink.old sink.new
         (name_section name.now (option_copied about.entry)) }
 {
-    put_piece(sink, ".SH NAME\n\\&")?;
+    put_request(sink, "SH NAME\n\\&")?;
     put_word(sink, name)?;
     write_about(sink, about)?;
     put_piece(sink, "\n")
@@ -154,11 +162,12 @@ fn write_options<W: Sink>(sink: &mut W, root: &Command) -> Result<(), ErrorKind>
     write_titled_options(sink, root)
 }
 
+#[tactic(auto, unfolding(crate::specs::Page::titled_options))]
 fn write_titled_options<W: Sink>(sink: &mut W, root: &Command) -> Result<(), ErrorKind>
     ensures { Writes W.taken W.failed (as_write result) sink.old sink.new
-        (codes ".SH OPTIONS\n" ++ arguments_text root.now.node) }
+        (titled_options root.now.node) }
 {
-    put_piece(sink, ".SH OPTIONS\n")?;
+    put_request(sink, "SH OPTIONS\n")?;
     write_arguments(sink, root)
 }
 
@@ -184,6 +193,6 @@ fn write_titled_commands<W: Sink>(sink: &mut W, children: &[Command]) -> Result<
     ensures { Writes W.taken W.failed (as_write result) sink.old sink.new
         (titled_commands (forest_of children.now)) }
 {
-    put_piece(sink, ".SH COMMANDS\n")?;
+    put_request(sink, "SH COMMANDS\n")?;
     write_commands(sink, children)
 }

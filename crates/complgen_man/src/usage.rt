@@ -5,13 +5,14 @@ ghost use Rattle.std.specs.List.{list_any};
 ghost use Rattle.std.specs.Option.{option_copied};
 ghost use Rattle.cc_base.specs.Writes.{Writes, as_write};
 ghost use Rattle.cc_command.specs.Tree.{forest_of};
-ghost use Rattle.complgen_man.specs.Page.{aliases_text, bold_text, command_mark, command_words, description};
-ghost use Rattle.complgen_man.specs.Page.{further_bold, has_shown, is_shown_option};
-ghost use Rattle.complgen_man.specs.Page.{is_shown_positional, notes_text, options_mark};
-ghost use Rattle.complgen_man.specs.Page.{spaced_values, synopsis_text, usage_text};
+ghost use Rattle.complgen_man.specs.Page.{alias_line, aliases_text, bold_text, command_mark};
+ghost use Rattle.complgen_man.specs.Page.{command_words, description, further_bold, has_shown};
+ghost use Rattle.complgen_man.specs.Page.{is_shown_option, is_shown_positional, notes_text};
+ghost use Rattle.complgen_man.specs.Page.{options_mark, request_text, spaced_values};
+ghost use Rattle.complgen_man.specs.Page.{synopsis_text, usage_text};
 
 use crate::arguments::{is_shown_option, is_shown_positional};
-use crate::escapes::{put_word_between, write_bold, write_further_bold, write_paragraph};
+use crate::escapes::{put_request, write_bold, write_further_bold, write_paragraph};
 use crate::labels::write_spaced_values;
 use cc_arg::Arg;
 use cc_base::{Sink, Text, put_piece};
@@ -114,16 +115,30 @@ fn write_aliases<W: Sink>(sink: &mut W, aliases: &[Text]) -> Result<(), ErrorKin
     }
 }
 
+#[tactic(auto, unfolding(crate::specs::Page::alias_line))]
 fn write_alias_line<'a, W: Sink>(
     sink: &mut W,
     alias: &'a str,
     others: &'a [Text],
 ) -> Result<(), ErrorKind>
     ensures { Writes W.taken W.failed (as_write result) sink.old sink.new
-        (codes ".br\nAliases: " ++ bold_text alias.now ++ flat_map further_bold others.now
+        (alias_line alias.now others.now) }
+{
+    write_titled_aliases(sink, "br\nAliases: ", alias, others)
+}
+
+fn write_titled_aliases<'a, W: Sink>(
+    sink: &mut W,
+    title: &'a str,
+    alias: &'a str,
+    others: &'a [Text],
+) -> Result<(), ErrorKind>
+    ensures { Writes W.taken W.failed (as_write result) sink.old sink.new
+        (request_text title.now ++ bold_text alias.now ++ flat_map further_bold others.now
         ++ codes "\n") }
 {
-    put_word_between(sink, ".br\nAliases: \\fB", alias, "\\fR")?;
+    put_request(sink, title)?;
+    write_bold(sink, alias)?;
     write_other_aliases(sink, others)?;
     put_piece(sink, "\n")
 }
@@ -150,7 +165,6 @@ pub(crate) fn description(command: &Command) -> &str
 }
 
 /// Writes the text at the end of a command's help as a paragraph.
-#[tactic(auto, using(cc_base::proofs::WrittenTexts::after_bytes))]
 pub(crate) fn write_notes<W: Sink>(sink: &mut W, notes: Option<&str>) -> Result<(), ErrorKind>
     ensures { Writes W.taken W.failed (as_write result) sink.old sink.new
         (notes_text (option_copied notes.entry)) }
@@ -158,6 +172,6 @@ pub(crate) fn write_notes<W: Sink>(sink: &mut W, notes: Option<&str>) -> Result<
     let Some(notes) = notes else {
         return Ok(());
     };
-    put_piece(sink, ".PP\n")?;
+    put_request(sink, "PP\n")?;
     write_paragraph(sink, notes)
 }

@@ -1,10 +1,7 @@
-use Rattle.std.proofs.Common.{rules}
 use Rattle.cc_base.proofs.WrittenTexts.{writes_then}
-use Rattle.complgen_man.proofs.CutOff.{cut_off}
+use Rattle.complgen_man.specs.Page.{titled_options}
 use Rattle.complgen_man.proofs.page.write_titled_options.Goals as goal
 
-pub returns-in_err-put_piece : goal.returns-in_err-put_piece
-returns-in_err-put_piece g c = cut_off _ _ (search rules) c.in_err-put_piece.ensures.written
-
 pub returns : goal.returns
-returns g c = writes_then _ _ c.in_ok-put_piece.ensures.written c.write_arguments.ensures
+unfolding titled_options
+returns g c = writes_then _ _ c.in_ok-put_request.ensures c.write_arguments.ensures
