@@ -1,8 +1,8 @@
 -- Files and the commands that they describe.
-use Rattle.std.proofs.Common.{◌≡◌, ℕ, List, [], ◌∷◌, None, Option, Some, codes, if◌then◌else◌, is_some, refl, true}
+use Rattle.std.proofs.Common.{◌≡◌, ℕ, List, [], ◌∷◌, None, Option, Some, codes, if◌then◌else◌, refl, true}
 use Rattle.std.specs.Str.{chars}
 use Rattle.serde_json.specs.Data.{Data, null, array, boolean, number, unsigned, object, string, item, no_items}
-use Rattle.serde_json.specs.Data.{Members, member, no_members}
+use Rattle.serde_json.specs.Data.{member, no_members}
 use Rattle.serde_json.specs.Read.{read}
 use Rattle.serde_json.proofs.OnLiterals.{serde_json_on_literals}
 use Rattle.cc_arg.specs.Arguments.{new_arg}
@@ -176,77 +176,3 @@ with_command : argument_of (object (member (codes "id") (string (codes "b"))
     })
 unfolding argument_keys argument_fits argument_in field_from fits_at given list_of
 with_command = refl
-
--- an argument with its id and only these members
-abbrev with_members : Members → Option Arg
-with_members members = argument_of (object (member (codes "id") (string (codes "x")) members))
-
-abbrev words_of : List ℕ → Members
-words_of program = member (codes "values_from") (array (item (string program) no_items)) no_members
-
--- a file below the current directory
-with_file : with_members (member (codes "values_file") (string (codes "hosts")) no_members)
-    ≡ Some (record (new_arg (codes "x")) { values_file = Some (codes "hosts") })
-unfolding argument_keys argument_fits argument_in field_from fits_at given list_of
-with_file = refl
-
--- an absolute path is a program; a relative path, an empty word and `a=b` are none
-absolute_program : is_some (with_members (words_of (codes "/bin/ls"))) ≡ true
-unfolding argument_keys argument_fits argument_in field_from fits_at given list_of
-absolute_program = refl
-
-relative_program : with_members (words_of (codes "./ls")) ≡ None
-unfolding argument_keys argument_fits argument_in field_from fits_at given list_of
-relative_program = refl
-
-program_without_name : with_members (words_of []) ≡ None
-unfolding argument_keys argument_fits argument_in field_from fits_at given list_of
-program_without_name = refl
-
-program_with_equals : with_members (words_of (codes "a=b")) ≡ None
-unfolding argument_keys argument_fits argument_in field_from fits_at given list_of
-program_with_equals = refl
-
--- no words, a word with a NUL, and a word with a vertical tab
-no_words : with_members (member (codes "values_from") (array no_items) no_members) ≡ None
-unfolding argument_keys argument_fits argument_in field_from fits_at given list_of
-no_words = refl
-
-word_with_nul : with_members (member (codes "values_from") (array (item (string (codes "ls"))
-    (item (string (97 ∷ 0 ∷ [])) no_items))) no_members) ≡ None
-unfolding argument_keys argument_fits argument_in field_from fits_at given list_of
-word_with_nul = refl
-
-word_with_tab : with_members (member (codes "values_from") (array (item (string (codes "ls"))
-    (item (string (97 ∷ 11 ∷ [])) no_items))) no_members) ≡ None
-unfolding argument_keys argument_fits argument_in field_from fits_at given list_of
-word_with_tab = refl
-
--- an empty path, a path with a NUL, and an empty separator
-empty_path : with_members (member (codes "values_file") (string []) no_members) ≡ None
-unfolding argument_keys argument_fits argument_in field_from fits_at given list_of
-empty_path = refl
-
-path_with_nul : with_members (member (codes "values_file") (string (97 ∷ 0 ∷ [])) no_members) ≡ None
-unfolding argument_keys argument_fits argument_in field_from fits_at given list_of
-path_with_nul = refl
-
-empty_separator : with_members (member (codes "values_split") (string []) no_members) ≡ None
-unfolding argument_keys argument_fits argument_in field_from fits_at given list_of
-empty_separator = refl
-
--- two sources
-command_and_file : with_members (member (codes "values_file") (string (codes "hosts"))
-    (words_of (codes "ls"))) ≡ None
-unfolding argument_keys argument_fits argument_in field_from fits_at given list_of
-command_and_file = refl
-
-command_and_values : with_members (member (codes "possible_values") (array no_items)
-    (words_of (codes "ls"))) ≡ None
-unfolding argument_keys argument_fits argument_in field_from fits_at given list_of
-command_and_values = refl
-
-file_and_values : with_members (member (codes "possible_values") (array no_items)
-    (member (codes "values_file") (string (codes "hosts")) no_members)) ≡ None
-unfolding argument_keys argument_fits argument_in field_from fits_at given list_of
-file_and_values = refl
