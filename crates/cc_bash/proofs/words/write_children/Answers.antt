@@ -13,11 +13,7 @@ loop-child-preserved g c =
     let items = c.args.children.now in
     let i = c.loop-child.child-index in
     let item = c.child-item.result in
-    words_step _ _ _ _ (visible_names item.node) (sibling_names (forest_of (drop (i + 1) items)))
-    (ap (λ commands. sibling_names (forest_of commands))
-    (one_more items i item item c.loop-child-test.true c.child-item.is))
-    c.loop-child.invariant c.in_ok-write_names.ensures.written
-    (c.in_ok-write_names.ensures.begun ∙ sym (or-true c.loop-child.begun))
+    words_step _ _ _ _ (visible_names item.node) (sibling_names (forest_of (drop (i + 1) items))) (ap (λ commands. sibling_names (forest_of commands)) (one_more items i item item c.loop-child-test.true c.child-item.is)) c.loop-child.invariant c.in_ok-write_names.ensures.written (c.in_ok-write_names.ensures.begun ∙ sym (or-true c.loop-child.begun))
 
 pub returns-in_err-write_names : goal.returns-in_err-write_names
 returns-in_err-write_names g c =
@@ -25,8 +21,4 @@ returns-in_err-write_names g c =
     let items = c.args.children.now in
     let i = c.loop-child.child-index in
     let item = c.child-item.result in
-    rw (p.1, p.2) (words_stop _ _ _ _ (visible_names item.node)
-    (sibling_names (forest_of (drop (i + 1) items)))
-    (ap (λ commands. sibling_names (forest_of commands))
-    (one_more items i item item c.loop-child-test.true c.child-item.is))
-    c.loop-child.invariant c.in_err-write_names.ensures.written)
+    rw (p.1, p.2) (words_stop _ _ _ _ (visible_names item.node) (sibling_names (forest_of (drop (i + 1) items))) (ap (λ commands. sibling_names (forest_of commands)) (one_more items i item item c.loop-child-test.true c.child-item.is)) c.loop-child.invariant c.in_err-write_names.ensures.written)

@@ -10,12 +10,7 @@ loop-argument-preserved g c =
     let items = c.args.arguments.now in
     let i = c.loop-argument.argument-index in
     let item = c.argument-item.result in
-    words_step _ _ _ _ (part_words c.args.part item)
-    (flat_map (part_words c.args.part) (drop (i + 1) items))
-    (ap (flat_map (part_words c.args.part))
-    (one_more items i item item c.loop-argument-test.true c.argument-item.is))
-    c.loop-argument.invariant c.in_ok-write_argument_words.ensures.written
-    c.in_ok-write_argument_words.ensures.begun
+    words_step _ _ _ _ (part_words c.args.part item) (flat_map (part_words c.args.part) (drop (i + 1) items)) (ap (flat_map (part_words c.args.part)) (one_more items i item item c.loop-argument-test.true c.argument-item.is)) c.loop-argument.invariant c.in_ok-write_argument_words.ensures.written c.in_ok-write_argument_words.ensures.begun
 
 pub returns-in_err-write_argument_words-clause-written : goal.returns-in_err-write_argument_words-clause-written
 returns-in_err-write_argument_words-clause-written g c =
@@ -23,8 +18,4 @@ returns-in_err-write_argument_words-clause-written g c =
     let items = c.args.arguments.now in
     let i = c.loop-argument.argument-index in
     let item = c.argument-item.result in
-    rw (p.1, p.2) (words_stop _ _ _ _ (part_words c.args.part item)
-    (flat_map (part_words c.args.part) (drop (i + 1) items))
-    (ap (flat_map (part_words c.args.part))
-    (one_more items i item item c.loop-argument-test.true c.argument-item.is))
-    c.loop-argument.invariant c.in_err-write_argument_words.ensures.written)
+    rw (p.1, p.2) (words_stop _ _ _ _ (part_words c.args.part item) (flat_map (part_words c.args.part) (drop (i + 1) items)) (ap (flat_map (part_words c.args.part)) (one_more items i item item c.loop-argument-test.true c.argument-item.is)) c.loop-argument.invariant c.in_err-write_argument_words.ensures.written)

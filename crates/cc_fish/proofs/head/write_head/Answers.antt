@@ -15,25 +15,15 @@ begin_is function = refl
 pub returns-in_err-put_around : goal.returns-in_err-put_around
 returns-in_err-put_around g c =
     let inhabited : has_nodes c.args.command.now.children ≡ true = search rules in
-    put_stopped _ c.from_residual.ensures.1
-    (writes_same _ _ (head_parts c.args.function.now c.args.command.now _ refl inhabited)
-    (stops_before _ _ (stops_before _ _
-    (writes_same _ _ (begin_is c.args.function.now) c.in_err-put_around.ensures))))
+    put_stopped _ c.from_residual.ensures.1 (writes_same _ _ (head_parts c.args.function.now c.args.command.now _ refl inhabited) (stops_before _ _ (stops_before _ _ (writes_same _ _ (begin_is c.args.function.now) c.in_err-put_around.ensures))))
 
 pub returns-in_err-write_specs : goal.returns-in_err-write_specs
 returns-in_err-write_specs g c =
     let inhabited : has_nodes c.args.command.now.children ≡ true = search rules in
-    put_stopped _ c.from_residual-in_err-write_specs.ensures.1
-    (writes_same _ _ (head_parts c.args.function.now c.args.command.now _ c.get_arguments.ensures inhabited)
-    (stops_before _ _ (writes_then _ _
-    (writes_same _ _ (begin_is c.args.function.now) c.in_ok-put_around.ensures)
-    c.in_err-write_specs.ensures)))
+    put_stopped _ c.from_residual-in_err-write_specs.ensures.1 (writes_same _ _ (head_parts c.args.function.now c.args.command.now _ c.get_arguments.ensures inhabited) (stops_before _ _ (writes_then _ _ (writes_same _ _ (begin_is c.args.function.now) c.in_ok-put_around.ensures) c.in_err-write_specs.ensures)))
 
 pub returns : goal.returns
 unfolding optspecs_begin optspecs_join
 returns g c =
     let inhabited : has_nodes c.args.command.now.children ≡ true = search rules in
-    writes_same _ _
-    (head_parts c.args.function.now c.args.command.now _ c.get_arguments.ensures inhabited)
-    (writes_then _ _ (writes_then _ _ c.in_ok-put_around.ensures c.in_ok-write_specs.ensures)
-    c.write_functions.ensures)
+    writes_same _ _ (head_parts c.args.function.now c.args.command.now _ c.get_arguments.ensures inhabited) (writes_then _ _ (writes_then _ _ c.in_ok-put_around.ensures c.in_ok-write_specs.ensures) c.write_functions.ensures)

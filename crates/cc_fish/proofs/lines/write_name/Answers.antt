@@ -10,11 +10,4 @@ regroup a b c d e f g = simp append_assoc
 
 pub returns : goal.returns
 unfolding child_text
-returns g c =
-    writes_same _ _
-    (regroup c.args.front.now _ (codes " -a \"") c.args.name.now (codes "\"")
-    (help_text (option_copied c.args.about)) (line_feed ∷ []))
-    (writes_then _ _ (writes_then _ _ (writes_then _ _ (writes_then _ _
-    c.in_ok-put_piece.ensures.written
-    (writes_same _ _ c.no_files_mark.ensures c.in_ok-put_piece-2.ensures.written))
-    c.in_ok-put_around.ensures) c.in_ok-write_help.ensures) c.put_piece-3.ensures.written)
+returns g c = writes_same _ _ (regroup c.args.front.now _ (codes " -a \"") c.args.name.now (codes "\"") (help_text (option_copied c.args.about)) (line_feed ∷ [])) (writes_then _ _ (writes_then _ _ (writes_then _ _ (writes_then _ _ c.in_ok-put_piece.ensures.written (writes_same _ _ c.no_files_mark.ensures c.in_ok-put_piece-2.ensures.written)) c.in_ok-put_around.ensures) c.in_ok-write_help.ensures) c.put_piece-3.ensures.written)

@@ -11,18 +11,12 @@ begin_is = refl
 
 pub returns-in_err-put_piece : goal.returns-in_err-put_piece
 unfolding listed_text
-returns-in_err-put_piece g c =
-    put_stopped _ c.from_residual.ensures.1 (stops_before _ _ (stops_before _ _
-    (writes_same _ _ begin_is c.in_err-put_piece.ensures.written)))
+returns-in_err-put_piece g c = put_stopped _ c.from_residual.ensures.1 (stops_before _ _ (stops_before _ _ (writes_same _ _ begin_is c.in_err-put_piece.ensures.written)))
 
 pub returns-in_err-write_lines : goal.returns-in_err-write_lines
 unfolding listed_text
-returns-in_err-write_lines g c =
-    put_stopped _ c.from_residual-in_err-write_lines.ensures.1 (stops_before _ _ (writes_then _ _
-    (writes_same _ _ begin_is c.in_ok-put_piece.ensures.written) c.in_err-write_lines.ensures))
+returns-in_err-write_lines g c = put_stopped _ c.from_residual-in_err-write_lines.ensures.1 (stops_before _ _ (writes_then _ _ (writes_same _ _ begin_is c.in_ok-put_piece.ensures.written) c.in_err-write_lines.ensures))
 
 pub returns : goal.returns
 unfolding list_begin listed_text
-returns g c =
-    writes_then _ _ (writes_then _ _ c.in_ok-put_piece.ensures.written c.in_ok-write_lines.ensures)
-    c.put_piece-2.ensures.written
+returns g c = writes_then _ _ (writes_then _ _ c.in_ok-put_piece.ensures.written c.in_ok-write_lines.ensures) c.put_piece-2.ensures.written

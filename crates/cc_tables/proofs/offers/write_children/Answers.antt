@@ -13,7 +13,4 @@ returns-in_err-write_child g c =
     let items = c.args.children.now in
     let i = c.loop-child.child-index in
     let item = c.child-item.result in
-    rw (p.1, p.2) (stops_at (λ commands. flat_map row (children_offers (forest_of commands)))
-    items i item _ c.loop-child-test.true c.child-item.is
-    (flat_map-append row (child_offers item.node) (children_offers (forest_of (drop (i + 1) items))))
-    c.loop-child.invariant c.in_err-write_child.ensures)
+    rw (p.1, p.2) (stops_at (λ commands. flat_map row (children_offers (forest_of commands))) items i item _ c.loop-child-test.true c.child-item.is (flat_map-append row (child_offers item.node) (children_offers (forest_of (drop (i + 1) items)))) c.loop-child.invariant c.in_err-write_child.ensures)

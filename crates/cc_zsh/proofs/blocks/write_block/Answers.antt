@@ -15,19 +15,10 @@ pub returns-in_err-write_below : goal.returns-in_err-write_below
 unfolding block_text flags_text options_text
 returns-in_err-write_below g c =
     let lines = flat_map (argument_text c.args.above.now.node c.args.command.now.node) in
-    put_stopped _ c.from_residual-in_err-write_below.ensures.1 (stops_before _ block_ends
-    (writes_then _ _ (writes_then _ _ (writes_then _ _ (writes_then _ _
-    (writes_same _ _ begins_is c.in_ok-put_piece.ensures.written)
-    (writes_same _ _ (ap lines c.get_opts.ensures) c.in_ok-write_arguments.ensures))
-    (writes_same _ _ (ap lines c.get_flags.ensures) c.in_ok-write_arguments-2.ensures))
-    c.in_ok-write_positionals.ensures) c.in_err-write_below.ensures))
+    put_stopped _ c.from_residual-in_err-write_below.ensures.1 (stops_before _ block_ends (writes_then _ _ (writes_then _ _ (writes_then _ _ (writes_then _ _ (writes_same _ _ begins_is c.in_ok-put_piece.ensures.written) (writes_same _ _ (ap lines c.get_opts.ensures) c.in_ok-write_arguments.ensures)) (writes_same _ _ (ap lines c.get_flags.ensures) c.in_ok-write_arguments-2.ensures)) c.in_ok-write_positionals.ensures) c.in_err-write_below.ensures))
 
 pub returns : goal.returns
 unfolding block_text fixed_texts flags_text options_text
 returns g c =
     let lines = flat_map (argument_text c.args.above.now.node c.args.command.now.node) in
-    writes_then _ _ (writes_then _ _ (writes_then _ _ (writes_then _ _ (writes_then _ _
-    c.in_ok-put_piece.ensures.written
-    (writes_same _ _ (ap lines c.get_opts.ensures) c.in_ok-write_arguments.ensures))
-    (writes_same _ _ (ap lines c.get_flags.ensures) c.in_ok-write_arguments-2.ensures))
-    c.in_ok-write_positionals.ensures) c.in_ok-write_below.ensures) c.put_piece-2.ensures.written
+    writes_then _ _ (writes_then _ _ (writes_then _ _ (writes_then _ _ (writes_then _ _ c.in_ok-put_piece.ensures.written (writes_same _ _ (ap lines c.get_opts.ensures) c.in_ok-write_arguments.ensures)) (writes_same _ _ (ap lines c.get_flags.ensures) c.in_ok-write_arguments-2.ensures)) c.in_ok-write_positionals.ensures) c.in_ok-write_below.ensures) c.put_piece-2.ensures.written

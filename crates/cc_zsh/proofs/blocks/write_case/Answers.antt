@@ -19,30 +19,16 @@ regroup p d a i b c = simp append_assoc
 
 parts : (node : Node) (index : List ℕ) → (before index node.name ++ context_text node) ++ after index ≡ case_text node index
 unfolding case_text
-parts node index =
-    regroup (before index node.name) (context_text node) context_command index case_line case_line_in
+parts node index = regroup (before index node.name) (context_text node) context_command index case_line case_line_in
 
 pub returns-in_err-put_pieces : goal.returns-in_err-put_pieces
 unfolding fixed_texts
-returns-in_err-put_pieces g c =
-    put_stopped _ c.from_residual.ensures.1
-    (writes_same _ _ (parts c.args.command.now.node c.args.index.now)
-    (stops_before _ (after c.args.index.now) (stops_before _ (context_text c.args.command.now.node)
-    (writes_same _ _ (ap (before c.args.index.now) c.get_name-name.ensures) c.in_err-put_pieces.ensures))))
+returns-in_err-put_pieces g c = put_stopped _ c.from_residual.ensures.1 (writes_same _ _ (parts c.args.command.now.node c.args.index.now) (stops_before _ (after c.args.index.now) (stops_before _ (context_text c.args.command.now.node) (writes_same _ _ (ap (before c.args.index.now) c.get_name-name.ensures) c.in_err-put_pieces.ensures))))
 
 pub returns-in_err-write_dashed : goal.returns-in_err-write_dashed
 unfolding fixed_texts
-returns-in_err-write_dashed g c =
-    put_stopped _ c.from_residual-in_err-write_dashed.ensures.1
-    (writes_same _ _ (parts c.args.command.now.node c.args.index.now)
-    (stops_before _ (after c.args.index.now) (writes_then _ _
-    (writes_same _ _ (ap (before c.args.index.now) c.get_name-name.ensures) c.in_ok-put_pieces.ensures)
-    (writes_same _ _ (ap (replace_byte space (codes "-")) c.full_name.ensures) c.in_err-write_dashed.ensures))))
+returns-in_err-write_dashed g c = put_stopped _ c.from_residual-in_err-write_dashed.ensures.1 (writes_same _ _ (parts c.args.command.now.node c.args.index.now) (stops_before _ (after c.args.index.now) (writes_then _ _ (writes_same _ _ (ap (before c.args.index.now) c.get_name-name.ensures) c.in_ok-put_pieces.ensures) (writes_same _ _ (ap (replace_byte space (codes "-")) c.full_name.ensures) c.in_err-write_dashed.ensures))))
 
 pub returns : goal.returns
 unfolding fixed_texts
-returns g c =
-    writes_same _ _ (parts c.args.command.now.node c.args.index.now) (writes_then _ _ (writes_then _ _
-    (writes_same _ _ (ap (before c.args.index.now) c.get_name-name.ensures) c.in_ok-put_pieces.ensures)
-    (writes_same _ _ (ap (replace_byte space (codes "-")) c.full_name.ensures) c.in_ok-write_dashed.ensures))
-    c.put_pieces-2.ensures)
+returns g c = writes_same _ _ (parts c.args.command.now.node c.args.index.now) (writes_then _ _ (writes_then _ _ (writes_same _ _ (ap (before c.args.index.now) c.get_name-name.ensures) c.in_ok-put_pieces.ensures) (writes_same _ _ (ap (replace_byte space (codes "-")) c.full_name.ensures) c.in_ok-write_dashed.ensures)) c.put_pieces-2.ensures)

@@ -43,9 +43,4 @@ returns-in_err-write_first g c =
     let item = c.id-item.result in
     let left = drop (i + 1) items in
     let found = option_to_list (first_with_id arguments item) in
-    rw (p.1, p.2) (stops_joined (codes " ") c.loop-id.begun _ _ (conflict_words found)
-    (conflict_words (with_ids arguments left))
-    (ap (λ ids. conflict_words (with_ids arguments ids))
-    (one_more items i item item c.loop-id-test.true c.id-item.is)
-    ∙ flat_map-append own_words found (with_ids arguments left))
-    c.loop-id.invariant c.in_err-write_first.ensures.written)
+    rw (p.1, p.2) (stops_joined (codes " ") c.loop-id.begun _ _ (conflict_words found) (conflict_words (with_ids arguments left)) (ap (λ ids. conflict_words (with_ids arguments ids)) (one_more items i item item c.loop-id-test.true c.id-item.is) ∙ flat_map-append own_words found (with_ids arguments left)) c.loop-id.invariant c.in_err-write_first.ensures.written)

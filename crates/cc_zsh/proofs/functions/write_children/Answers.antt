@@ -11,9 +11,4 @@ returns-in_err-write_child g c =
     let items = c.args.children.now in
     let i = c.loop-child.child-index in
     let item = c.child-item.result in
-    put_stopped _ c.from_residual.ensures.1
-    (stops_at (λ commands. flat_map entry_text (entries_of (forest_of commands)))
-    items i item _ c.loop-child-test.true c.child-item.is
-    (flat_map-append entry_text (map (entry item.node) (visible_names item.node))
-    (entries_of (forest_of (drop (i + 1) items))))
-    c.loop-child.invariant c.in_err-write_child.ensures)
+    put_stopped _ c.from_residual.ensures.1 (stops_at (λ commands. flat_map entry_text (entries_of (forest_of commands))) items i item _ c.loop-child-test.true c.child-item.is (flat_map-append entry_text (map (entry item.node) (visible_names item.node)) (entries_of (forest_of (drop (i + 1) items)))) c.loop-child.invariant c.in_err-write_child.ensures)

@@ -14,10 +14,7 @@ row_written : (offer : Offer) →
     ++ (capital_space offer.kind offer.name ++ kind_begin ++ kind_text (result_kind offer.kind)
     ++ text_begin)) ++ powershell_escaped (offer_row offer).text) ++ codes "')" ≡ offer_text offer
 unfolding offer_text row_text words_text details_text row_end
-row_written offer =
-    regroup row_begin (word offer) list_begin (capital_space offer.kind offer.name) kind_begin
-    (kind_text (result_kind offer.kind)) text_begin (powershell_escaped (offer_row offer).text)
-    (codes "')")
+row_written offer = regroup row_begin (word offer) list_begin (capital_space offer.kind offer.name) kind_begin (kind_text (result_kind offer.kind)) text_begin (powershell_escaped (offer_row offer).text) (codes "')")
   where
     regroup : (a b c d e f g h i : List ℕ) →
         ((a ++ b ++ c ++ b ++ (d ++ e ++ f ++ g)) ++ h) ++ i
@@ -26,15 +23,8 @@ row_written offer =
 
 pub returns-in_err-put_escaped : goal.returns-in_err-put_escaped
 returns-in_err-put_escaped g c =
-    let p = err_from_is_err_and c.from_residual-in_err-put_escaped.result
-    c.from_residual-in_err-put_escaped.ensures.1 in
-    rw (p.1, p.2) (writes_same _ _ (row_written c.args.offer.now) (stops_before _ _
-    (writes_then _ _ c.in_ok-write_words.ensures
-    (writes_same _ _ (ap powershell_escaped c.shown_text.ensures) c.in_err-put_escaped.ensures))))
+    let p = err_from_is_err_and c.from_residual-in_err-put_escaped.result c.from_residual-in_err-put_escaped.ensures.1 in
+    rw (p.1, p.2) (writes_same _ _ (row_written c.args.offer.now) (stops_before _ _ (writes_then _ _ c.in_ok-write_words.ensures (writes_same _ _ (ap powershell_escaped c.shown_text.ensures) c.in_err-put_escaped.ensures))))
 
 pub returns : goal.returns
-returns g c =
-    writes_same _ _ (row_written c.args.offer.now) (writes_then _ _
-    (writes_then _ _ c.in_ok-write_words.ensures
-    (writes_same _ _ (ap powershell_escaped c.shown_text.ensures) c.in_ok-put_escaped.ensures))
-    c.put_piece.ensures.written)
+returns g c = writes_same _ _ (row_written c.args.offer.now) (writes_then _ _ (writes_then _ _ c.in_ok-write_words.ensures (writes_same _ _ (ap powershell_escaped c.shown_text.ensures) c.in_ok-put_escaped.ensures)) c.put_piece.ensures.written)
