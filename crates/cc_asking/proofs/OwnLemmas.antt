@@ -129,7 +129,7 @@ module _ {S : Type 0} (taken : S → List ℕ) (failures : S → Failures)
       → Writes taken failures (Err error) old new (written_bytes (seen answer)) → IsWrite error
       → EndsOwn taken failures AnswersWith old new (Err error)
   unwritten answer (Write kind) is writes only =
-      write_failed (seen answer) kind (is_some answer is) writes.failures
+      write_failed (seen answer) kind (is_some answer is) writes.begun writes.failures
   unwritten answer _ is writes only = absurd only
 
   -- the whole answer is written

@@ -27,7 +27,7 @@ impl Answer {
 ///
 /// # Errors
 ///
-/// `Write` if `out` fails, which may then hold part of the answer.
+/// `Write` if `out` fails, which then holds a beginning of the answer.
 pub fn write_answer<W: Sink>(answer: &Answer, out: &mut W) -> Result<(), Error>
     ensures written { Writes W.taken W.failed result out.old out.new
         (written_bytes (seen answer.now)) }
@@ -54,6 +54,7 @@ pub fn write_run_words<W: Sink>(words: &[Text], out: &mut W) -> Result<(), Error
     Ok(put_words(words, out)?)
 }
 
+#[tactic(auto, using(cc_base::proofs::WrittenTexts::in_steps))]
 fn put_words<W: Sink>(words: &[Text], out: &mut W) -> Result<(), ErrorKind>
     ensures { Writes W.taken W.failed (as_write result) out.old out.new (written_words words.now) }
 {
