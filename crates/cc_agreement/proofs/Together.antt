@@ -2,9 +2,11 @@
 use Rattle.std.proofs.Common.{◌≡◌, ◌∙◌, ap, sym, subst, inl, inr, ℕ, List, ◌++◌, Some, Result, Ok, Err, IfErr, IfOk, IsTrue, OnOk, refl, [], ◌∷◌, Option, None, suc, Bool, true, false, cond, ◌||◌, ◌&&◌}
 use Rattle.std.specs.Prelude.{unwrap_or, ⊤}
 use Rattle.std.proofs.lemmas.Bool.{and_from, and_parts}
+use Rattle.std.proofs.lemmas.List.{append-nil}
 use Rattle.cc_base.specs.declared.error.Error.{Error}
 use Rattle.cc_base.specs.declared.error.Error.TheVariants as error
 use Rattle.cc_base.specs.declared.failures.Failures.{Failures}
+use Rattle.cc_base.specs.Partly.{partly, partly_self}
 use Rattle.cc_base.specs.Writes.{CountsWrite}
 use Rattle.cc_bash.specs.Reads.{BashReads, arm_at}
 use Rattle.cc_bash.specs.Script.{bash_script}
@@ -14,6 +16,7 @@ use Rattle.cc_command.specs.Plain.{is_plain_tree}
 use Rattle.cc_base.specs.PlainName.{is_plain_name}
 use Rattle.cc_command.specs.Tree.{Tree, Forest, none, more, join}
 use Rattle.cc_command.proofs.BuiltAgain.{built_tree-again}
+use Rattle.cc_generator.proofs.Stopped.{part_later}
 use Rattle.cc_engine.specs.Completion.{Completes, Refuses, words_before}
 use Rattle.cc_gather.specs.Values.{MayReturn}
 use Rattle.cc_walk.specs.Visible.{HasNoHiddenAlias, visible_end, has_no_hidden_alias, shows}
@@ -259,6 +262,12 @@ all_agree items sources bin_name old mid new words index (Ok found) made again r
     completes
 all_agree items sources bin_name old mid new words index (Err e) made again reads completes = tt
 
+-- the whole text is a beginning of it
+whole_begun : (old new text : List ℕ) → new ≡ old ++ text → partly new old text ≡ true
+whole_begun old new text is =
+    subst (λ t. partly new old t ≡ true) (append-nil text)
+    (part_later old new new text [] is (partly_self new []))
+
 -- the errors of a second call that finds no candidates
 pub second_fails : {A : Type 0} (bin_name taken_old taken_new : List ℕ) (old mid new : Tree)
     (count index : ℕ) (result : Result A Error) → mid ≡ built_under (Some bin_name) old
@@ -269,9 +278,9 @@ pub second_fails : {A : Type 0} (bin_name taken_old taken_new : List ℕ) (old m
 second_fails bin_name taken_old taken_new old mid new count index (Ok found) made written refuses =
     tt
 second_fails bin_name taken_old taken_new old mid new count index (Err error.Memory) made written
-    (inl same) = inr (same ∙ made)
+    (inl same) = inr (same ∙ made, whole_begun _ _ _ written)
 second_fails bin_name taken_old taken_new old mid new count index (Err error.Memory) made written
-    (inr again) = inr (stays_built bin_name old mid new made again)
+    (inr again) = inr (stays_built bin_name old mid new made again, whole_begun _ _ _ written)
 second_fails bin_name taken_old taken_new old mid new count index (Err error.NoCompletion) made
     written refuses = (stays_built bin_name old mid new made refuses.0, refuses.1, written)
 second_fails bin_name taken_old taken_new old mid new count index (Err _) made written refuses =

@@ -1,7 +1,8 @@
 -- The label to which the cases of a bash script lead, and the candidates there.
-use Rattle.std.specs.Prelude.{◌≡◌, ◌⊎◌, ◌++◌, ℕ, List, [], false, get_or, Some, IsTrue}
+use Rattle.std.specs.Prelude.{◌≡◌, ◌⊎◌, ◌++◌, ℕ, List, [], false, true, get_or, Some, IsTrue}
 use Rattle.cc_base.specs.declared.error.Error.{Error}
 use Rattle.cc_base.specs.declared.error.Error.TheVariants.{LabelClash, Memory, NoCompletion, Write}
+use Rattle.cc_base.specs.Partly.{partly}
 use Rattle.cc_bash.specs.Arms.{tree_arms}
 use Rattle.cc_bash.specs.CaseTable.{tree_cases, run_end}
 use Rattle.cc_bash.specs.Labels.{root_label, shared_label}
@@ -51,14 +52,17 @@ pub record AgreesWithBash (sources : MayReturn) (root : Tree) (words : List (Lis
 -- The errors of a call that writes a script and then gathers candidates, by what its sink holds
 -- before and after it:
 --
--- - out of memory: the tree is unchanged and nothing is written, or the tree is built;
--- - a write failed: the tree is built;
+-- - out of memory: the tree is unchanged and nothing is written, or the tree is built, and a
+--   beginning of the script is written;
+-- - a write failed: the tree is built, and a beginning of the script is written;
 -- - two nodes share a label: the tree is built, and nothing is written;
 -- - the index is out of range: the tree is built, and the script is written.
 abbrev pub FailsBefore : Tree → Tree → Tree → List ℕ → List ℕ → ℕ → ℕ → Error → Type 0
 FailsBefore old new built before after count index Memory =
-    ((new ≡ old) × (after ≡ before)) ⊎ (new ≡ built)
-FailsBefore old new built before after count index (Write kind) = new ≡ built
+    ((new ≡ old) × (after ≡ before))
+    ⊎ ((new ≡ built) × (partly after before (bash_script built) ≡ true))
+FailsBefore old new built before after count index (Write kind) =
+    (new ≡ built) × (partly after before (bash_script built) ≡ true)
 FailsBefore old new built before after count index (LabelClash label) =
     (new ≡ built) × (shared_label built ≡ Some label) × (after ≡ before)
 FailsBefore old new built before after count index NoCompletion =

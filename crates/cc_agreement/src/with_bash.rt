@@ -28,7 +28,8 @@ use std::alloc::Global;
 ///
 /// `Write` if the sink fails. `LabelClash`, before anything is written, if two commands share a
 /// label. `NoCompletion`, after the script, if no word, or the program's name, is at the index.
-/// `Memory` if an allocation fails. After an error of the script, no candidates are gathered.
+/// `Memory` if an allocation fails. After an error of the script, the sink holds a beginning of it,
+/// and no candidates are gathered.
 pub fn bash_script_and_candidates<L: Lookup, W: Sink>(
     alloc: Global,
     command: &mut Command,

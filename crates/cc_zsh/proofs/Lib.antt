@@ -4,6 +4,7 @@ pub mod BlockRead
 pub mod Cutting
 pub mod EscapedValues
 pub mod Examples
+pub mod FixedParts
 pub mod FunctionsRead
 pub mod Labels
 pub mod LastBytes

@@ -246,5 +246,5 @@ generated taken failed root at result old new stays ready is writes =
   where
     of : (r : Result (Unit {0}) Error) → Writes taken failed r old new (zsh_script root) →
         Generates taken failed zsh_spec root r old new
-    of (Ok u) w = record { ok = w.ok; reads = ready_reads_back root stays ready; clashes = tt; failures = w.failures }
-    of (Err error) w = record { ok = tt; reads = tt; clashes = w.kinds; failures = w.failures }
+    of (Ok u) w = record { ok = w.ok; begun = tt; reads = ready_reads_back root stays ready; clashes = tt; failures = w.failures }
+    of (Err error) w = record { ok = tt; begun = w.begun; reads = tt; clashes = w.kinds; failures = w.failures }

@@ -71,6 +71,7 @@ fn write_arms<W: Sink>(alloc: Global, sink: &mut W, flat: &Flat<'_>) -> Result<(
     write_steps(alloc, sink, steps)
 }
 
+#[tactic(auto, using(cc_base::proofs::WrittenTexts::in_steps))]
 fn write_steps<W: Sink>(
     alloc: Global,
     sink: &mut W,
@@ -95,7 +96,7 @@ fn write_step<W: Sink>(alloc: Global, sink: &mut W, step: &PathStep<'_>) -> Resu
 }
 
 // Begins the arm of a node. The arms of its children follow, and `write_leave` ends the arm.
-#[tactic(auto, unfolding(crate::specs::Steps::enter_text, crate::specs::Steps::nested_opens))]
+#[tactic(auto, using(cc_base::proofs::WrittenTexts::after_bytes), unfolding(crate::specs::Steps::enter_text, crate::specs::Steps::nested_opens))]
 fn write_enter<W: Sink>(alloc: Global, sink: &mut W, visit: &Visit<'_>) -> Result<(), Error>
     ensures { Writes W.taken W.failed result sink.old sink.new (enter_text (visit_of visit.now)) }
 {
@@ -107,6 +108,7 @@ fn write_enter<W: Sink>(alloc: Global, sink: &mut W, visit: &Visit<'_>) -> Resul
     write_nested_begins(alloc, sink, visit.command)
 }
 
+#[tactic(auto, using(cc_base::proofs::WrittenTexts::after_bytes))]
 fn write_arm_begins<W: Sink>(sink: &mut W, visit: &Visit<'_>) -> Result<(), ErrorKind>
     ensures { Writes W.taken W.failed (as_write result) sink.old sink.new
         (arm_begins visit.now.key (block_text visit.now.above.now.node visit.now.command.now)) }
@@ -125,6 +127,7 @@ fn write_leave<W: Sink>(sink: &mut W, command: &Command) -> Result<(), ErrorKind
     put_pieces(sink, &[NESTED_ENDS, ARM_ENDS])
 }
 
+#[tactic(auto, using(crate::proofs::FixedParts::in_blocks), unfolding(crate::specs::Nested::block_text, crate::specs::Options::options_text, crate::specs::Options::flags_text))]
 fn write_block<W: Sink>(sink: &mut W, above: &Command, command: &Command) -> Result<(), ErrorKind>
     ensures { Writes W.taken W.failed (as_write result) sink.old sink.new
         (block_text above.now.node command.now) }
@@ -150,6 +153,7 @@ fn write_below<W: Sink>(sink: &mut W, command: &Command) -> Result<(), ErrorKind
     Ok(())
 }
 
+#[tactic(auto, using(crate::proofs::FixedParts::in_blocks), unfolding(crate::specs::Nested::children_text))]
 fn write_children<W: Sink>(sink: &mut W, command: &Command) -> Result<(), ErrorKind>
     ensures { Writes W.taken W.failed (as_write result) sink.old sink.new
         (children_text command.now.node) }
@@ -158,7 +162,8 @@ fn write_children<W: Sink>(sink: &mut W, command: &Command) -> Result<(), ErrorK
     write_label(sink, full_name(command))?;
     put_piece(sink, STATE_BEGINS)?;
     put_piece(sink, command.get_name())?;
-    put_piece(sink, STATE_ENDS)
+    put_piece(sink, STATE_ENDS)?;
+    Ok(())
 }
 
 fn write_nested_begins<W: Sink>(alloc: Global, sink: &mut W, command: &Command) -> Result<(), Error>
@@ -178,17 +183,11 @@ fn write_case<'a, W: Sink>(
     ensures { Writes W.taken W.failed (as_write result) sink.old sink.new
         (case_text command.now.node index.now) }
 {
-    put_piece(sink, CASE_STATE)?;
-    put_piece(sink, command.get_name())?;
-    put_piece(sink, SET_WORDS)?;
-    put_piece(sink, index)?;
-    put_piece(sink, SET_CONTEXT)?;
+    let name = command.get_name();
+    put_pieces(sink, &[CASE_STATE, name, SET_WORDS, index, SET_CONTEXT])?;
     write_dashed(sink, full_name(command))?;
-    put_piece(sink, CONTEXT_COMMAND)?;
-    put_piece(sink, index)?;
-    put_piece(sink, CASE_LINE)?;
-    put_piece(sink, index)?;
-    put_piece(sink, CASE_LINE_IN)
+    let pieces = [CONTEXT_COMMAND, index, CASE_LINE, index, CASE_LINE_IN];
+    put_pieces(sink, &pieces)
 }
 
 // Returns the index of the word that names a child, which comes after the positionals.

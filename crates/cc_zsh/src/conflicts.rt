@@ -41,7 +41,7 @@ fn conflict_scope<'a>(above: &'a Command, command: &'a Command, argument: &Arg) 
     }
 }
 
-#[tactic(auto, unfolding(crate::specs::Conflicts::conflicts_text))]
+#[tactic(auto, using(cc_base::proofs::WrittenTexts::after_bytes), unfolding(crate::specs::Conflicts::conflicts_text))]
 fn write_found<W: Sink>(sink: &mut W, arguments: &[Arg], ids: &[Text]) -> Result<(), ErrorKind>
     ensures { Writes W.taken W.failed (as_write result) sink.old sink.new
         (conflicts_text (with_ids arguments.now ids.now)) }
@@ -66,6 +66,7 @@ fn has_found(arguments: &[Arg], ids: &[Text]) -> bool
     false
 }
 
+#[tactic(auto, using(cc_base::proofs::WrittenTexts::in_steps))]
 fn write_words<W: Sink>(sink: &mut W, arguments: &[Arg], ids: &[Text]) -> Result<(), ErrorKind>
     ensures { Writes W.taken W.failed (as_write result) sink.old sink.new
         (joined (codes " ") (conflict_words (with_ids arguments.now ids.now))) }

@@ -1,6 +1,6 @@
 //! The functions of a script, each of which describes the children of a command.
 
-ghost use Rattle.std.specs.Prelude.{◌≡◌, ◌<◌, None, length, map, IfOk, OnOk};
+ghost use Rattle.std.specs.Prelude.{◌≡◌, ◌<◌, ◌++◌, None, length, map, IfOk, OnOk};
 ghost use Rattle.std.specs.List.{flat_map};
 ghost use Rattle.std.specs.Option.{option_copied};
 ghost use Rattle.std.specs.Ordering.{nat_cmp};
@@ -11,14 +11,16 @@ ghost use Rattle.cc_command.specs.Names.{visible_names};
 ghost use Rattle.cc_command.specs.Tree.{forest_of};
 ghost use Rattle.cc_generator.specs.Flat.{tree_at};
 ghost use Rattle.cc_zsh.specs.Functions.{entries_of, entries_text, entry, entry_text, function_below, function_of, function_text, functions_below, is_again, once_after, sorted_functions};
+ghost use Rattle.cc_zsh.specs.Functions.{commands_begin, function_begins, unless_defined};
 ghost use Rattle.cc_zsh.specs.Named.{function_named};
+ghost use Rattle.cc_zsh.specs.Nested.{function_label};
 ghost use Rattle.cc_zsh.specs.Script.{functions_text};
 
 use crate::names::write_label;
 use crate::texts::{
     COMMANDS_BEGIN, DESCRIBE_BEGINS, DESCRIBE_ENDS, ENTRIES_END, FUNCTION_BEGINS, UNLESS_DEFINED,
 };
-use cc_base::{Error, Sink, put_around, put_piece};
+use cc_base::{Error, Sink, put_around, put_piece, put_pieces};
 use cc_command::{Command, full_name};
 use cc_generator::Flat;
 use cc_quote::{ZshHelpEscape, put_escaped};
@@ -108,6 +110,7 @@ fn with_full_name(command: &Command) -> Named<'_>
 
 // Writes the function of each full name once. Commands with the same full name are neighbours, so
 // it is enough to compare each with the last one.
+#[tactic(auto, using(cc_base::proofs::WrittenTexts::in_steps))]
 fn write_once<W: Sink>(sink: &mut W, commands: &[Named<'_>]) -> Result<(), ErrorKind>
     ensures { Writes W.taken W.failed (as_write result) sink.old sink.new
         (flat_map function_text (once_after None (map function_named commands.now))) }
@@ -137,15 +140,21 @@ fn write_function<W: Sink>(sink: &mut W, command: &Named<'_>) -> Result<(), Erro
     ensures { Writes W.taken W.failed (as_write result) sink.old sink.new
         (function_text (function_named command.now)) }
 {
-    put_piece(sink, UNLESS_DEFINED)?;
-    write_label(sink, command.name)?;
-    put_piece(sink, FUNCTION_BEGINS)?;
-    write_label(sink, command.name)?;
-    put_piece(sink, COMMANDS_BEGIN)?;
+    write_function_begins(sink, command.name)?;
     write_entries(sink, command.command)?;
-    put_piece(sink, DESCRIBE_BEGINS)?;
-    put_piece(sink, command.name)?;
-    put_piece(sink, DESCRIBE_ENDS)
+    put_pieces(sink, &[DESCRIBE_BEGINS, command.name, DESCRIBE_ENDS])
+}
+
+fn write_function_begins<W: Sink>(sink: &mut W, name: &str) -> Result<(), ErrorKind>
+    ensures { Writes W.taken W.failed (as_write result) sink.old sink.new
+        (unless_defined ++ function_label name.now ++ function_begins ++ function_label name.now
+        ++ commands_begin) }
+{
+    put_piece(sink, UNLESS_DEFINED)?;
+    write_label(sink, name)?;
+    put_piece(sink, FUNCTION_BEGINS)?;
+    write_label(sink, name)?;
+    put_piece(sink, COMMANDS_BEGIN)
 }
 
 // Writes the entries of the children. If there are none, the brackets of the list stay on one line.
@@ -161,6 +170,7 @@ fn write_entries<W: Sink>(sink: &mut W, command: &Command) -> Result<(), ErrorKi
     put_piece(sink, ENTRIES_END)
 }
 
+#[tactic(auto, using(cc_base::proofs::WrittenTexts::in_steps))]
 fn write_children<W: Sink>(sink: &mut W, children: &[Command]) -> Result<(), ErrorKind>
     ensures { Writes W.taken W.failed (as_write result) sink.old sink.new
         (flat_map entry_text (entries_of (forest_of children.now))) }
@@ -171,6 +181,7 @@ fn write_children<W: Sink>(sink: &mut W, children: &[Command]) -> Result<(), Err
     Ok(())
 }
 
+#[tactic(auto, using(cc_base::proofs::WrittenTexts::in_steps))]
 fn write_child<W: Sink>(sink: &mut W, child: &Command) -> Result<(), ErrorKind>
     ensures { Writes W.taken W.failed (as_write result) sink.old sink.new
         (flat_map entry_text (map (entry child.now.node) (visible_names child.now.node))) }
@@ -181,7 +192,7 @@ fn write_child<W: Sink>(sink: &mut W, child: &Command) -> Result<(), ErrorKind>
     Ok(())
 }
 
-#[tactic(auto, unfolding(crate::specs::Functions::entry_text))]
+#[tactic(auto, using(cc_base::proofs::WrittenTexts::after_bytes), unfolding(crate::specs::Functions::entry_text))]
 fn write_entry<W: Sink>(sink: &mut W, name: &str, child: &Command) -> Result<(), ErrorKind>
     ensures { Writes W.taken W.failed (as_write result) sink.old sink.new
         (entry_text (entry child.now.node name.now)) }

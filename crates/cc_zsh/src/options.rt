@@ -15,6 +15,7 @@ use cc_command::{Arguments, Command};
 use cc_quote::{ZshHelpEscape, put_escaped};
 use std::io::ErrorKind;
 
+#[tactic(auto, using(cc_base::proofs::WrittenTexts::in_steps))]
 pub(crate) fn write_arguments<W: Sink>(
     sink: &mut W,
     above: &Command,
@@ -32,7 +33,7 @@ pub(crate) fn write_arguments<W: Sink>(
 }
 
 // Writes a line for each shown name of an argument.
-#[tactic(auto, unfolding(crate::specs::Options::argument_text))]
+#[tactic(auto, using(cc_base::proofs::WrittenTexts::in_steps), unfolding(crate::specs::Options::argument_text))]
 fn write_argument<W: Sink>(
     sink: &mut W,
     above: &Command,
@@ -48,7 +49,7 @@ fn write_argument<W: Sink>(
     Ok(())
 }
 
-#[tactic(auto, unfolding(crate::specs::Options::argument_line, crate::specs::Script::fixed_texts))]
+#[tactic(auto, using(cc_base::proofs::WrittenTexts::after_bytes), unfolding(crate::specs::Options::argument_line, crate::specs::Script::fixed_texts))]
 fn write_line<W: Sink>(
     sink: &mut W,
     above: &Command,
@@ -93,7 +94,7 @@ fn value_sign(argument: &Arg, name: &ShownName<'_>) -> &'static str
 }
 
 // Writes the help text in brackets, which are there even without a help text.
-#[tactic(auto, unfolding(crate::specs::Options::help_text))]
+#[tactic(auto, using(cc_base::proofs::WrittenTexts::after_bytes), unfolding(crate::specs::Options::help_text))]
 fn write_help<W: Sink>(sink: &mut W, argument: &Arg) -> Result<(), ErrorKind>
     ensures { Writes W.taken W.failed (as_write result) sink.old sink.new
         (help_text argument.now) }

@@ -15,7 +15,7 @@ use cc_command::Command;
 use cc_quote::{ByteEscape, ZshValueEscape, put_escaped};
 use std::io::ErrorKind;
 
-#[tactic(auto, unfolding(crate::specs::Positionals::positionals_text))]
+#[tactic(auto, using(cc_base::proofs::WrittenTexts::in_steps), unfolding(crate::specs::Positionals::positionals_text))]
 pub(crate) fn write_positionals<W: Sink>(sink: &mut W, command: &Command) -> Result<(), ErrorKind>
     ensures { Writes W.taken W.failed (as_write result) sink.old sink.new
         (positionals_text command.now) }
@@ -61,7 +61,7 @@ fn takes_all(has_children: bool, argument: &Arg) -> bool
     takes_rest(has_children, argument) && !argument.get_value_terminator().is_some()
 }
 
-#[tactic(auto, unfolding(crate::specs::Positionals::positional_text, crate::specs::Script::fixed_texts))]
+#[tactic(auto, using(cc_base::proofs::WrittenTexts::after_bytes), unfolding(crate::specs::Positionals::positional_text, crate::specs::Script::fixed_texts))]
 fn write_positional<W: Sink>(
     sink: &mut W,
     has_children: bool,
@@ -93,7 +93,7 @@ fn write_count<W: Sink>(sink: &mut W, has_children: bool, argument: &Arg) -> Res
     put_piece(sink, ":")
 }
 
-#[tactic(auto, unfolding(cc_quote::specs::ZshQuote::zsh_escaped_value))]
+#[tactic(auto, using(cc_base::proofs::WrittenTexts::after_bytes), unfolding(cc_quote::specs::ZshQuote::zsh_escaped_value))]
 fn write_rest<W: Sink>(sink: &mut W, terminator: Option<&str>) -> Result<(), ErrorKind>
     ensures { Writes W.taken W.failed (as_write result) sink.old sink.new
         (rest_text (option_copied terminator.entry)) }
@@ -106,7 +106,7 @@ fn write_rest<W: Sink>(sink: &mut W, terminator: Option<&str>) -> Result<(), Err
     put_piece(sink, ":")
 }
 
-#[tactic(auto, unfolding(crate::specs::Positionals::positional_escaped))]
+#[tactic(auto, using(cc_base::proofs::WrittenTexts::after_bytes), unfolding(crate::specs::Positionals::positional_escaped))]
 fn write_help<W: Sink>(sink: &mut W, help: Option<&str>) -> Result<(), ErrorKind>
     ensures { Writes W.taken W.failed (as_write result) sink.old sink.new
         (positional_help (option_copied help.entry)) }

@@ -27,7 +27,7 @@ pub(crate) fn range(argument: &Arg) -> ValueRange
 }
 
 /// Writes the values of an argument, or nothing if it takes none.
-#[tactic(auto, unfolding(crate::specs::Values::values_text))]
+#[tactic(auto, using(cc_base::proofs::WrittenTexts::after_bytes), unfolding(crate::specs::Values::values_text))]
 pub(crate) fn write_values<W: Sink>(sink: &mut W, argument: &Arg) -> Result<(), ErrorKind>
     ensures { Writes W.taken W.failed (as_write result) sink.old sink.new
         (values_text argument.now) }
@@ -43,6 +43,7 @@ pub(crate) fn write_values<W: Sink>(sink: &mut W, argument: &Arg) -> Result<(), 
     write_times(sink, least, argument)
 }
 
+#[tactic(auto, using(cc_base::proofs::WrittenTexts::in_steps))]
 fn write_times<W: Sink>(sink: &mut W, count: usize, argument: &Arg) -> Result<(), ErrorKind>
     ensures { Writes W.taken W.failed (as_write result) sink.old sink.new
         (times count (one_value argument.now)) }
@@ -55,7 +56,7 @@ fn write_times<W: Sink>(sink: &mut W, count: usize, argument: &Arg) -> Result<()
     Ok(())
 }
 
-#[tactic(auto, unfolding(crate::specs::Values::one_value))]
+#[tactic(auto, using(cc_base::proofs::WrittenTexts::after_bytes), unfolding(crate::specs::Values::one_value))]
 fn write_one<W: Sink>(sink: &mut W, argument: &Arg) -> Result<(), ErrorKind>
     ensures { Writes W.taken W.failed (as_write result) sink.old sink.new (one_value argument.now) }
 {
@@ -84,7 +85,7 @@ pub(crate) fn write_value<W: Sink>(sink: &mut W, argument: &Arg) -> Result<(), E
     }
 }
 
-#[tactic(auto, unfolding(crate::specs::Values::list_text))]
+#[tactic(auto, using(cc_base::proofs::WrittenTexts::after_bytes), unfolding(crate::specs::Values::list_text))]
 fn write_list<W: Sink>(sink: &mut W, values: &[PossibleValue]) -> Result<(), ErrorKind>
     ensures { Writes W.taken W.failed (as_write result) sink.old sink.new (list_text values.now) }
 {
@@ -107,6 +108,7 @@ fn is_any_described(values: &[PossibleValue]) -> bool
         .any(|value| !value.is_hide_set() && value.get_help().is_some())
 }
 
+#[tactic(auto, using(cc_base::proofs::WrittenTexts::in_steps))]
 fn write_items<W: Sink>(sink: &mut W, form: Form, values: &[PossibleValue]) -> Result<(), ErrorKind>
     ensures { Writes W.taken W.failed (as_write result) sink.old sink.new
         (items_text form values.now) }
@@ -150,7 +152,7 @@ fn item_separator(form: Form) -> &'static str
     }
 }
 
-#[tactic(auto, unfolding(crate::specs::Values::item_help))]
+#[tactic(auto, using(cc_base::proofs::WrittenTexts::after_bytes), unfolding(crate::specs::Values::item_help))]
 fn write_help<W: Sink>(sink: &mut W, help: &str) -> Result<(), ErrorKind>
     ensures { Writes W.taken W.failed (as_write result) sink.old sink.new (item_help help.now) }
 {

@@ -1,15 +1,17 @@
 -- The outcomes of writing scripts to files.
-use Rattle.std.proofs.Common.{◌≡◌, ◌∙◌, ◌++◌, inl, inr, refl, subst, sym, ap, ℕ, List, []}
+use Rattle.std.proofs.Common.{◌≡◌, ◌∙◌, ◌++◌, true, inl, inr, refl, subst, sym, ap, ℕ, List, []}
 use Rattle.std.proofs.Common.{Option, None, Some, Result, Ok, Err}
 use Rattle.std.specs.Bool.{IsTrue}
 use Rattle.std.specs.List.{AllByRecursion}
 use Rattle.std.proofs.lemmas.List.{append_assoc}
+use Rattle.cc_base.specs.Partly.{partly, partly_self}
 use Rattle.cc_base.specs.Sink.{add_failure}
 use Rattle.cc_base.specs.declared.error.Error.{Error}
 use Rattle.cc_base.specs.declared.error.Error.TheVariants.{Memory, Write}
 use Rattle.cc_base.specs.declared.failures.Failures.{Failures}
 use Rattle.cc_command.specs.Built.{built_under}
 use Rattle.cc_command.specs.Tree.{Tree}
+use Rattle.cc_generator.proofs.Stopped.{part_first, part_later}
 use Rattle.cc_shell.specs.Files.{EndsFile as EndsGenerated}
 use Rattle.cc_command.proofs.PlainBuilt.{plain_built_under}
 use Rattle.cc_command.specs.Plain.{is_plain_tree}
@@ -38,7 +40,8 @@ module _ {S : Type 0} (taken : S → List ℕ) (failed : S → Failures) (folder
 
   pub file_without_memory : (clash : Option (List ℕ)) (line : List ℕ) (state : S) (refusal : Refusal)
       → IsOutOfMemory refusal → EndsFile taken failed clash folder line state state (Err refusal)
-  file_without_memory None line state refusal out = out_of_memory refusal out refl
+  file_without_memory None line state refusal out =
+      out_of_memory refusal out (partly_self (taken state) line) refl
   file_without_memory (Some label) line state refusal out = (inl out, same state)
 
   pub file_printed : {T : Type 0} (path : T) (clash : Option (List ℕ)) (line : List ℕ) (old new : S)
@@ -46,10 +49,10 @@ module _ {S : Type 0} (taken : S → List ℕ) (failed : S → Failures) (folder
       → PrintsLine taken failed line old new result
       → EndsFile taken failed clash folder line old new result
   file_printed path None line old new (Ok tt) ends printed = written printed.0 printed.1
-  file_printed path None line old new (Err refusal) ends (inl (out, same_then)) =
-      out_of_memory refusal out same_then
-  file_printed path None line old new (Err refusal) ends (inr (kind, is, counted)) =
-      write_failed kind refusal is counted
+  file_printed path None line old new (Err refusal) ends (begun, inl (out, same_then)) =
+      out_of_memory refusal out begun same_then
+  file_printed path None line old new (Err refusal) ends (begun, inr (kind, is, counted)) =
+      write_failed kind refusal is begun counted
   file_printed path (Some label) line old new result ends printed = absurd ends
 
   pub file_refused : (T : Type 0) (clash : Option (List ℕ)) (line : List ℕ) (state : S)
@@ -57,9 +60,9 @@ module _ {S : Type 0} (taken : S → List ℕ) (failed : S → Failures) (folder
       → ReportsFile folder error refusal
       → EndsFile taken failed clash folder line state state (Err refusal)
   file_refused T None line state Memory refusal ends reported =
-      out_of_memory refusal reported refl
+      out_of_memory refusal reported (partly_self (taken state) line) refl
   file_refused T None line state (Write kind) refusal ends reported =
-      file_failed refusal reported refl
+      file_failed refusal reported (partly_self (taken state) line) refl
   file_refused T None line state error refusal ends reported = absurd ends
   file_refused T (Some label) line state error refusal (inl is) reported =
       (subst (λ (e : Error). ReportsFile folder e refusal) is reported, same state)
@@ -76,14 +79,15 @@ module _ {S : Type 0} (taken : S → List ℕ) (failed : S → Failures) (folder
       subst (λ (c : Option (List ℕ)). EndsFile taken failed c folder line old new result) is ends
 
   pub files_failed : (line lines : List ℕ) (old mid new : S) (refusal : Refusal)
+      → (partly (taken new) (taken mid) line ≡ true → partly (taken new) (taken old) lines ≡ true)
       → EndsFiles taken failed folder line mid new (Err refusal) → failed mid ≡ failed old
       → EndsFiles taken failed folder lines old new (Err refusal)
-  files_failed line lines old mid new refusal (out_of_memory r out same_then) before =
-      out_of_memory refusal out (same_then ∙ before)
-  files_failed line lines old mid new refusal (file_failed r made same_then) before =
-      file_failed refusal made (same_then ∙ before)
-  files_failed line lines old mid new refusal (write_failed kind r is counted) before =
-      write_failed kind refusal is (counted ∙ ap (add_failure kind) before)
+  files_failed line lines old mid new refusal more (out_of_memory r out begun same_then) before =
+      out_of_memory refusal out (more begun) (same_then ∙ before)
+  files_failed line lines old mid new refusal more (file_failed r made begun same_then) before =
+      file_failed refusal made (more begun) (same_then ∙ before)
+  files_failed line lines old mid new refusal more (write_failed kind r is begun counted) before =
+      write_failed kind refusal is (more begun) (counted ∙ ap (add_failure kind) before)
 
   pub line_written : (line : List ℕ) (old new : S)
       → EndsFiles taken failed folder line old new (Ok tt)
@@ -112,7 +116,8 @@ module _ {S : Type 0} (taken : S → List ℕ) (failed : S → Failures) (bin fo
       → EndsFile taken failed clash folder (path_line bin folder Bash) old new (Err refusal)
       → EndsScripts taken failed bin folder path old new file (Err refusal)
   first_failed None old new file tree refusal is held ends = files file tree (Err refusal) held is
-      (files_failed taken failed folder (path_line bin folder Bash) _ old old new refusal ends refl)
+      (files_failed taken failed folder (path_line bin folder Bash) _ old old new refusal
+      (λ begun. part_first (taken old) (taken new) _ _ begun) ends refl)
   first_failed (Some label) old new file tree refusal is held (made, untouched) =
       shared_label file tree refusal held
       (record { label = label; shared = is; reported = made }) untouched
@@ -126,7 +131,8 @@ module _ {S : Type 0} (taken : S → List ℕ) (failed : S → Failures) (bin fo
       → EndsScripts taken failed bin folder path old new file result
   others_follow None old mid new file tree (Err refusal) is held (written took before) ends =
       files file tree (Err refusal) held is
-      (files_failed taken failed folder (path_lines bin folder other_shells) _ old mid new refusal ends before)
+      (files_failed taken failed folder (path_lines bin folder other_shells) _ old mid new refusal
+      (λ begun. part_later (taken old) (taken mid) (taken new) _ _ took begun) ends before)
   others_follow None old mid new file tree (Ok tt) is held (written took before) (written more then) =
       files file tree (Ok tt) held is (written
       (more ∙ ap (λ t. t ++ path_lines bin folder other_shells) took

@@ -10,6 +10,7 @@ use Rattle.cc_generator.specs.Generators.{Generates, ReportsClash}
 use Rattle.cc_shell.specs.declared.shell.Shell.{Shell}
 use Rattle.cc_shell.specs.Shells.{invalid_variant, shell_spec, shell_text}
 use Rattle.cc_command.specs.Tree.{Tree}
+use Rattle.cc_base.specs.Partly.{partly}
 use Rattle.cc_base.specs.Writes.{CountsWrite}
 use Rattle.complgen_scripts.specs.Refusals.{IsMade, Reports, shown_line}
 use Rattle.complgen_scripts.specs.ScriptEnds.{NamedScriptReads}
@@ -80,13 +81,15 @@ module _ {S : Type 0} (taken : S → List ℕ) (failed : S → Failures) (shell 
   -- the generator fails, with the label that two nodes share, if they share one
   failed_with : (old new : S) (file : Option (List ℕ)) (tree : Tree) (e : Error) (refusal : Refusal)
       (clash : Option (List ℕ)) → (shell_spec shell).clash (built_under (Some bin) tree) ≡ clash
-      → HoldsTree file tree → Counts e old new → ReportsClash clash (Err e) (taken old) (taken new)
+      → HoldsTree file tree → partly (taken new) (taken old)
+      ((shell_spec shell).script (built_under (Some bin) tree)) ≡ true
+      → Counts e old new → ReportsClash clash (Err e) (taken old) (taken new)
       → Reports e refusal → Ends old new file (Err refusal)
-  failed_with old new file tree e refusal None is held counts clashes reported =
+  failed_with old new file tree e refusal None is held begun counts clashes reported =
       ends_failed taken failed true (SharesLabel shell bin) (IsScript shell bin) old new file tree
       ((shell_spec shell).script (built_under (Some bin) tree)) e refusal refl held
-      (record { unshared = is; is = refl }) counts clashes reported
-  failed_with old new file tree e refusal (Some label) is held counts (inl clash, unwritten)
+      (record { unshared = is; is = refl }) begun counts clashes reported
+  failed_with old new file tree e refusal (Some label) is held begun counts (inl clash, unwritten)
       reported =
       ends_rejected taken failed true (SharesLabel shell bin) (IsScript shell bin) old new file tree
       refusal held
@@ -96,7 +99,7 @@ module _ {S : Type 0} (taken : S → List ℕ) (failed : S → Failures) (shell 
         reported = subst (λ e. Reports e refusal) (same_error e _ clash) reported;
       })
       (record { taken_same = unwritten; failed_same = as_counted old new e _ clash counts })
-  failed_with old new file tree e refusal (Some label) is held counts (inr out, unwritten)
+  failed_with old new file tree e refusal (Some label) is held begun counts (inr out, unwritten)
       reported =
       ends_without_memory taken failed true (SharesLabel shell bin) (IsScript shell bin) old new file
       tree refusal held
@@ -110,4 +113,4 @@ module _ {S : Type 0} (taken : S → List ℕ) (failed : S → Failures) (shell 
   script_failed old new file tree e refusal held wrote reported =
       failed_with old new file tree e refusal ((shell_spec shell).clash (built_under (Some bin) tree)) refl
       held
-      wrote.failures wrote.clashes reported
+      wrote.begun wrote.failures wrote.clashes reported

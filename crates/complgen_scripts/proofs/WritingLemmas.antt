@@ -1,5 +1,5 @@
 -- The outcomes of writing a text for the command of a tree file, one by one.
-use Rattle.std.proofs.Common.{◌≡◌, ◌++◌, refl, ℕ, Bool, List, Option, None, Some, Ok, Err}
+use Rattle.std.proofs.Common.{◌≡◌, ◌++◌, refl, ℕ, Bool, true, List, Option, None, Some, Ok, Err}
 use Rattle.std.specs.Prelude.{IsTrue}
 use Rattle.complgen_scripts.specs.Refusals.{IsOutOfMemory}
 use Rattle.complgen_scripts.specs.declared.refusals.Refusal.{Refusal}
@@ -7,6 +7,7 @@ use Rattle.cc_base.specs.declared.error.Error.{Error}
 use Rattle.cc_base.specs.declared.error.Error.TheVariants as error
 use Rattle.cc_base.specs.declared.failures.Failures.{Failures}
 use Rattle.cc_command.specs.Tree.{Tree}
+use Rattle.cc_base.specs.Partly.{partly}
 use Rattle.cc_base.specs.Writes.{CountsWrite, IsMemoryOrWrite, IsWrite}
 use Rattle.complgen_scripts.specs.Refusals.{Reports}
 use Rattle.complgen_scripts.specs.TreeFiles.{ReportsFile, bad_form, not_json, unreadable}
@@ -70,23 +71,25 @@ module _ {S : Type 0} (taken : S → List ℕ) (failed : S → Failures) (alloca
   -- writing the text fails, if the call may allocate
   pub ends_failed : (old new : S) (file : Option (List ℕ)) (tree : Tree) (text : List ℕ) (e : Error)
       (refusal : Refusal) → IsTrue allocates → HoldsTree file tree → IsText tree text
-      → CountsWrite {T = Unit {0}} (Err e) (failed old) (failed new) → IsMemoryOrWrite e
-      → Reports e refusal → Finishes taken failed allocates Rejects IsText old new file (Err refusal)
-  ends_failed old new None tree text e refusal asked held is counts kind reported = absurd held
-  ends_failed old new (Some bytes) tree text error.Memory refusal asked held is counts kind reported =
-      out_of_memory_in_text bytes text tree refusal asked held is reported counts
-  ends_failed old new (Some bytes) tree text (error.Write why) refusal asked held is counts kind
+      → partly (taken new) (taken old) text ≡ true → CountsWrite {T = Unit {0}} (Err e) (failed old) (failed new)
+      → IsMemoryOrWrite e → Reports e refusal
+      → Finishes taken failed allocates Rejects IsText old new file (Err refusal)
+  ends_failed old new None tree text e refusal asked held is begun counts kind reported = absurd held
+  ends_failed old new (Some bytes) tree text error.Memory refusal asked held is begun counts kind reported =
+      out_of_memory_in_text bytes text tree refusal asked held is reported begun counts
+  ends_failed old new (Some bytes) tree text (error.Write why) refusal asked held is begun counts kind
       reported =
-      write_failed bytes text tree why refusal held is reported counts
-  ends_failed old new (Some bytes) tree text _ refusal asked held is counts kind reported = absurd kind
+      write_failed bytes text tree why refusal held is reported begun counts
+  ends_failed old new (Some bytes) tree text _ refusal asked held is begun counts kind reported = absurd kind
 
   -- writing the text fails, if the call does not allocate
   pub ends_cut_off : (old new : S) (file : Option (List ℕ)) (tree : Tree) (text : List ℕ) (e : Error)
       (refusal : Refusal) → HoldsTree file tree → IsText tree text
+      → partly (taken new) (taken old) text ≡ true
       → CountsWrite {T = Unit {0}} (Err e) (failed old) (failed new) → IsWrite e
       → Reports e refusal → Finishes taken failed allocates Rejects IsText old new file (Err refusal)
-  ends_cut_off old new None tree text e refusal held is counts kind reported = absurd held
-  ends_cut_off old new (Some bytes) tree text (error.Write why) refusal held is counts kind
+  ends_cut_off old new None tree text e refusal held is begun counts kind reported = absurd held
+  ends_cut_off old new (Some bytes) tree text (error.Write why) refusal held is begun counts kind
       reported =
-      write_failed bytes text tree why refusal held is reported counts
-  ends_cut_off old new (Some bytes) tree text _ refusal held is counts kind reported = absurd kind
+      write_failed bytes text tree why refusal held is reported begun counts
+  ends_cut_off old new (Some bytes) tree text _ refusal held is begun counts kind reported = absurd kind

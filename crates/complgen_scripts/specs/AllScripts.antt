@@ -1,8 +1,9 @@
 -- The outcomes of writing the scripts of all shells, and what that prints.
-use Rattle.std.specs.Prelude.{◌≡◌, ◌⊎◌, ◌++◌, ℕ, List, [], ◌∷◌, IsTrue, None, Option, Some, Result, Ok, Err, codes}
+use Rattle.std.specs.Prelude.{◌≡◌, ◌⊎◌, ◌++◌, ℕ, List, [], ◌∷◌, true, IsTrue, None, Option, Some, Result, Ok, Err, codes}
 use Rattle.std.specs.List.{flat_map}
 use Rattle.std.specs.Path.{path_join}
 use Rattle.std.specs.declared.io.ErrorKind.{ErrorKind}
+use Rattle.cc_base.specs.Partly.{partly}
 use Rattle.cc_base.specs.Sink.{add_failure}
 use Rattle.cc_base.specs.declared.failures.Failures.{Failures}
 use Rattle.cc_base.specs.declared.error.Error.{Error}
@@ -40,29 +41,33 @@ abbrev pub ReportsFile : List ℕ → Error → Refusal → Type 0
 ReportsFile folder (Write kind) refusal = IsMade (folder_line folder) refusal
 ReportsFile folder error refusal = Reports error refusal
 
--- the outcomes of printing a line: it is printed, memory runs out, or a write fails, which is
--- counted with its kind
+-- the outcomes of printing a line: it is printed; or a beginning of it is, and memory runs out or
+-- a write fails, which is counted with its kind
 abbrev pub PrintsLine : {S : Type 0} → (S → List ℕ) → (S → Failures) → List ℕ → S → S
     → Result (Unit {0}) Refusal → Type 0
 PrintsLine taken failed line old new (Ok tt) =
     (taken new ≡ taken old ++ line) × (failed new ≡ failed old)
 PrintsLine taken failed line old new (Err refusal) =
-    (IsOutOfMemory refusal × (failed new ≡ failed old)) ⊎ ((kind : ErrorKind)
-    × IsRefusal (error_line (Write kind)) refusal × (failed new ≡ add_failure kind (failed old)))
+    (partly (taken new) (taken old) line ≡ true)
+    × ((IsOutOfMemory refusal × (failed new ≡ failed old)) ⊎ ((kind : ErrorKind)
+    × IsRefusal (error_line (Write kind)) refusal × (failed new ≡ add_failure kind (failed old))))
 
--- The outcomes of writing scripts to their files, and lines to the output. If that fails, some
--- lines may be printed.
+-- The outcomes of writing scripts to their files, and lines to the output. If that fails, a
+-- beginning of the lines is printed.
 pub data EndsFiles {S : Type 0} (taken : S → List ℕ) (failed : S → Failures)
     (folder lines : List ℕ) (old new : S) : Result (Unit {0}) Refusal → Type 0 where
   -- out of memory
-  out_of_memory : (refusal : Refusal) → IsOutOfMemory refusal → failed new ≡ failed old
+  out_of_memory : (refusal : Refusal) → IsOutOfMemory refusal
+      → partly (taken new) (taken old) lines ≡ true → failed new ≡ failed old
       → EndsFiles taken failed folder lines old new (Err refusal)
   -- a file can't be made or written
-  file_failed : (refusal : Refusal) → IsMade (folder_line folder) refusal → failed new ≡ failed old
+  file_failed : (refusal : Refusal) → IsMade (folder_line folder) refusal
+      → partly (taken new) (taken old) lines ≡ true → failed new ≡ failed old
       → EndsFiles taken failed folder lines old new (Err refusal)
   -- a write to the output failed, which is counted with its kind
   write_failed : (kind : ErrorKind) (refusal : Refusal)
-      → IsRefusal (error_line (Write kind)) refusal → failed new ≡ add_failure kind (failed old)
+      → IsRefusal (error_line (Write kind)) refusal
+      → partly (taken new) (taken old) lines ≡ true → failed new ≡ add_failure kind (failed old)
       → EndsFiles taken failed folder lines old new (Err refusal)
   -- all are written
   written : taken new ≡ taken old ++ lines → failed new ≡ failed old

@@ -1,8 +1,9 @@
 -- The outcomes of writing a text for the command of a tree file.
-use Rattle.std.specs.Prelude.{◌≡◌, ◌++◌, ℕ, Bool, IsTrue, List, Option, Some, Result, Ok, Err}
+use Rattle.std.specs.Prelude.{◌≡◌, ◌++◌, ℕ, Bool, true, IsTrue, List, Option, Some, Result, Ok, Err}
 use Rattle.std.specs.declared.io.ErrorKind.{ErrorKind}
 use Rattle.cc_base.specs.declared.error.Error.TheVariants.{Write}
 use Rattle.cc_base.specs.declared.failures.Failures.{Failures}
+use Rattle.cc_base.specs.Partly.{partly}
 use Rattle.cc_base.specs.Sink.{add_failure}
 use Rattle.cc_command.specs.Tree.{Tree}
 use Rattle.complgen_scripts.specs.Refusals.{IsOutOfMemory, IsRefusal}
@@ -36,15 +37,16 @@ pub data Finishes {S : Type 0} (taken : S → List ℕ) (failed : S → Failures
   out_of_memory : (bytes : List ℕ) (refusal : Refusal) → IsOutOfMemory refusal
       → Untouched taken failed old new
       → Finishes taken failed allocates Rejects IsText old new (Some bytes) (Err refusal)
-  -- a write failed, which is counted with its kind
+  -- a write failed, which is counted with its kind; a beginning of the text is written
   write_failed : (bytes text : List ℕ) (tree : Tree) (kind : ErrorKind) (refusal : Refusal)
       → Describes bytes (Some tree) → IsText tree text
-      → IsRefusal (error_line (Write kind)) refusal → failed new ≡ add_failure kind (failed old)
+      → IsRefusal (error_line (Write kind)) refusal
+      → partly (taken new) (taken old) text ≡ true → failed new ≡ add_failure kind (failed old)
       → Finishes taken failed allocates Rejects IsText old new (Some bytes) (Err refusal)
-  -- out of memory after the text may have been started; some of it may be written
+  -- out of memory after the text may have been started; a beginning of the text is written
   out_of_memory_in_text : (bytes text : List ℕ) (tree : Tree) (refusal : Refusal)
       → IsTrue allocates → Describes bytes (Some tree) → IsText tree text → IsOutOfMemory refusal
-      → failed new ≡ failed old
+      → partly (taken new) (taken old) text ≡ true → failed new ≡ failed old
       → Finishes taken failed allocates Rejects IsText old new (Some bytes) (Err refusal)
   -- the text is written
   written : (bytes text : List ℕ) (tree : Tree) → Describes bytes (Some tree) → IsText tree text
