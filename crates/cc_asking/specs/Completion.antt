@@ -1,5 +1,5 @@
 -- The candidates for a word if some given lines are the values that the word asks for.
-use Rattle.std.specs.Prelude.{◌≡◌, ◌⊎◌, ℕ, List, Option, None, Some}
+use Rattle.std.specs.Prelude.{◌≡◌, ◌⊎◌, ℕ, List, length, Option, None, Some}
 use Rattle.cc_arg.specs.declared.parts.ArgParts.{ArgParts as Arg}
 use Rattle.cc_base.specs.declared.error.Error.{Error}
 use Rattle.cc_base.specs.declared.error.Error.TheVariants.{Memory}
@@ -34,9 +34,16 @@ pub record CompletesWith (returned : MayReturn) (lines : List ℕ) (tree : Tree)
   pub completes : Completes (returned_for returned lines asked) (built_tree (tree_for asked tree))
       words index found
 
--- The ends of such a call without candidates: as `complete_from` does, or out of memory after some
+-- The tree after such a call: built, with the list of the lines in each argument with the source of
+-- the one that is asked for.
+pub record LeavesListed (old new : Tree) (words : List (List ℕ)) (index : ℕ) : Type 0 where
+  pub asked : Option Arg
+  pub asks : Asks (built_tree old) words index asked
+  pub is : new ≡ built_tree (tree_for asked old)
+
+-- The ends of such a call without candidates: as `complete_from` does, or out of memory after
 -- arguments got the list of the lines.
-abbrev pub RefusesWith : Tree → Tree → ℕ → ℕ → Error → Type 0
-RefusesWith old new count index error = Refuses old new count index error
-    ⊎ ((error ≡ Memory) × ((asked : Arg)
-    × Refuses (listed_tree asked lines_list (built_tree old)) new count index Memory))
+abbrev pub RefusesWith : Tree → Tree → List (List ℕ) → ℕ → Error → Type 0
+RefusesWith old new words index error = Refuses old new (length words) index error
+    ⊎ ((error ≡ Memory) × ((asked : Arg) × Asks (built_tree old) words index (Some asked)
+    × Refuses (listed_tree asked lines_list (built_tree old)) new (length words) index Memory))

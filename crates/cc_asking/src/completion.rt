@@ -7,7 +7,7 @@ ghost use Rattle.cc_engine.specs.Asked.{Asks};
 ghost use Rattle.cc_engine.specs.Completion.{Completes, Refuses, is_in_range};
 ghost use Rattle.cc_engine.specs.Sources.{returned_of};
 ghost use Rattle.cc_gather.specs.Finished.{Differ};
-ghost use Rattle.cc_asking.specs.Completion.{CompletesWith, RefusesWith};
+ghost use Rattle.cc_asking.specs.Completion.{CompletesWith, LeavesListed, RefusesWith};
 ghost use Rattle.cc_asking.specs.Given.{with_lines};
 
 use crate::given::{WithLines, lines_list};
@@ -24,12 +24,15 @@ use std::alloc::Global;
 /// as `complete_from` does.
 ///
 /// If the word asks for the values of an argument that come from a command, a file or the system,
-/// `lines` has these values. Each argument with values from there then has a list with the
-/// candidates in the lines. If the word asks for no such argument, the lines do not count.
+/// `lines` has these values, as `GivenLines::new` reads them. Each argument with values from there
+/// then has a list with the candidates in the lines, and keeps it, also after `Memory`. So take
+/// another command for the next word. The number of this list is `usize::MAX`; a list of that
+/// number in `sources` is not used then. If the word asks for no such argument, the lines do not
+/// count.
 ///
 /// # Errors
 ///
-/// Those of `complete_from`. After `Memory`, some arguments of the command may have a list more.
+/// Those of `complete_from`.
 pub fn complete_with_lines<D, C>(
     alloc: Global,
     command: &mut Command,
@@ -45,10 +48,12 @@ where
         (returned_of C.CandidateSources (D.facts sources.now.folder.now) sources.now) lines.now
         command.old (map string_bytes words.items) index found.items) }
     ensures differ { IfOk result (λ found. Differ found.items) }
+    ensures built { OnOk result
+        (LeavesListed command.old command.new (map string_bytes words.items) index) }
     ensures in_range { OnOk result
         (is_in_range command.old.node (length words.items) index ≡ true) }
     ensures errors { IfErr result
-        (RefusesWith command.old command.new (length words.items) index) }
+        (RefusesWith command.old command.new (map string_bytes words.items) index) }
 {
     let Some(asked) = asked_of(alloc, command, words.as_slice(), index)? else {
         return complete_from(alloc, command, words, index, sources);

@@ -90,21 +90,21 @@ are_found_with items Finds sources lines words copies index old (Ok found) is sa
 are_found_with items Finds sources lines words copies index old (Err e) is same completes ranges = tt
 
 -- why a call with given lines finds no candidates
-finds_none_with : (old new : Tree) (count index : ℕ) (e : Error)
-    → RefusesWith old new count index e → FindsNone count index old e
-finds_none_with old new count index e (inl refused) = finds_none old new count index e refused
-finds_none_with old new count index e (inr refused) =
-    subst (λ e. FindsNone count index old e) (sym refused.0) tt
+finds_none_with : (old new : Tree) (words : List (List ℕ)) (index : ℕ) (e : Error)
+    → RefusesWith old new words index e → FindsNone (length words) index old e
+finds_none_with old new words index e (inl refused) = finds_none old new (length words) index e refused
+finds_none_with old new words index e (inr refused) =
+    subst (λ e. FindsNone (length words) index old e) (sym refused.0) tt
 
 pub find_none_with : {A : Type 0} (old new : Tree) (words copies : List (String Global)) (index : ℕ)
     (result : Result A Error) → map string_bytes copies ≡ map string_bytes words
-    → IfErr result (RefusesWith old new (length copies) index)
+    → IfErr result (RefusesWith old new (map string_bytes copies) index)
     → IfErr result (FindsNone (length words) index old)
 find_none_with old new words copies index (Ok found) same refuses = tt
 find_none_with old new words copies index (Err e) same refuses =
     subst (λ count. FindsNone count index old e)
-    (sym (length-map copies string_bytes) ∙ ap length same ∙ length-map words string_bytes)
-    (finds_none_with old new (length copies) index e refuses)
+    (ap length same ∙ length-map words string_bytes)
+    (finds_none_with old new (map string_bytes copies) index e refuses)
 
 module _ {S : Type 0} (taken : S → List ℕ) (failed : S → Failures)
     (IsText : Tree → List ℕ → Type 0) (words : List (List ℕ)) (index : ℕ) where

@@ -1,4 +1,4 @@
-use Rattle.cc_asking.proofs.CompletionLemmas.{completes_alone, completes_over, ranges, refuses_over}
+use Rattle.cc_asking.proofs.CompletionLemmas.{completes_alone, completes_over, leaves_alone, leaves_listed, ranges, refuses_over}
 use Rattle.cc_asking.proofs.completion.complete_with_lines.Goals as goal
 
 pub returns-in_default-clause-candidates : goal.returns-in_default-clause-candidates
@@ -19,6 +19,21 @@ returns-clause-candidates g c =
     c.lines_list.ensures c.list_values.ensures c.complete_over.ensures.built
     c.complete_over.ensures.candidates
 
+pub returns-in_default-clause-built : goal.returns-in_default-clause-built
+returns-in_default-clause-built g c =
+    leaves_alone c.args.words.items _ c.as_slice.ensures.value c.args.index c.args.command.now
+    c.asked_of.new.command c.in_ok-asked.ensures.built c.in_ok-asked.ensures.whole
+    c.complete_from.new.command _ c.complete_from.result c.in_default.is c.in_ok-asked.ensures.asks
+    c.complete_from.ensures.built
+
+pub returns-clause-built : goal.returns-clause-built
+returns-clause-built g c =
+    leaves_listed c.args.words.items _ c.as_slice.ensures.value c.args.index c.args.command.now
+    c.asked_of.new.command c.in_ok-asked.ensures.built c.in_ok-asked.ensures.whole
+    c.list_values.new.command c.complete_over.new.command _ c.in-Some.asked _ c.complete_over.result
+    c.in-Some.is c.in_ok-asked.ensures.asks c.lines_list.ensures c.list_values.ensures
+    c.complete_over.ensures.built
+
 pub returns-clause-in_range : goal.returns-clause-in_range
 returns-clause-in_range g c =
     ranges c.args.words.items _ c.as_slice.ensures.value c.args.index c.args.command.now
@@ -29,6 +44,6 @@ pub returns-clause-errors : goal.returns-clause-errors
 returns-clause-errors g c =
     refuses_over c.args.words.items _ c.as_slice.ensures.value c.args.index c.args.command.now
     c.asked_of.new.command c.in_ok-asked.ensures.built c.in_ok-asked.ensures.whole
-    c.list_values.new.command c.complete_over.new.command c.in-Some.asked _ c.complete_over.result
-    c.in_ok-asked.ensures.in_range c.lines_list.ensures c.list_values.ensures
+    c.list_values.new.command c.complete_over.new.command _ c.in-Some.asked _ c.complete_over.result
+    c.in-Some.is c.in_ok-asked.ensures.asks c.in_ok-asked.ensures.in_range c.lines_list.ensures c.list_values.ensures
     c.complete_over.ensures.errors
