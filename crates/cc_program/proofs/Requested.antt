@@ -63,7 +63,7 @@ module _ {S : Type 0} (taken : S → List ℕ) (failures : S → Failures) (name
 
   pub error_requested : (error : Error) → Ends (Err error) → IsRequested requested
   error_requested error (not_answered e answers same) = failure_requested names Makes parts Gives requested error answers
-  error_requested error (write_failed told kind answers fails) = answer_requested names Makes parts Gives requested told answers
+  error_requested error (write_failed told kind answers begun fails) = answer_requested names Makes parts Gives requested told answers
 
   pub some_of : (found : Option ℕ) (status : ℕ) → found ≡ Some status → Ends (Ok found) → IsRequested requested × Ends (Ok (Some status))
   some_of found status is ends =

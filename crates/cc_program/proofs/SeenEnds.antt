@@ -21,13 +21,13 @@ use Rattle.cc_program.specs.declared.streams.Streams.{Streams}
 module _ {S : Type 0} (sink : Ghosts S) where
   seen_writes : (done : Result (Unit {0}) Error) (old new : S) (text : List ℕ) → Writes sink.taken sink.failed done old new text
       → Writes seen_by.taken seen_by.failed done (seen_of sink old) (seen_of sink new) text
-  seen_writes done old new text w = record { ok = w.ok; failures = w.failures; kinds = w.kinds }
+  seen_writes done old new text w = record { ok = w.ok; begun = w.begun; failures = w.failures; kinds = w.kinds }
 
   seen_own : (Answers : Result (Option Told) Error → Type 0) (old new : S) (result : Result (Option ℕ) Error) → EndsOwn sink.taken sink.failed Answers old new result
       → EndsOwn seen_by.taken seen_by.failed Answers (seen_of sink old) (seen_of sink new) result
   seen_own Answers old new result (not_answered error answers same) = not_answered error answers (ap (seen_of sink) same)
   seen_own Answers old new result (not_requested answers same) = not_requested answers (ap (seen_of sink) same)
-  seen_own Answers old new result (write_failed told kind answers fails) = write_failed told kind answers fails
+  seen_own Answers old new result (write_failed told kind answers begun fails) = write_failed told kind answers begun fails
   seen_own Answers old new result (written told answers takes fails) = written told answers takes fails
 
 module _ {O X : Type 0} (out : Ghosts O) (err : Ghosts X) (old new : Streams O X) where
