@@ -60,7 +60,7 @@ module _ {S : Type 0} (taken : S → List ℕ) (failures : S → Failures)
   pub unwritten : (error : Error)
       → Writes taken failures (Err error) old new (written_bytes told) → IsWrite error
       → EndsReply taken failures AnswersWith old new (Err (Library error))
-  unwritten (Write kind) writes is = write_failed told kind answers writes.failures
+  unwritten (Write kind) writes is = write_failed told kind answers writes.begun writes.failures
   unwritten _ writes is = absurd is
 
   -- the whole answer is written

@@ -1,8 +1,9 @@
 -- The outcomes of writing the answer to a request.
-use Rattle.std.specs.Prelude.{◌≡◌, ◌++◌, ℕ, List, Option, None, Some, Result, Ok, Err}
+use Rattle.std.specs.Prelude.{◌≡◌, ◌++◌, ℕ, true, List, Option, None, Some, Result, Ok, Err}
 use Rattle.std.specs.declared.io.ErrorKind.{ErrorKind}
 use Rattle.cc_asking.specs.Answers.{Told}
 use Rattle.cc_asking.specs.WrittenAnswers.{status_of, written_bytes}
+use Rattle.cc_base.specs.Partly.{partly}
 use Rattle.cc_base.specs.Sink.{add_failure}
 use Rattle.cc_base.specs.declared.error.Error.TheVariants.{Write}
 use Rattle.cc_base.specs.declared.failures.Failures.{Failures}
@@ -19,9 +20,9 @@ pub data EndsReply {S : Type 0} (taken : S → List ℕ) (failures : S → Failu
   -- there is no tree file or no request, and nothing is written
   not_requested : AnswersWith (Ok None) → new ≡ old
       → EndsReply taken failures AnswersWith old new (Ok 1)
-  -- a write failed, and is counted with its kind
+  -- a write failed, which is counted with its kind; a beginning of the answer is written
   write_failed : (told : Told) (kind : ErrorKind) → AnswersWith (Ok (Some told))
-      → failures new ≡ add_failure kind (failures old)
+      → partly (taken new) (taken old) (written_bytes told) ≡ true → failures new ≡ add_failure kind (failures old)
       → EndsReply taken failures AnswersWith old new (Err (failed.Library (Write kind)))
   -- the answer is written
   written : (told : Told) → AnswersWith (Ok (Some told))

@@ -27,7 +27,7 @@ const OWN_NAME: &str = "complgen";
 /// # Errors
 ///
 /// `UnknownShell` if no shell has the requested name, `Memory` if an allocation fails, and `Write`
-/// if the sink fails. After `Memory` and `Write` the sink may hold part of the text.
+/// if the sink fails. After `Memory` and `Write` the sink holds a beginning of the text.
 pub fn write_registrations<W: Sink>(
     alloc: Global,
     env: &EnvValues,

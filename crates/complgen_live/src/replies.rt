@@ -18,7 +18,7 @@ use std::alloc::Global;
 /// # Errors
 ///
 /// The errors of `answer_request`, with nothing written. `Library` with `Write` if `out` fails,
-/// which may then hold part of the answer.
+/// which then holds a beginning of the answer.
 pub fn reply<D: Folder, S: LineSource, W: Sink>(
     alloc: Global,
     request: &Request<'_, D>,
