@@ -53,7 +53,13 @@ module _ {S : Type 0} (taken : S → List ℕ) (failed : S → Failures) (before
     built = tt;
     in_range = tt;
     failures = w.failures;
-    errors = (built, range_wanted words count index true wants e range);
+    errors = (
+      built,
+      range_wanted words count index true wants e range,
+      reply found,
+      record { words = words; index = index; wants = wants; holds = (found, offers, refl) },
+      w.begun,
+    );
   }
   written (Err _) old new words count index found wants e built range offers w h = absurd h
 

@@ -1,6 +1,7 @@
 -- Lemmas for the outcomes of writing a script into memory.
 use Rattle.std.proofs.Common.{◌≡◌, ◌∙◌, ◌++◌, ap, refl, sym, subst, true, ℕ, List, [], Option, Some, Result, Ok, Err}
 use Rattle.cc_base.specs.Collected.{collected_bytes, collected_failures}
+use Rattle.cc_base.specs.Partly.{partly_self}
 use Rattle.cc_base.specs.Sink.{none_failed}
 use Rattle.cc_base.specs.declared.collected.Collected.{Collected}
 use Rattle.cc_shell.specs.declared.shell.Shell.{Shell}
@@ -51,13 +52,14 @@ module _ (before after : Collected) (empty : collected_bytes before ≡ [])
     finished (out_of_memory bytes refusal out same) = λ made fails.
         same_refusal (λ r. Finished [] (Some bytes) (Err r)) refusal made fails same.failed_same
         (out_of_memory bytes refusal out untouched)
-    finished (write_failed bytes text tree kind refusal described is reported counted) = λ made fails.
+    finished (write_failed bytes text tree kind refusal described is reported begun counted) =
+        λ made fails.
         out_of_memory bytes made (fails.some_failed
         (some_counted (collected_failures before) (collected_failures after) kind unfailed counted)) untouched
-    finished (out_of_memory_in_text bytes text tree refusal allocates described is out same) =
+    finished (out_of_memory_in_text bytes text tree refusal allocates described is out begun same) =
         λ made fails.
         same_refusal (λ r. Finished [] (Some bytes) (Err r)) refusal made fails same
-        (out_of_memory_in_text bytes text tree refusal allocates described is out refl)
+        (out_of_memory_in_text bytes text tree refusal allocates described is out (partly_self [] text) refl)
     finished (written bytes text tree described is took counts) =
         written bytes text tree described is (took ∙ ap (λ b. b ++ text) empty) refl
 

@@ -1,6 +1,6 @@
 -- The outcomes of a check of a tree file.
 use Rattle.std.proofs.Common.{◌≡◌, ◌++◌, ℕ, Bool, List, None, Option, Some, Ok, Err, Result, refl, subst, sym}
-use Rattle.cc_base.specs.Writes.{CountsWrite, IsMemoryOrWrite}
+use Rattle.cc_base.specs.Writes.{Writes}
 use Rattle.cc_base.specs.declared.error.Error.{Error}
 use Rattle.cc_base.specs.declared.error.Error.TheVariants.{Memory, Write}
 use Rattle.cc_base.specs.declared.failures.Failures.{Failures}
@@ -8,21 +8,26 @@ use Rattle.complgen_scripts.specs.declared.refusals.Refusal.{Refusal}
 use Rattle.complgen_scripts.specs.Refusals.{IsRefusal}
 use Rattle.complgen_scripts.specs.Refusals.{Reports, unreadable_line}
 use Rattle.complgen_tree_errors.specs.declared.finding.Finding.{Finding}
-use Rattle.complgen_check.specs.Checking.{EndsCheck, Finds, only_notes, out_of_memory, printed}
-use Rattle.complgen_check.specs.Checking.{unreadable, write_failed}
+use Rattle.complgen_check.specs.Checking.{EndsCheck, Finds, only_notes, out_of_memory_in_text}
+use Rattle.complgen_check.specs.Checking.{printed, unreadable, write_failed}
 use Rattle.complgen_check.specs.Report.{report_text}
 use Rattle.complgen_check.specs.declared.report.Report.{Report}
 
--- not all lines are printed
+-- a beginning of the text is printed
 pub not_printed : {S : Type 0} (taken : S → List ℕ) (failed : S → Failures) (bin : Option (List ℕ))
-    (report : Report) (bytes : List ℕ) (old new : S) (error : Error) (refusal : Refusal) → IsMemoryOrWrite error
-    → Reports error refusal → CountsWrite {T = Unit {0}} (Err error) (failed old) (failed new)
-    → EndsCheck taken failed bin report old new (Some bytes) (Err refusal)
-not_printed taken failed bin report bytes old new Memory refusal is reported counted =
-    out_of_memory bytes refusal reported counted
-not_printed taken failed bin report bytes old new (Write kind) refusal is reported counted =
-    write_failed bytes kind refusal reported counted
-not_printed taken failed bin report bytes old new error refusal is reported counted = absurd is
+    (report : Report) (bytes : List ℕ) (old new : S) (found shown : List Finding) (error : Error)
+    (refusal : Refusal) → Finds bin bytes found → shown ≡ found
+    → Writes taken failed (Err error) old new (report_text report bytes shown)
+    → Reports error refusal → EndsCheck taken failed bin report old new (Some bytes) (Err refusal)
+not_printed taken failed bin report bytes old new found shown Memory refusal finds is wrote reported =
+    out_of_memory_in_text bytes shown refusal (subst (Finds bin bytes) (sym is) finds) reported
+    wrote.begun wrote.failures
+not_printed taken failed bin report bytes old new found shown (Write kind) refusal finds is wrote
+    reported =
+    write_failed bytes shown kind refusal (subst (Finds bin bytes) (sym is) finds) reported
+    wrote.begun wrote.failures
+not_printed taken failed bin report bytes old new found shown error refusal finds is wrote reported =
+    absurd wrote.kinds
 
 -- all findings are printed, and the result is whether they are notes
 pub all_printed : {S : Type 0} (taken : S → List ℕ) (failed : S → Failures) (bin : Option (List ℕ))

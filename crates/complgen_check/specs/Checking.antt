@@ -3,6 +3,7 @@ use Rattle.std.specs.Prelude.{◌≡◌, ◌++◌, ℕ, Bool, true, false, if◌
 use Rattle.std.specs.List.{flat_map, list_all}
 use Rattle.std.specs.declared.io.ErrorKind.{ErrorKind}
 use Rattle.json.specs.Json.{Json}
+use Rattle.cc_base.specs.Partly.{partly}
 use Rattle.cc_base.specs.Sink.{add_failure}
 use Rattle.cc_base.specs.declared.error.Error.TheVariants.{Write}
 use Rattle.cc_base.specs.declared.failures.Failures.{Failures}
@@ -97,12 +98,21 @@ pub data EndsCheck {S : Type 0} (taken : S → List ℕ) (failed : S → Failure
   -- the file can't be read, and nothing is printed
   unreadable : (refusal : Refusal) → IsRefusal unreadable_line refusal
       → Untouched taken failed old new → EndsCheck taken failed bin report old new None (Err refusal)
-  -- out of memory; some lines may be printed
+  -- out of memory, and nothing is printed
   out_of_memory : (bytes : List ℕ) (refusal : Refusal) → IsOutOfMemory refusal
-      → failed new ≡ failed old → EndsCheck taken failed bin report old new (Some bytes) (Err refusal)
-  -- a write failed, which is counted with its kind; some lines may be printed
-  write_failed : (bytes : List ℕ) (kind : ErrorKind) (refusal : Refusal)
-      → IsRefusal (error_line (Write kind)) refusal → failed new ≡ add_failure kind (failed old)
+      → Untouched taken failed old new
+      → EndsCheck taken failed bin report old new (Some bytes) (Err refusal)
+  -- out of memory when the findings are printed; a beginning of their text is printed
+  out_of_memory_in_text : (bytes : List ℕ) (found : List Finding) (refusal : Refusal)
+      → Finds bin bytes found → IsOutOfMemory refusal
+      → partly (taken new) (taken old) (report_text report bytes found) ≡ true
+      → failed new ≡ failed old
+      → EndsCheck taken failed bin report old new (Some bytes) (Err refusal)
+  -- a write failed, which is counted with its kind; a beginning of the text is printed
+  write_failed : (bytes : List ℕ) (found : List Finding) (kind : ErrorKind) (refusal : Refusal)
+      → Finds bin bytes found → IsRefusal (error_line (Write kind)) refusal
+      → partly (taken new) (taken old) (report_text report bytes found) ≡ true
+      → failed new ≡ add_failure kind (failed old)
       → EndsCheck taken failed bin report old new (Some bytes) (Err refusal)
   -- each finding is printed, and the result is whether all are notes
   printed : (bytes : List ℕ) (found : List Finding) → Finds bin bytes found

@@ -34,6 +34,7 @@ use std::alloc::{AllocError, Global};
 /// # Errors
 ///
 /// A refusal with status 1 if the file can't be read, if a write fails, or if an allocation fails.
+/// After an error, `out` holds a beginning of the text, or nothing.
 pub fn check<W: Sink>(
     alloc: Global,
     bin: Option<&str>,

@@ -71,4 +71,4 @@ module _ {S : Type 0} (taken : S → List ℕ) (failed : S → Failures)
   register_failed e refusal held named wrote read reported =
       ends_failed taken failed true (λ tree refusal. ⊥) (IsRegistration registration Reads bin)
       old new file tree (registration name bin) e refusal refl held (is_registration named read)
-      wrote.failures wrote.kinds reported
+      wrote.begun wrote.failures wrote.kinds reported

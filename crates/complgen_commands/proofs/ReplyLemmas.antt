@@ -163,7 +163,7 @@ module _ {S : Type 0} (taken : S → List ℕ) (failed : S → Failures)
         are_found = may;
         is = ap lines_reply all;
         read_back = subst LinesRead all read;
-      }) wrote.failures kind reported
+      }) wrote.begun wrote.failures kind reported
 
 module _ {S : Type 0} (taken : S → List ℕ) (failed : S → Failures) (Finds : Paths)
     (words : List (List ℕ)) (index : ℕ) where

@@ -28,4 +28,4 @@ module _ {S : Type 0} (taken : S → List ℕ) (failed : S → Failures)
       → Finishes taken failed false Rejects IsText old new file (Err refusal)
   text_cut_off old new file tree text shown e refusal held is all wrote kind reported =
       ends_cut_off taken failed false Rejects IsText old new file tree shown e refusal held
-      (subst (IsText tree) (sym all) is) wrote.failures kind reported
+      (subst (IsText tree) (sym all) is) wrote.begun wrote.failures kind reported

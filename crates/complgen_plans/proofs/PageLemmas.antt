@@ -49,5 +49,5 @@ module _ {S : Type 0} (taken : S → List ℕ) (failed : S → Failures) (bin pa
       out_of_memory file refusal reported
       (record { taken_same = built.1; failed_same = wrote.failures })
   page_failed old new file tree after (error.Write kind) refusal held wrote built reported =
-      write_failed file tree kind refusal held reported wrote.failures
+      write_failed file tree kind refusal held reported wrote.begun wrote.failures
   page_failed old new file tree after _ refusal held wrote built reported = absurd wrote.kinds

@@ -1,6 +1,7 @@
 -- The outcomes of writing a man page.
-use Rattle.std.specs.Prelude.{◌≡◌, ◌++◌, ℕ, List, Option, Some, Result, Ok, Err}
+use Rattle.std.specs.Prelude.{◌≡◌, ◌++◌, ℕ, true, List, Option, Some, Result, Ok, Err}
 use Rattle.std.specs.declared.io.ErrorKind.{ErrorKind}
+use Rattle.cc_base.specs.Partly.{partly}
 use Rattle.cc_base.specs.Sink.{add_failure}
 use Rattle.cc_base.specs.declared.error.Error.TheVariants.{Write}
 use Rattle.cc_base.specs.declared.failures.Failures.{Failures}
@@ -23,9 +24,10 @@ pub data EndsPage {S : Type 0} (taken : S → List ℕ) (failed : S → Failures
   -- out of memory, and nothing is written
   out_of_memory : (file : Option (List ℕ)) (refusal : Refusal) → IsOutOfMemory refusal
       → Untouched taken failed old new → EndsPage taken failed bin path old new file (Err refusal)
-  -- a write failed, which is counted with its kind; a part of the page may be written
+  -- a write failed, which is counted with its kind; a beginning of the page is written
   write_failed : (file : Option (List ℕ)) (tree : Tree) (kind : ErrorKind) (refusal : Refusal)
       → HoldsTree file tree → IsRefusal (error_line (Write kind)) refusal
+      → partly (taken new) (taken old) (man_page (built_under (Some bin) tree)) ≡ true
       → failed new ≡ add_failure kind (failed old)
       → EndsPage taken failed bin path old new file (Err refusal)
   -- the page of the command in the file is written, and a reader of roff reads it back

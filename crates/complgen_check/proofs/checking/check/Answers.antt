@@ -19,7 +19,8 @@ returns-in_err-found-clause-ends g c =
     let p = err_from_is_err_and c.from_residual.result c.from_residual.ensures.1 in
     rw p.1 (of_file g.W.Sink.taken g.W.Sink.failed (option_copied c.args.bin)
     c.args.report (option_copied c.args.file) c.in-Some.bytes.now c.args.out.now c.args.out.now (Err p.0)
-    (ap option_copied c.in-Some.is) (out_of_memory c.in-Some.bytes.now p.0 p.2 refl))
+    (ap option_copied c.in-Some.is) (out_of_memory c.in-Some.bytes.now p.0 p.2
+    (record { taken_same = refl; failed_same = refl })))
 
 pub returns-in-Ok-clause-ends : goal.returns-in-Ok-clause-ends
 returns-in-Ok-clause-ends g c =
@@ -49,5 +50,6 @@ returns-clause-ends g c =
     c.in-Some.bytes.now c.args.out.now c.put_findings.new.out (Err c.error_refusal.result)
     (ap option_copied c.in-Some.is)
     (not_printed g.W.Sink.taken g.W.Sink.failed (option_copied c.args.bin) c.args.report c.in-Some.bytes.now
-    c.args.out.now c.put_findings.new.out c.in-Err.error c.error_refusal.result
-    c.in-Err.ensures.kinds c.error_refusal.ensures c.in-Err.ensures.failures)
+    c.args.out.now c.put_findings.new.out c.in_ok-found.found.items c.as_slice.result.now c.in-Err.error
+    c.error_refusal.result c.in_ok-found.ensures c.as_slice.ensures.value c.in-Err.ensures
+    c.error_refusal.ensures)
