@@ -7,7 +7,7 @@ use Rattle.cc_base.specs.declared.error.Error.{Error}
 use Rattle.cc_base.specs.declared.error.Error.TheVariants.{Write}
 use Rattle.cc_base.specs.declared.failures.Failures.{Failures}
 use Rattle.cc_env.specs.Wanted.{Wanted, known, unknown}
-use Rattle.cc_env.specs.Steps.{Ends, EndsAs, Tries, nothing_written, text_written, write_failed}
+use Rattle.cc_env.specs.Steps.{Ends, EndsAs, Tries, text_written, write_failed}
 
 module _ {S : Type 0} (taken : S → List ℕ) (failed : S → Failures) where
   -- a put that fails
@@ -24,13 +24,6 @@ module _ {S : Type 0} (taken : S → List ℕ) (failed : S → Failures) where
       → Ends taken failed Makes old new (Ok true)
   ends_written Makes old new text made done same makes writes =
       text_written made makes (writes.ok ∙ ap (λ t. taken old ++ t) same) writes.failures
-
-  -- the same of a text that is known to be made
-  pub ends_by : (Makes : Result (List ℕ) Error → Type 0) (made : Result (List ℕ) Error) (old new : S) (result : Result Bool Error)
-      → Makes made → Ends taken failed (λ text. text ≡ made) old new result → Ends taken failed Makes old new result
-  ends_by Makes made old new result makes (nothing_written error is same) = nothing_written error (subst Makes (sym is) makes) same
-  ends_by Makes made old new result makes (write_failed text kind is begun fails) = write_failed text kind (subst Makes (sym is) makes) begun fails
-  ends_by Makes made old new result makes (text_written text is takes fails) = text_written text (subst Makes (sym is) makes) takes fails
 
   module _ {C : Type 0} (spec : C → CompleterSpec) (shells : List C) (Makes : C → Result (List ℕ) Error → Type 0) (old new : S) where
     -- the request that a name makes

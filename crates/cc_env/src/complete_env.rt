@@ -10,7 +10,7 @@ ghost use Rattle.cc_engine.specs.Sources.{returned_from, returned_of};
 ghost use Rattle.cc_replies.specs.Environment.{value_of};
 ghost use Rattle.cc_env.specs.Wanted.{wanted_name};
 ghost use Rattle.cc_env.specs.Requested.{FindsShell, found_shell};
-ghost use Rattle.cc_env.specs.Steps.{Ends, MakesText, Tries, made_bytes, names_of};
+ghost use Rattle.cc_env.specs.Steps.{MakesText, Tries, made_bytes, names_of};
 
 use crate::builtin::Builtin;
 use crate::env_completer::{EnvCompleter, LookupCompleter};
@@ -193,7 +193,9 @@ impl<'s, F: Fn(Global) -> Result<Command, Error> + Drop, E: EnvCompleter> Comple
             folder,
             completers,
         };
-        write_made(self.make_text_of_sources(alloc, adapter, args, env, &sources), out)
+        let text = self.make_text_of_sources(alloc, adapter, args, env, &sources)?;
+        put_all(out, text.as_slice())?;
+        Ok(true)
     }
 
     /// Returns the shell that `env` requests by the value of the variable, or `None` if it requests
@@ -294,7 +296,9 @@ where
             return Ok(false);
         };
         let shell = known_shell(alloc, &self.shells, name)?;
-        write_made(self.make_text(alloc, shell, args, env, lookup), out)
+        let text = self.make_text(alloc, shell, args, env, lookup)?;
+        put_all(out, text.as_slice())?;
+        Ok(true)
     }
 
     // Returns the text for a shell and the arguments of the program.
@@ -316,15 +320,6 @@ where
         let program = self.shell_program(shell);
         program.text(alloc, command, args.as_slice(), env, lookup)
     }
-}
-
-// Writes a text if it could be made.
-fn write_made<W: Sink>(made: Result<Collected, Error>, out: &mut W) -> Result<bool, Error>
-    ensures { Ends W.taken W.failed (λ text. text ≡ made_bytes made) out.old out.new result }
-{
-    let text = made?;
-    put_all(out, text.as_slice())?;
-    Ok(true)
 }
 
 fn some_text(text: &Option<Text>) -> Option<&str>
