@@ -38,6 +38,7 @@ pub(crate) fn put_findings<W: Sink>(
     put_each(out, alloc, report, &lines, findings)
 }
 
+#[tactic(auto, using(cc_base::proofs::WrittenTexts::in_steps))]
 fn put_each<W: Sink>(
     out: &mut W,
     alloc: Global,
