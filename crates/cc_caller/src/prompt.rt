@@ -86,7 +86,7 @@ fn last_index(words: &[String]) -> usize
     words.len().saturating_sub(1)
 }
 
-#[tactic(auto, using(clap_complete::proofs::WrittenTexts::in_steps))]
+#[tactic(auto, using(cc_base::proofs::WrittenTexts::in_steps))]
 fn write_values<W: Sink>(found: &[CompletionCandidate], sink: &mut W) -> Result<(), Error>
     ensures written { Writes W.taken W.failed result sink.old sink.new (prompt_reply found.now) }
     ensures write_only { IfErr result IsWrite }

@@ -35,7 +35,7 @@ impl Generator for WordList {
     }
 }
 
-#[tactic(auto, using(clap_complete::proofs::WrittenTexts::in_steps))]
+#[tactic(auto, using(cc_base::proofs::WrittenTexts::in_steps))]
 fn write_lines<W: Sink>(longs: &[String], sink: &mut W) -> Result<(), Error>
     ensures { Writes W.taken W.failed result sink.old sink.new
         (flat_map line (map string_bytes longs.now)) }
@@ -46,7 +46,7 @@ fn write_lines<W: Sink>(longs: &[String], sink: &mut W) -> Result<(), Error>
     Ok(())
 }
 
-#[tactic(auto, using(clap_complete::proofs::WrittenTexts::after_bytes))]
+#[tactic(auto, using(cc_base::proofs::WrittenTexts::after_bytes))]
 fn write_line<W: Sink>(long: &str, sink: &mut W) -> Result<(), Error>
     ensures { Writes W.taken W.failed result sink.old sink.new (line long.now) }
 {

@@ -1,5 +1,5 @@
 use Rattle.std.proofs.Common.{drop}
-use Rattle.clap_complete.proofs.WrittenTexts.{GoesOn}
+use Rattle.cc_base.proofs.WrittenTexts.{GoesOn}
 use Rattle.cc_caller.specs.Prompt.{prompt_reply}
 use Rattle.cc_caller.proofs.prompt.write_values.Given as goal
 

@@ -1,5 +1,5 @@
 use Rattle.std.proofs.Common.{drop, flat_map, map, string_bytes}
-use Rattle.clap_complete.proofs.WrittenTexts.{GoesOn}
+use Rattle.cc_base.proofs.WrittenTexts.{GoesOn}
 use Rattle.cc_caller.specs.WordList.{line}
 use Rattle.cc_caller.proofs.word_list.write_lines.Given as goal
 
