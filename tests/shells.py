@@ -178,22 +178,29 @@ class Shell:
 
     def __init__(self, scratch: Scratch, loaded: str = "", setup: str = "", words: Sequence[str] = ()) -> None:
         """Starts the shell, by these words instead of the usual ones, and waits for its prompt."""
-        self.scratch, self.seen, self.turn = scratch, b"", 0
+        self.scratch, self.turn, self.folder = scratch, 0, scratch.here
+        # kept, because a test may change them for its next shell
+        self.columns, self.environment = scratch.columns, dict(scratch.environment)
         source = os.path.join(scratch.path, "loaded." + self.name)
         self.offers = os.path.join(scratch.path, "offered")
         write(source, loaded)
         home = scratch.environment["HOME"]
         write(os.path.join(home, self.start_file), self.start_text(source if loaded else os.devnull, setup))
-        words = list(words or self.words(home))
+        self.starting = list(words or self.words(home))
+        self.start()
+
+    def start(self) -> None:
+        """Starts the shell in its directory, and waits for its prompt."""
+        self.seen = b""
         self.began = time.monotonic()
         self.process, self.terminal = pty.fork()
         if self.process == 0:
             # As for a user's shell: Python ignores some signals, and so does a script in the background.
             for number in (signal.SIGINT, signal.SIGQUIT, signal.SIGPIPE, signal.SIGXFSZ):
                 signal.signal(number, signal.SIG_DFL)
-            os.chdir(scratch.here)
-            os.execvpe(words[0], words, scratch.environment)
-        fcntl.ioctl(self.terminal, termios.TIOCSWINSZ, struct.pack("HHHH", 50, scratch.columns, 0, 0))
+            os.chdir(self.folder)
+            os.execvpe(self.starting[0], self.starting, self.environment)
+        fcntl.ioctl(self.terminal, termios.TIOCSWINSZ, struct.pack("HHHH", 50, self.columns, 0, 0))
         if not self.ready() or self.tab("", "")[0] is None:
             raise Ended(f"{self.name}: does not start within {LONGEST} seconds: {self.seen[-300:]!r}")
 
@@ -295,12 +302,15 @@ class Shell:
 
     def received(self, text: str, tabs: int = 1, keys: str = "") -> Optional[List[str]]:
         """Types a text, other keys and Tabs, closes an open quote, and presses Enter. Returns the words that the
-        program received."""
+        program received. A shell that does not answer is started anew, for the next attempt."""
         unlink(self.scratch.record)
         self.seen = b""
         line = self.inserted(text, tabs, keys)
+        if line is None:
+            self.renew()
+            return None
         self.seen = b""
-        self.send(self.open_quote(line or "") + "\r")
+        self.send(self.open_quote(line) + "\r")
         return self.outcome()
 
     def offered(self, text: str) -> List[str]:
@@ -320,11 +330,19 @@ class Shell:
         """Waits for the end of a command. Returns the words that the program received, or `None` if it did not
         run."""
         line, _ = self.tab("", "")  # the shell reads these keys when it is ready
-        if line or self.is_incomplete():
+        if line is None:
+            self.renew()
+        elif line or self.is_incomplete():
             self.interrupt()
         self.seen = b""
         self.wait(self.scratch.record, 2)
         return self.scratch.recorded()
+
+    def renew(self) -> None:
+        """Starts the shell anew in its directory, because it does not answer."""
+        print(f"{self.name}: no answer within {LONGEST} seconds, started anew", flush=True)
+        self.close()
+        self.start()
 
     def forget(self) -> None:
         """Begins a new command: no words were received, and the command line is empty."""
@@ -354,7 +372,7 @@ class Shell:
 
     def go(self, folder: str) -> None:
         """Changes the directory."""
-        self.seen = b""
+        self.seen, self.folder = b"", folder
         self.send(f"cd '{folder}'\r")
         self.ready()
         self.tab("", "")
