@@ -198,9 +198,10 @@ class Shell:
             # As for a user's shell: Python ignores some signals, and so does a script in the background.
             for number in (signal.SIGINT, signal.SIGQUIT, signal.SIGPIPE, signal.SIGXFSZ):
                 signal.signal(number, signal.SIG_DFL)
+            # Before the shell starts, because bash notices a later change only when a command ends.
+            fcntl.ioctl(0, termios.TIOCSWINSZ, struct.pack("HHHH", 50, self.columns, 0, 0))
             os.chdir(self.folder)
             os.execvpe(self.starting[0], self.starting, self.environment)
-        fcntl.ioctl(self.terminal, termios.TIOCSWINSZ, struct.pack("HHHH", 50, self.columns, 0, 0))
         if not self.ready() or self.tab("", "")[0] is None:
             raise Ended(f"{self.name}: does not start within {LONGEST} seconds: {self.seen[-300:]!r}")
 

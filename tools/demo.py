@@ -15,14 +15,11 @@ and ends with status 1 if they differ. It needs the proved `complgen`, bash and 
 from __future__ import annotations
 
 import argparse
-import fcntl
 import html
 import json
 import os
 import re
-import struct
 import sys
-import termios
 import time
 from typing import Callable, Dict, List, NamedTuple, Optional, Tuple, Type
 
@@ -156,10 +153,9 @@ class Shown(shells.Shell):
     screen: Optional[Screen] = None
 
     def begin(self) -> None:
-        """Clears the screen, and sets its size and the prompt."""
+        """Clears the screen, and sets the prompt."""
         self.screen = Screen()
         self.typed: List[Typed] = []
-        fcntl.ioctl(self.terminal, termios.TIOCSWINSZ, struct.pack("HHHH", ROWS, COLUMNS, 0, 0))
         self.settle(0.3)
         self.send(f"{self.prompt_line}; printf '\\033[H\\033[2J'\r")
         self.expect(lambda lines: lines == [self.prompt.rstrip()])
@@ -234,6 +230,7 @@ class ShownZsh(Shown, shells.Zsh):
 def session(kind: Type[Shown], complgen: str) -> Tuple[List[str], List[Typed]]:
     """Runs a session. Returns the lines of its screen, and what was typed."""
     scratch = shells.TreeScratch(complgen)
+    scratch.columns = COLUMNS
     with scratch:
         scratch.script("app", "#!/bin/sh\nprintf 'received: %s\\n' \"$@\"\n")
         os.unlink(os.path.join(scratch.bin, "touch"))  # the session has the system's
@@ -309,9 +306,12 @@ def main() -> int:
     if not options.check:
         print("\n\n".join("\n".join(lines) for lines, _ in found))
         return 0
-    is_same = os.path.exists(PICTURE) and shells.read(PICTURE) == drawn(found)
-    print("docs/demo.svg shows the sessions" if is_same else "docs/demo.svg is out of date: run tools/demo.py --write")
-    return 0 if is_same else 1
+    if os.path.exists(PICTURE) and shells.read(PICTURE) == drawn(found):
+        print("docs/demo.svg shows the sessions")
+        return 0
+    print("\n\n".join("\n".join(lines) for lines, _ in found))
+    print("docs/demo.svg does not show these screens: run tools/demo.py --write")
+    return 1
 
 
 if __name__ == "__main__":
