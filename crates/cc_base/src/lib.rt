@@ -47,7 +47,7 @@ pub use crate::items::Items;
 pub use crate::joined::{put_separator, put_word};
 pub use crate::names::is_plain_name;
 pub use crate::numbers::{ArgValueCandidates, ArgValueCompleter, SubcommandCandidates};
-pub use crate::pieces::{put_around, put_piece, put_pieces};
+pub use crate::pieces::{put_around, put_piece, put_pieces, put_text, put_texts};
 pub use crate::shown::{on_one_line, visible};
 pub use crate::sink::{Sink, put_all};
 pub use crate::sources::CandidateSources;

@@ -1,10 +1,12 @@
 //! Functions that put pieces of a text one after another. Their error is the kind of the put that
 //! failed. It is smaller than the library's error, so long rows of pieces take fewer instructions.
+//! `put_text` and `put_texts` are for functions that fail with the library's error anyway.
 
 ghost use Rattle.std.specs.Prelude.{◌≡◌, [], ◌++◌, IsOk};
 ghost use Rattle.cc_base.specs.Joined.{with_pieces};
 ghost use Rattle.cc_base.specs.Writes.{Writes, as_write};
 
+use crate::error::Error;
 use crate::sink::Sink;
 use std::io::ErrorKind;
 
@@ -88,4 +90,29 @@ pub fn put_around<'a, S: Sink>(
         (before.now ++ text.now ++ after.now) }
 {
     put_pieces(sink, &[before, text, after])
+}
+
+/// Puts all of `text`, as [`put_piece`] does.
+///
+/// # Errors
+///
+/// `Write` with the kind of the put that failed.
+#[inline(always)]
+pub fn put_text<S: Sink>(sink: &mut S, text: &str) -> Result<(), Error>
+    ensures { Writes S.taken S.failed result sink.old sink.new text.now }
+{
+    Ok(put_piece(sink, text)?)
+}
+
+/// Puts each of the `texts` in turn, as [`put_pieces`] does.
+///
+/// # Errors
+///
+/// `Write` with the kind of the put that failed.
+#[inline(always)]
+pub fn put_texts<S: Sink>(sink: &mut S, texts: &[&str]) -> Result<(), Error>
+    ensures { Writes S.taken S.failed result sink.old sink.new
+        (with_pieces (λ text. text.now) [] texts.now) }
+{
+    Ok(put_pieces(sink, texts)?)
 }
