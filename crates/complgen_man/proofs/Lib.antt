@@ -1,3 +1,4 @@
 mod PageRead
 mod Parts
 mod Rows
+mod Stopped

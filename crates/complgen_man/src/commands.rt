@@ -6,9 +6,9 @@ ghost use Rattle.cc_command.specs.Tree.{forest_of};
 ghost use Rattle.complgen_man.specs.Page.{command_head, command_text, commands_text, if_shown};
 
 use crate::arguments::write_arguments;
-use crate::escapes::{put_request, put_word, write_paragraph};
+use crate::escapes::{put_request, put_word_between, write_paragraph};
 use crate::usage::{description, write_notes, write_usage};
-use cc_base::{Sink, put_piece};
+use cc_base::Sink;
 use cc_command::{Command, full_name};
 use std::io::ErrorKind;
 
@@ -58,9 +58,7 @@ fn write_head<W: Sink>(sink: &mut W, command: &Command) -> Result<(), ErrorKind>
     ensures { Writes W.taken W.failed (as_write result) sink.old sink.new
         (command_head command.now) }
 {
-    put_request(sink, "SS \"")?;
-    put_word(sink, full_name(command))?;
-    put_piece(sink, "\"\n\\&")?;
+    put_word_between(sink, ".SS \"", full_name(command), "\"\n\\&")?;
     write_usage(sink, command)?;
     put_request(sink, "PP\n")
 }

@@ -16,7 +16,7 @@ ghost use Rattle.complgen_man.specs.Page.{titled_commands, titled_options};
 
 use crate::arguments::write_arguments;
 use crate::commands::write_commands;
-use crate::escapes::{put_request, put_word, write_paragraph};
+use crate::escapes::{put_request, put_word, put_word_between, write_paragraph};
 use crate::usage::{description, has_shown, write_notes, write_usage};
 use cc_arg::Arg;
 use cc_base::{Error, Sink, put_piece};
@@ -108,9 +108,7 @@ fn write_title<W: Sink>(sink: &mut W, name: &str, version: Option<&str>) -> Resu
     ensures { Writes W.taken W.failed (as_write result) sink.old sink.new
         (title_text name.now (option_copied version.entry)) }
 {
-    put_request(sink, "TH \"")?;
-    put_word(sink, name)?;
-    put_piece(sink, "\" \"1\" \"\" \"")?;
+    put_word_between(sink, ".TH \"", name, "\" \"1\" \"\" \"")?;
     write_source(sink, name, version)?;
     put_piece(sink, "\" \"User Commands\"\n.nh\n")
 }
