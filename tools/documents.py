@@ -244,7 +244,6 @@ SOURCES = files("crates/*/src/**/*.rt") + files("examples/**/*.rs")
 COMMANDS = set(re.findall(r'Some\(\("([a-z]+)"', "\n".join(lines_of("crates/complgen_command_line/src/words.rt"))))
 COUNTS = {
     r"\b(\d\d+) crates\b": sum(":" in line and line[0] != "#" for line in lines_of("crates.txt")),
-    r"\b(\d\d+) planted faults\b": len(paths("crates/*/must-fail/*.edit")),
     r"\b(\d+) commands of `complgen`": len(COMMANDS),
     r"`P1` to `P(\d+)`": sum(bool(re.match(r"\| P\d+ \|", line)) for line in lines_of("docs/PROOFS.md")),
     r"\bclauses have it as (\d+)\b": int(re.findall(r"MOST_KEYS: usize = (\d+)", "\n".join(
