@@ -3,7 +3,7 @@
 
 use crate::checks::{has, tree};
 use crate::files::{FILES, folder, holds_script_in, remove};
-use cc_fixtures::trees::APP;
+use crate::trees::APP;
 use clap_complete::aot::{Collected, Elvish};
 use clap_complete::command::{Arg, Command};
 use clap_complete::{Error, Shell, generate, generate_to};

@@ -2,10 +2,12 @@
 //! words.
 
 use crate::checks::{is, same};
-use cc_base::Error;
-use cc_quote::{
-    bash_double, bash_double_word, elvish_word, fish_double, fish_quote, fish_quote_for_eval,
-    fish_word, posix_quote, posix_word, powershell_word,
+use clap_complete::Error;
+use clap_complete::quote::{
+    bash_double, bash_double_word, elvish_escape, elvish_word, fish_double, fish_escape,
+    fish_help_for_eval, fish_quote, fish_quote_for_eval, fish_word, posix_quote, posix_word,
+    powershell_escape, powershell_word, zsh_escape_help, zsh_escape_value, zsh_reply_help,
+    zsh_reply_value,
 };
 use std::process::Abort;
 
@@ -24,6 +26,23 @@ fn words_are_quoted(rt: HostRuntime) {
         "'/p/\\$var/c'",
     );
     is(&rt, posix_quote(alloc, "a'b"), "'a'\\''b'");
+}
+
+// Calls that no script and no registration makes by itself. docs/TEXTS.md has the rules.
+#[test]
+fn texts_are_escaped(rt: HostRuntime) {
+    let alloc = rt.alloc();
+    is(&rt, elvish_escape(alloc, "it's\n"), "it''s ");
+    is(&rt, powershell_escape(alloc, "it's ’\n"), "it''s '’ ");
+    is(&rt, fish_escape(alloc, "it's\\\n"), "it\\'s\\\\ ");
+    is(&rt, fish_help_for_eval(alloc, "a\n"), "'a '");
+    let text = "\\ [foo]() `bar https://$PATH";
+    let value = "\\\\\\ \\[foo\\]\\(\\)\\ \\`bar\\ https\\://\\$PATH";
+    is(&rt, zsh_escape_value(alloc, text), value);
+    let help = "\\\\ \\[foo\\]() \\`bar https\\://\\$PATH";
+    is(&rt, zsh_escape_help(alloc, text), help);
+    is(&rt, zsh_reply_value(alloc, "a\\b:c"), "a\\\\b\\:c");
+    is(&rt, zsh_reply_help(alloc, "a\\b:c"), "a\\\\b:c");
 }
 
 // Fails unless the word `word` was read, followed by the text `rest`.
@@ -46,10 +65,4 @@ fn words_are_read(rt: HostRuntime) {
     let text = "\"a$b\\c\"é\\ y\\\nz w";
     reads(&rt, posix_word(alloc, text), "a$b\\cé yz", " w");
     reads(&rt, powershell_word(alloc, "'it'’s' more"), "it’s", " more");
-}
-
-#[test]
-fn an_open_quote_is_no_word(rt: HostRuntime) {
-    let open = fish_word(rt.alloc(), "'a");
-    assert!(rt; matches!(open, Ok(None)));
 }

@@ -1,10 +1,9 @@
-//! Tests of the lists that generators share, and of the tests for plain names and quiet values.
+//! The lists that generators share.
 
 use crate::checks::{is, tree};
-use cc_base::{Error, is_plain_name};
-use cc_command::Command;
-use cc_generator::utils;
-use cc_quote::is_plain_path;
+use clap_complete::Error;
+use clap_complete::aot::utils;
+use clap_complete::command::Command;
 use std::alloc::Global;
 use std::fmt::Write;
 
@@ -85,17 +84,4 @@ fn the_names_in_a_tree_are_listed(rt: HostRuntime) {
     is(&rt, names(rt.alloc(), run), "p f path file out file");
     is(&rt, below(rt.alloc(), &command), BELOW);
     drop(command);
-}
-
-// A value with a blank is not quiet, though it is hidden.
-const BLANK: &str = r#"{"name": "app", "args": [
-    {"id": "to", "long": "to", "possible_values": [{"name": "a b", "hide": true}]}]}"#;
-
-#[test]
-fn a_plain_tree_may_have_values_that_are_not_quiet(rt: HostRuntime) {
-    let command = tree(&rt, BLANK);
-    assert!(rt; command.is_plain() && !command.has_quiet_values());
-    drop(command);
-    assert!(rt; is_plain_name("sub-command_2") && !is_plain_name("a--b"));
-    assert!(rt; is_plain_path("/w/./my_app-2") && !is_plain_path("a+b"));
 }

@@ -4,10 +4,11 @@ ghost use Rattle.std.specs.Prelude.{⊤};
 
 use crate::checks::same;
 use crate::completers::with_positional;
-use crate::offered::{are, offers};
-use cc_base::Error;
-use cc_candidates::{Completers, ValueCompleter};
-use cc_paths::{Folder, FolderError, MemoryFolder, PathCompleter, PathTest, RealFolder};
+use crate::offered::offers;
+use clap_complete::Error;
+use clap_complete::engine::{
+    Completers, Folder, FolderError, MemoryFolder, PathCompleter, PathTest, RealFolder,
+};
 use std::alloc::Global;
 use std::process::Abort;
 use std::rt::Files;
@@ -100,26 +101,6 @@ fn completers_of_paths_are_added(rt: HostRuntime) {
         &["app", "/dev/nul"],
         "/dev/null ",
     );
-}
-
-// A completer offers hidden paths too. Those that it does not list are left out by `complete`.
-#[test]
-fn completers_list_paths(rt: HostRuntime) {
-    let alloc = rt.alloc();
-    let work_dir = String::from_str(alloc, "/w").expect(&rt, "no text");
-    let folders = PathCompleter::dir(work()).current_dir(work_dir);
-    are(&rt, folders.complete(alloc, ""), ". .git/ src/ ");
-    let work_dir = String::from_str(alloc, "/w").expect(&rt, "no text");
-    let files = PathCompleter::file(work()).current_dir(work_dir).stdio();
-    are(&rt, files.complete(alloc, ""), "a.txt .git/ src/ - ");
-    are(&rt, files.complete(alloc, "~/s"), "~/src/ ");
-}
-
-#[test]
-fn a_closure_filters(rt: HostRuntime) {
-    let test = Box::new(rt.alloc(), |path: &str| path.ends_with("foo"));
-    let all = PathCompleter::any(other()).filter(test.expect(&rt, "no memory"));
-    are(&rt, all.complete(rt.alloc(), "/o/"), "/o/foo/ ");
 }
 
 // Fails unless `wanted` tells whether a path leads to a directory, whether it leads to a file,

@@ -3,7 +3,8 @@
 ghost use Rattle.std.specs.Prelude.{◌≡◌, ◌++◌, IfOk};
 
 use crate::checks::same;
-use cc_base::{Collected, Counted, Error, Held, Sink, put_all};
+use clap_complete::Error;
+use clap_complete::aot::{Collected, Counted, Held, Sink, put_all};
 use std::alloc::Global;
 use std::io::{self, ErrorKind};
 use std::process::Abort;

@@ -1,13 +1,10 @@
 //! The candidates for a word, as one text.
 
 use crate::checks::is;
-use cc_base::Error;
-use cc_candidates::{Completers, CompletionCandidate};
-use cc_command::Command;
-use cc_engine::complete;
-use cc_fixtures::words::to_strings;
-use cc_paths::MemoryFolder;
-use std::alloc::{AllocError, Global};
+use crate::words::{to_strings, values};
+use clap_complete::Error;
+use clap_complete::command::Command;
+use clap_complete::engine::{Completers, CompletionCandidate, MemoryFolder, complete};
 use std::fmt::Debug;
 use std::process::Abort;
 
@@ -48,13 +45,4 @@ pub(crate) fn are<R: Abort + AllocGlobal, E: Debug + Drop>(
 ) {
     let found = found.expect(rt, "no candidates");
     is(rt, values(rt.alloc(), found.as_slice()), wanted);
-}
-
-fn values(alloc: Global, found: &[CompletionCandidate]) -> Result<String, AllocError> {
-    let mut text = String::new(alloc);
-    for candidate in found {
-        text.push_str(candidate.get_value())?;
-        text.push(' ')?;
-    }
-    Ok(text)
 }

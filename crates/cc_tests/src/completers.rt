@@ -3,13 +3,13 @@
 ghost use Rattle.std.specs.Prelude.{⊤};
 
 use crate::offered::{are, offers};
-use cc_arg::{Arg, ValueRange};
-use cc_base::{ArgValueCandidates, ArgValueCompleter, Error, SubcommandCandidates};
-use cc_candidates::{
-    Completers, CompletionCandidate, FnCandidates, FnCompleter, ValueCandidates, ValueCompleter,
+use crate::trees::{BARE, read};
+use clap_complete::Error;
+use clap_complete::command::{Arg, Command, ValueRange};
+use clap_complete::engine::{
+    ArgValueCandidates, ArgValueCompleter, Completers, CompletionCandidate, FnCandidates,
+    FnCompleter, SubcommandCandidates, ValueCandidates, ValueCompleter,
 };
-use cc_command::Command;
-use cc_fixtures::trees::{BARE, read};
 use std::alloc::{AllocError, Global};
 
 /// Completes with the number of the value and the text, such as `1:text`. For any value, completes
@@ -116,17 +116,7 @@ fn with_pair(alloc: Global) -> Result<Command, Error> {
 
 fn pair(alloc: Global) -> Result<Arg, Error> {
     let long = String::from_str(alloc, "pair")?;
-    let heading = String::from_str(alloc, "Pairs")?;
-    Ok(positional(alloc)?.long(long).help_heading(heading))
-}
-
-// Returns `app` with a positional whose values are those of this list, and no flag.
-fn with_list(alloc: Global, list: usize) -> Result<Command, Error> {
-    let list = ArgValueCandidates::new(list);
-    with(
-        alloc,
-        positional(alloc).map(|positional| positional.add_candidates(list)),
-    )
+    Ok(positional(alloc)?.long(long))
 }
 
 fn positional(alloc: Global) -> Result<Arg, Error> {
@@ -135,16 +125,6 @@ fn positional(alloc: Global) -> Result<Arg, Error> {
 
 fn with(alloc: Global, argument: Result<Arg, Error>) -> Result<Command, Error> {
     read(alloc, BARE).and_then(|command| argument.and_then(|argument| command.arg(argument)))
-}
-
-// `app` with a child `test`, whose visible alias is `t`, and names of other programs.
-const EXTERNAL: &str = r#"{"name": "app", "disable_help_flag": true,
-    "disable_help_subcommand": true, "allow_external_subcommands": true, "subcommands": [
-        {"name": "test", "visible_aliases": ["t"]}]}"#;
-
-// Returns this command with the names of this list as other programs.
-fn with_programs(alloc: Global, list: usize) -> Result<Command, Error> {
-    read(alloc, EXTERNAL).map(|command| command.add(SubcommandCandidates::new(list)))
 }
 
 #[test]
@@ -156,30 +136,6 @@ fn a_completer_gets_the_number_and_the_text_of_a_value(rt: HostRuntime) {
     offers(&rt, parts, completers(alloc), &["app", "a,b,c"], "a,b,0:c ");
     let repeated = with_positional(alloc, 1);
     offers(&rt, repeated, completers(alloc), &["app", "ab"], "abab ");
-}
-
-#[test]
-fn a_list_gives_what_begins_with_the_word(rt: HostRuntime) {
-    let alloc = rt.alloc();
-    let list = with_list(alloc, 0);
-    offers(&rt, list, completers(alloc), &["app", "t"], "tee tar tee ");
-    let sides = with_list(alloc, 1);
-    offers(&rt, sides, completers(alloc), &["app", "l"], "left ");
-}
-
-#[test]
-fn names_of_other_programs_are_in_order_and_each_once(rt: HostRuntime) {
-    let alloc = rt.alloc();
-    let programs = with_programs(alloc, 0);
-    offers(
-        &rt,
-        programs,
-        completers(alloc),
-        &["app", ""],
-        "cat tar tee t ",
-    );
-    let none = with_programs(alloc, 7);
-    offers(&rt, none, completers(alloc), &["app", ""], "t ");
 }
 
 #[test]

@@ -1,7 +1,7 @@
 //! Checks of values. Proving what one `assert_eq!` writes takes seconds, so it is here once, and
 //! tests call it.
 
-use cc_fixtures::trees::read;
+use crate::trees::read;
 use clap_complete::command::Command;
 use std::fmt::Debug;
 use std::process::Abort;

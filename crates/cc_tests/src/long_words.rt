@@ -1,8 +1,8 @@
 //! Many words, and long words.
 
 use crate::offered::offers;
-use cc_candidates::Completers;
-use cc_fixtures::trees::read;
+use crate::trees::read;
+use clap_complete::engine::Completers;
 use std::alloc::{AllocError, Global};
 use std::process::Abort;
 

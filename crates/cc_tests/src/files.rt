@@ -1,8 +1,8 @@
 //! Scripts written to files: no clause states what the files hold.
 
 use crate::checks::{is, tree};
+use crate::trees::{APP, CLASHING};
 use crate::written::script;
-use cc_fixtures::trees::{APP, CLASHING};
 use clap_complete::{Error, Shell, generate_to};
 use std::io::ErrorKind;
 use std::os::unix::fs::symlink;

@@ -1,9 +1,8 @@
 //! A described command: its candidates, and the words that its parser accepts.
 
-use crate::agreement::values;
 use crate::checks::is;
+use crate::words::{to_strings, values};
 use bumpalo::Bump;
-use cc_fixtures::words::to_strings;
 use clap::ArgMatches;
 use clap_complete::Error;
 use clap_complete::command::{Arg, Command, ValueHint};
@@ -12,10 +11,7 @@ use clap_complete::describe::{
     with_child,
 };
 use clap_complete::engine::{ArgValueCompleter, Completers, MemoryFolder, Sources};
-use clap_complete::parser::{
-    candidates_and_parser, candidates_and_reached_parser, fits_parser, has_globals,
-    is_parsed_exactly,
-};
+use clap_complete::parser::{candidates_and_parser, candidates_and_reached_parser, fits_parser};
 use std::alloc::{AllocError, Global};
 use std::fmt::Write;
 use std::process::Abort;
@@ -104,7 +100,8 @@ fn both<R: Abort + AllocGlobal>(
     let offered = values(alloc, found.as_slice()).expect(rt, "no text");
     let taken = taken(alloc, parser.try_get_matches_from(line)).expect(rt, "no text");
     let name = built.get_name();
-    format!(in alloc; "{name}:{offered}: {taken}")
+    let offered = offered.as_str().trim_end();
+    format!(in alloc; "{name}: {offered}: {taken}")
 }
 
 // Fails unless `both` returns this text.
@@ -169,7 +166,8 @@ fn reached<R: Abort + AllocGlobal>(
     let offered = values(alloc, found.as_slice()).expect(rt, "no text");
     let dry_run = is_dry_run(parser.try_get_matches_from(line));
     let (name, fits) = (reached.get_name(), fits_parser(reached));
-    format!(in alloc; "{name} {fits}:{offered}: {dry_run}")
+    let offered = offered.as_str().trim_end();
+    format!(in alloc; "{name} {fits}: {offered}: {dry_run}")
 }
 
 fn is_dry_run(matches: Result<ArgMatches<'_>, clap::Error>) -> bool {
@@ -187,13 +185,4 @@ fn what_a_subcommand_offers_is_taken(rt: HostRuntime) {
     is(&rt, shown, "run true: --quiet: true");
     let shown = reached(&rt, None, &["app", "exec", "--d"], &line);
     is(&rt, shown, "run true: --dry-run: true");
-}
-
-#[test]
-fn a_global_argument_is_found(rt: HostRuntime) {
-    let args = [flag("open", "Leave it open").global()];
-    let jar = command(rt.alloc(), "jar", "Keeps things", &args);
-    let mut jar = jar.expect(&rt, "no tree");
-    jar.build(rt.alloc()).expect(&rt, "no memory");
-    assert!(rt; has_globals(&jar) && !is_parsed_exactly(&jar) && fits_parser(&jar));
 }

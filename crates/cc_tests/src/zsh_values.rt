@@ -2,10 +2,9 @@
 //! of `cc_zsh/specs`, which the contract of `generate` cites, skips them.
 
 use crate::checks::{is, tree};
-use cc_base::{Collected, Error};
-use cc_generator::generate;
-use cc_quote::{posix_word, zsh_unescape};
-use cc_zsh::Zsh;
+use clap_complete::aot::{Collected, Zsh};
+use clap_complete::quote::{posix_word, zsh_unescape};
+use clap_complete::{Error, generate};
 use std::alloc::{AllocError, Global};
 use std::fmt::Write;
 use std::process::Abort;
