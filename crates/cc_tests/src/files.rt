@@ -84,6 +84,8 @@ fn a_folder_that_ends_in_a_slash_or_is_empty_adds_no_slash(rt: HostRuntime) {
     remove(&rt, "written");
     is_written(&rt, Shell::Nushell, "", "app.nu");
     fs::remove_file(&rt, "app.nu").expect(&rt, "not removed");
+    is_written(&rt, Shell::Zsh, "", "_app");
+    fs::remove_file(&rt, "_app").expect(&rt, "not removed");
 }
 
 #[test]

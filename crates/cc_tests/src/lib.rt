@@ -29,6 +29,8 @@ mod printed;
 #[cfg(test)]
 mod quoting;
 #[cfg(test)]
+mod refusals;
+#[cfg(test)]
 mod shell;
 #[cfg(test)]
 mod sinks;

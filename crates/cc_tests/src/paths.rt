@@ -25,8 +25,8 @@ impl<D: Folder> PathTest<D> for BeginsWithFoo {
     }
 }
 
-// `/w` has a file and two directories, one of them hidden. The home directory has a directory.
-fn work() -> MemoryFolder {
+/// `/w` has a file and two directories, one of them hidden. The home directory has a directory.
+pub(crate) fn work() -> MemoryFolder {
     MemoryFolder::new(
         &[
             ("/w", &["src", ".git", "a.txt"]),
