@@ -11,6 +11,8 @@ mod checks;
 #[cfg(test)]
 mod completers;
 #[cfg(test)]
+mod deep;
+#[cfg(test)]
 mod example;
 #[cfg(test)]
 mod files;

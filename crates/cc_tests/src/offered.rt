@@ -17,11 +17,22 @@ pub(crate) fn offers<R: Abort + AllocGlobal>(
     words: &[&str],
     wanted: &str,
 ) {
+    let words = to_strings(rt.alloc(), words).expect(rt, "no words");
+    completes(rt, command, completers, words, wanted);
+}
+
+/// Does the same with words of its own.
+pub(crate) fn completes<R: Abort + AllocGlobal>(
+    rt: &R,
+    command: Result<Command, Error>,
+    completers: Result<Completers, Error>,
+    words: Vec<String>,
+    wanted: &str,
+) {
     let alloc = rt.alloc();
     let mut command = command.expect(rt, "no command");
     let completers = completers.expect(rt, "no completers");
     let index = words.len().saturating_sub(1);
-    let words = to_strings(alloc, words).expect(rt, "no words");
     let folder = MemoryFolder::new(&[], &[]);
     let found = complete(
         alloc,

@@ -6,7 +6,7 @@ ghost use Rattle.std.specs.Prelude.{⊤, None};
 use crate::completers::with_positional;
 use crate::offered::are;
 use crate::paths::work;
-use crate::trees::{NESTED, read};
+use crate::trees::{APP, NESTED, read};
 use crate::words::to_strings;
 use clap_complete::Error;
 use clap_complete::aot::Collected;
@@ -16,6 +16,7 @@ use clap_complete::engine::{
     ValueCompleter, complete,
 };
 use clap_complete::env::{Bash, Elvish, EnvCompleter, EnvValues, Fish, Powershell, Zsh};
+use complgen_tree_file::{TreeError, read_tree};
 use std::alloc::{AllocError, Global};
 use std::process::Abort;
 
@@ -155,4 +156,13 @@ fn an_empty_list_of_words_has_nothing_to_complete(rt: HostRuntime) {
 #[test]
 fn an_index_above_all_numbers_has_nothing_to_complete(rt: HostRuntime) {
     finds_nothing(&rt, &Bash, "99999999999999999999", &["app", ""]);
+}
+
+// It ends with its last brace.
+#[test]
+fn each_beginning_of_a_tree_file_is_not_json(rt: HostRuntime) {
+    for end in 0..APP.len() {
+        let read = read_tree(rt.alloc(), &APP.as_bytes()[..end]);
+        assert!(rt; matches!(read, Err(TreeError::NotJson)));
+    }
 }

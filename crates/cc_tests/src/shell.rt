@@ -3,7 +3,7 @@
 use crate::checks::{is, same};
 use clap_complete::Shell;
 use clap_complete::aot::InvalidShell;
-use std::alloc::Global;
+use std::alloc::{AllocError, Global};
 use std::process::Abort;
 
 // Fails unless a shell prints this text and is read from it.
@@ -11,6 +11,14 @@ fn prints(rt: &impl Abort, alloc: Global, shell: Shell, text: &str) {
     is(rt, format!(in alloc; "{shell}"), text);
     same(rt, text.parse::<Shell>(), Ok(shell));
     same(rt, Shell::parse(alloc, text).expect(rt, "no shell"), shell);
+}
+
+// Returns the text of the error for a text that is not a shell's.
+fn refusal(alloc: Global, text: &str) -> Result<String, AllocError> {
+    match Shell::parse(alloc, text) {
+        Ok(_) => Ok(String::new(alloc)),
+        Err(error) => format!(in alloc; "{error}"),
+    }
 }
 
 #[test]
@@ -21,6 +29,31 @@ fn each_shell_prints_its_text_and_is_read_from_it(rt: HostRuntime) {
         prints(&rt, rt.alloc(), *shell, *text);
     }
     same(&rt, "Bash".parse::<Shell>(), Err(InvalidShell));
+    is(&rt, refusal(rt.alloc(), "Bash"), "invalid variant: Bash");
+    is(&rt, refusal(rt.alloc(), "nu"), "invalid variant: nu");
+}
+
+// Fails unless the path of a program leads to this shell.
+fn leads(rt: &impl Abort, paths: &[&str], shell: Option<Shell>) {
+    for path in paths {
+        same(rt, Shell::from_shell_path(path), shell);
+    }
+}
+
+#[test]
+fn a_path_leads_to_a_shell(rt: HostRuntime) {
+    leads(
+        &rt,
+        &["/bin/bash", "/bin/bash/", "bash.exe"],
+        Some(Shell::Bash),
+    );
+    leads(&rt, &["powershell_ise.exe"], Some(Shell::PowerShell));
+    leads(&rt, &["/usr/bin/nu"], Some(Shell::Nushell));
+    leads(
+        &rt,
+        &["/opt/my_custom_shell", ".bash", "", "/", "BASH"],
+        None,
+    );
 }
 
 #[test]

@@ -9,14 +9,21 @@ use std::alloc::Global;
 use std::io::{self, ErrorKind};
 use std::process::Abort;
 
-// A writer that takes at most `at_once` bytes per call. Once it holds `room` bytes, it fails with
-// `failure`, or takes nothing if there is no `failure`.
+/// A writer that takes at most `at_once` bytes per call. Once it holds `room` bytes, it fails with
+/// `failure`, or takes nothing if there is no `failure`.
 #[derive(Drop)]
-struct Limited {
+pub(crate) struct Limited {
     held: Vec<u8>,
     at_once: usize,
     room: usize,
     failure: Option<ErrorKind>,
+}
+
+impl Limited {
+    /// Returns the bytes that it took.
+    pub(crate) fn held(&self) -> &[u8] {
+        self.held.as_slice()
+    }
 }
 
 impl io::Write for Limited {
@@ -41,9 +48,9 @@ impl io::Write for Limited {
     }
 }
 
-// Returns a sink over a writer that takes at most `at_once` bytes per call, and `room` bytes in
-// all.
-fn over(
+/// Returns a sink over a writer that takes at most `at_once` bytes per call, and `room` bytes in
+/// all.
+pub(crate) fn over(
     alloc: Global,
     at_once: usize,
     room: usize,

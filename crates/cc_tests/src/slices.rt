@@ -1,6 +1,9 @@
-//! A sink that measures what it receives.
+//! The slices that a sink receives: none is long, and a writer may take one byte at once.
 
-use crate::written::write_script;
+use crate::checks::same;
+use crate::sinks::over;
+use crate::trees::NESTED;
+use crate::written::{script, write_script};
 use clap_complete::Shell;
 use clap_complete::aot::Counted;
 use std::alloc::{AllocError, Global};
@@ -56,5 +59,30 @@ fn no_slice_of_a_long_script_is_long(rt: HostRuntime) {
     let text = many(rt.alloc()).expect(&rt, "no tree");
     for shell in Shell::value_variants() {
         is_in_short_slices(&rt, *shell, text.as_str());
+    }
+}
+
+// A command with a hyphen, and one with an option, possible values and a child.
+const HYPHEN: &str = r#"{"name": "my-app", "subcommands": [{"name": "test"}]}"#;
+
+const COLOR: &str = r#"{"name": "app", "args": [
+    {"id": "color", "short": "c", "long": "color", "help": "Colour", "value_names": ["WHEN"],
+        "possible_values": [{"name": "auto"}, {"name": "never", "hide": true}]}],
+    "subcommands": [{"name": "run"}]}"#;
+
+// Fails unless a writer that takes one byte at once receives the script.
+fn is_in_bytes<R: Abort + AllocGlobal>(rt: &R, shell: Shell, text: &str) {
+    let wanted = script(rt, shell, text).expect(rt, "no text");
+    let mut sink = over(rt.alloc(), 1, usize::MAX, None);
+    write_script(rt, shell, text, &mut sink).expect(rt, "no script");
+    same(rt, sink.get_ref().held(), wanted.as_bytes());
+}
+
+#[test]
+fn a_script_may_be_taken_byte_by_byte(rt: HostRuntime) {
+    for shell in Shell::value_variants() {
+        is_in_bytes(&rt, *shell, HYPHEN);
+        is_in_bytes(&rt, *shell, COLOR);
+        is_in_bytes(&rt, *shell, NESTED);
     }
 }
