@@ -13,6 +13,10 @@ fn a_prefix_goes_before_the_value(rt: HostRuntime) {
     let with_prefix = CompletionCandidate::from(value).add_prefix(rt.alloc(), "--o=");
     let with_prefix = with_prefix.expect(&rt, "no candidate");
     same(&rt, with_prefix.get_value(), "--o=a");
+    let twice = with_prefix
+        .with_prefix(rt.alloc(), "-")
+        .expect(&rt, "no candidate");
+    same(&rt, twice.get_value(), "---o=a");
 }
 
 // Returns `auto` and `never`, which is hidden.

@@ -21,6 +21,10 @@ mod lists;
 #[cfg(test)]
 mod long_words;
 #[cfg(test)]
+mod lookups;
+#[cfg(test)]
+mod names;
+#[cfg(test)]
 mod offered;
 #[cfg(test)]
 mod parser;
@@ -28,6 +32,8 @@ mod parser;
 mod paths;
 #[cfg(test)]
 mod printed;
+#[cfg(test)]
+mod program;
 #[cfg(test)]
 mod quoting;
 #[cfg(test)]

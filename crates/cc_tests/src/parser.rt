@@ -11,7 +11,9 @@ use clap_complete::describe::{
     with_child,
 };
 use clap_complete::engine::{ArgValueCompleter, Completers, MemoryFolder, Sources};
-use clap_complete::parser::{candidates_and_parser, candidates_and_reached_parser, fits_parser};
+use clap_complete::parser::{
+    candidates_and_parser, candidates_and_reached_parser, fits_parser, local_parser, parser,
+};
 use std::alloc::{AllocError, Global};
 use std::fmt::Write;
 use std::process::Abort;
@@ -185,4 +187,25 @@ fn what_a_subcommand_offers_is_taken(rt: HostRuntime) {
     is(&rt, shown, "run true: --quiet: true");
     let shown = reached(&rt, None, &["app", "exec", "--d"], &line);
     is(&rt, shown, "run true: --dry-run: true");
+}
+
+// Both parsers of a built command accept its words.
+#[test]
+fn a_built_command_has_two_parsers(rt: HostRuntime) {
+    let args = [flag("open", "Leave it open").global()];
+    let jar = command(rt.alloc(), "jar", "Keeps things", &args);
+    let mut jar = jar.expect(&rt, "no tree");
+    jar.build(rt.alloc()).expect(&rt, "no memory");
+    let store = Bump::new(rt.alloc());
+    let whole = parser(rt.alloc(), &store, &jar).expect(&rt, "no memory");
+    assert!(rt; is_open(whole.try_get_matches_from(&["jar", "--open"])));
+    let local = local_parser(rt.alloc(), &store, &jar).expect(&rt, "no memory");
+    assert!(rt; is_open(local.try_get_matches_from(&["jar", "--open"])));
+}
+
+fn is_open(matches: Result<ArgMatches<'_>, clap::Error>) -> bool {
+    match matches {
+        Ok(matches) => matches.get_flag("open"),
+        Err(_) => false,
+    }
 }

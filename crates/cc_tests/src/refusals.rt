@@ -7,7 +7,7 @@ use crate::completers::with_positional;
 use crate::offered::are;
 use crate::paths::work;
 use crate::trees::{APP, NESTED, read};
-use crate::words::to_strings;
+use crate::words::{environment, to_strings};
 use clap_complete::Error;
 use clap_complete::aot::Collected;
 use clap_complete::command::Command;
@@ -15,7 +15,7 @@ use clap_complete::engine::{
     Completers, CompletionCandidate, Folder, FolderError, MemoryFolder, PathCompleter,
     ValueCompleter, complete,
 };
-use clap_complete::env::{Bash, Elvish, EnvCompleter, EnvValues, Fish, Powershell, Zsh};
+use clap_complete::env::{Bash, Elvish, EnvCompleter, Fish, Powershell, Zsh};
 use complgen_tree_file::{TreeError, read_tree};
 use std::alloc::{AllocError, Global};
 use std::process::Abort;
@@ -107,14 +107,6 @@ fn a_completer_that_runs_out_of_memory_fails_after_the_build(rt: HostRuntime) {
     fails(&rt, 1);
 }
 
-// Returns an environment that asks for the word at this index.
-fn environment(alloc: Global, index: &str) -> Result<EnvValues, AllocError> {
-    let mut variables = Vec::new(alloc);
-    let name = String::from_str(alloc, "_CLAP_COMPLETE_INDEX")?;
-    variables.push((name, String::from_str(alloc, index)?))?;
-    Ok(EnvValues::new(variables))
-}
-
 // Fails unless the adapter finds nothing to complete, and writes nothing.
 fn finds_nothing<R: Abort + AllocGlobal, E: EnvCompleter>(
     rt: &R,
@@ -125,7 +117,8 @@ fn finds_nothing<R: Abort + AllocGlobal, E: EnvCompleter>(
     let alloc = rt.alloc();
     let mut command: Command = read(alloc, NESTED).expect(rt, "no command");
     let words = to_strings(alloc, words).expect(rt, "no words");
-    let env = environment(alloc, index).expect(rt, "no environment");
+    let env = environment(alloc, &[("_CLAP_COMPLETE_INDEX", index)]);
+    let env = env.expect(rt, "no environment");
     let folder = MemoryFolder::new(&[], &[]);
     let none = Completers::none(alloc);
     let mut sink = Collected::new(alloc);

@@ -1,6 +1,7 @@
-//! Words and candidates for tests.
+//! Words, candidates and environments for tests.
 
 use clap_complete::engine::CompletionCandidate;
+use clap_complete::env::EnvValues;
 use std::alloc::{AllocError, Global};
 
 /// Copies `words`.
@@ -20,4 +21,18 @@ pub(crate) fn values(alloc: Global, found: &[CompletionCandidate]) -> Result<Str
         values.push(' ')?;
     }
     Ok(values)
+}
+
+/// Returns an environment with these variables.
+pub(crate) fn environment(
+    alloc: Global,
+    variables: &[(&str, &str)],
+) -> Result<EnvValues, AllocError> {
+    let mut values = Vec::new(alloc);
+    for (name, value) in variables {
+        let name = String::from_str(alloc, name)?;
+        let value = String::from_str(alloc, value)?;
+        values.push((name, value))?;
+    }
+    Ok(EnvValues::new(values))
 }
