@@ -13,7 +13,7 @@ packages/, release/ and tests/.
 - Each named source file exists, such as `quote/src/escape.rt`, `escape.rt` or `proofs/Lemmas`, and so does each
   named script of bench/, release/, tests/ and tools/. `complgen WORD` calls a command that exists.
 - Numbers of crates, planted faults, commands, keys and promises are those of the repository.
-- All pages have at most 60,000 words, and README.md at most 1,200. Each text between spaces is a word.
+- All pages have at most 61,000 words, and README.md at most 1,200. Each text between spaces is a word.
 
 The script prints how many sentences of each page have more than 30 words, and with --sentences these
 sentences. It prints the number of words, and then what does not hold. The status is 0 if all of it holds,
@@ -32,7 +32,7 @@ TOP = common.TOP
 WALKS = os.path.join("docs", "ARCHITECTURE.md")
 WITHOUT_SENTENCES = {os.path.join("docs", "TEXTS.md")}
 LONG_SENTENCE = 30
-MOST_WORDS, MOST_WORDS_OF_README = 60_000, 1_200
+MOST_WORDS, MOST_WORDS_OF_README = 61_000, 1_200
 
 
 def main():
@@ -78,7 +78,7 @@ def too_many_words():
 
 
 def pages():
-    folders = (".", "docs", "bench", "examples/*", "importer", "packages/*/*", "release", "tests", "tools")
+    folders = (".", "docs", "bench", "examples/*", "importer", "packages/*", "packages/*/*", "release", "tests", "tools")
     return [os.path.relpath(path, TOP) for folder in folders for path in paths(f"{folder}/*.md")]
 
 
