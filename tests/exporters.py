@@ -5,7 +5,7 @@
 
 The parts:
 
-- argparse, click, typer: a program in exporters.d with everything that the library can tell
+- argparse, click, typer, cobra, commander, picocli: a program in exporters.d with everything that the library can tell
   its exporter, and with names that no tree file can contain. Rows of the tree file are compared with a list that was
   written by hand, and so is what is left out. The short form has the same rows. Nothing that the program prints mixes
   with the tree file;
@@ -51,7 +51,7 @@ FLAGS = ("SetTrue", "SetFalse", "Count", "Help", "Version")
 PATHS = ("AnyPath", "FilePath", "DirPath", "ExecutablePath")
 KINDS = ("commands", "aliases", "names", "options with values", "positionals", "possible values", "path hints",
          "values_from", "delimiters", "conflicts", "hidden")
-FEATURES = ("argparse", "click", "typer")
+FEATURES = ("argparse", "click", "typer", "cobra", "commander", "picocli")
 PARTS = (*FEATURES, "programs", "bad", "check", "tab")
 # Programs of Debian by the exporter of their library.
 PROGRAMS = {
