@@ -253,6 +253,9 @@ func values(texts []string) (made []value) {
 	return made
 }
 
+// Values in a line of usage, as in [text|json]. Names of values have a capital or an angle bracket.
+var alternatives = regexp.MustCompile(`^[a-z0-9][a-z0-9._+-]*(\|[a-z0-9][a-z0-9._+-]*)+$`)
+
 // The words of a line of usage, with what is in brackets as one word.
 var usageWord = regexp.MustCompile(`\[[^\]]*\]\S*|\{[^}]*\}\S*|<[^>]*>\S*|\S+`)
 
@@ -270,10 +273,16 @@ func positionals(cmd *cobra.Command) (made []*argument) {
 			isValue = isOption && !strings.HasPrefix(word, "[")
 			continue
 		}
+		if name == "" && strings.Contains(word, "...") && len(made) > 0 {
+			made[len(made)-1].NumArgs[1] = nil
+		}
 		if name == "" || strings.EqualFold(name, "flags") || strings.EqualFold(name, "options") {
 			continue
 		}
 		one := &argument{ID: name, Required: !strings.HasPrefix(word, "["), NumArgs: []any{1, 1}}
+		if alternatives.MatchString(name) {
+			one.PossibleValues = values(strings.Split(name, "|"))
+		}
 		if strings.Contains(word, "...") {
 			one.NumArgs[1] = nil
 		}
@@ -300,18 +309,23 @@ func positionals(cmd *cobra.Command) (made []*argument) {
 	for at := range made {
 		made[at].Hyphen = cmd.DisableFlagParsing
 		made[at].ValueNames = []string{made[at].ID}
-		made[at].ValueHint = "AnyPath" // as Cobra does if nothing completes the argument
+		if made[at].PossibleValues == nil {
+			made[at].ValueHint = "AnyPath" // as Cobra does if nothing completes the argument
+		}
 		switch function := nameOf(cmd.ValidArgsFunction); {
 		case at == 0 && cmd.ValidArgs != nil:
 			made[at].PossibleValues, made[at].ValueHint = values(cmd.ValidArgs), ""
+		case function == "": // nothing but the line of usage
 		case strings.HasPrefix(function, "cobra.NoFileCompletions"):
-			made[at].ValueHint = "Other"
+			if made[at].PossibleValues == nil {
+				made[at].ValueHint = "Other"
+			}
 		case strings.Contains(function, "FixedCompletions.func"): // Go before 1.21 may hide this name
 			texts, _ := cmd.ValidArgsFunction(cmd, nil, "")
 			made[at].PossibleValues, made[at].ValueHint = values(texts), ""
 		case function != "" && at == 0:
-			made[at].ValuesFrom, made[at].ValueHint = call(cmd, ""), ""
-		case function != "":
+			made[at].ValuesFrom, made[at].PossibleValues, made[at].ValueHint = call(cmd, ""), nil, ""
+		case function != "" && made[at].PossibleValues == nil:
 			made[at].ValueHint = "Other" // the values may depend on the words before, which no tree file has
 		}
 	}

@@ -50,6 +50,7 @@ func main() {
 		ValidArgsFunction: notes}
 	list := &cobra.Command{Use: "list [what]", Short: "Lists notes", ValidArgs: []string{"all\tEach note", "new", "$(x)"},
 		Args: cobra.MaximumNArgs(1), Run: run}
+	show := &cobra.Command{Use: "show [flags] [text|json] [ID|NAME] ...", Short: "Shows notes", Run: run}
 	hidden := &cobra.Command{Use: "secret", Hidden: true, Run: run}
 	remote := &cobra.Command{Use: "remote", Short: "Other places"}
 	remote.AddCommand(&cobra.Command{Use: "add URL", Short: "Adds a place", Run: run})
@@ -57,7 +58,7 @@ func main() {
 	odd := &cobra.Command{Use: "odd.name", Short: "Has a name that is not plain", Run: run}
 	again := &cobra.Command{Use: "zap", Aliases: []string{"add"}, Run: run,
 		Short: "Has an alias that is a name of a command before it"}
-	root.AddCommand(add, remove, move, list, hidden, remote, clash, odd, again)
+	root.AddCommand(add, remove, move, list, show, hidden, remote, clash, odd, again)
 	if root.Execute() != nil {
 		os.Exit(1)
 	}
