@@ -256,6 +256,9 @@ func values(texts []string) (made []value) {
 // Values in a line of usage, as in [text|json]. Names of values have a capital or an angle bracket.
 var alternatives = regexp.MustCompile(`^[a-z0-9][a-z0-9._+-]*(\|[a-z0-9][a-z0-9._+-]*)+$`)
 
+// What the name of a positional is without: brackets, dots, and spaces beside bars.
+var brackets = strings.NewReplacer("[", "", "]", "", "{", "", "}", "", "<", "", ">", "", "...", "", " | ", "|")
+
 // The words of a line of usage, with what is in brackets as one word.
 var usageWord = regexp.MustCompile(`\[[^\]]*\]\S*|\{[^}]*\}\S*|<[^>]*>\S*|\S+`)
 
@@ -266,9 +269,13 @@ func positionals(cmd *cobra.Command) (made []*argument) {
 		return nil
 	}
 	_, usage, _ := strings.Cut(cmd.Use, " ")
+	for above := cmd.Parent(); above != nil; above = above.Parent() { // FLOATING IP below floating-ip is one name
+		name := strings.ToUpper(above.Name())
+		usage = strings.ReplaceAll(usage, strings.ReplaceAll(name, "-", " "), name)
+	}
 	isValue := false // of the option before it
 	for _, word := range usageWord.FindAllString(usage, -1) {
-		name := strings.Trim(word, "[]{}<>. ")
+		name := strings.TrimSpace(brackets.Replace(word))
 		if isOption := strings.HasPrefix(name, "-"); isOption || isValue {
 			isValue = isOption && !strings.HasPrefix(word, "[")
 			continue
@@ -280,7 +287,7 @@ func positionals(cmd *cobra.Command) (made []*argument) {
 			continue
 		}
 		one := &argument{ID: name, Required: !strings.HasPrefix(word, "["), NumArgs: []any{1, 1}}
-		if alternatives.MatchString(name) {
+		if alternatives.MatchString(name) && !strings.Contains(word, "<") {
 			one.PossibleValues = values(strings.Split(name, "|"))
 		}
 		if strings.Contains(word, "...") {

@@ -46,7 +46,7 @@ func main() {
 
 	remove := &cobra.Command{Use: "remove ID", Aliases: []string{"rm", "r.m"}, Short: "Removes a note",
 		Args: cobra.ExactArgs(1), Run: run, ValidArgsFunction: notes}
-	move := &cobra.Command{Use: "move ID FLOATING-IP", Short: "Moves a note", Args: cobra.ExactArgs(2), Run: run,
+	move := &cobra.Command{Use: "move ID OTHER-ID", Short: "Moves a note", Args: cobra.ExactArgs(2), Run: run,
 		ValidArgsFunction: notes}
 	list := &cobra.Command{Use: "list [what]", Short: "Lists notes", ValidArgs: []string{"all\tEach note", "new", "$(x)"},
 		Args: cobra.MaximumNArgs(1), Run: run}
@@ -54,11 +54,13 @@ func main() {
 	hidden := &cobra.Command{Use: "secret", Hidden: true, Run: run}
 	remote := &cobra.Command{Use: "remote", Short: "Other places"}
 	remote.AddCommand(&cobra.Command{Use: "add URL", Short: "Adds a place", Run: run})
+	floating := &cobra.Command{Use: "floating-ip", Short: "Addresses"}
+	floating.AddCommand(&cobra.Command{Use: "label FLOATING IP {<name> | <url>} [-- REST...]", Args: cobra.ExactArgs(2), Run: run})
 	clash := &cobra.Command{Use: "remote-add", Short: "Has the label of remote add", Run: run}
 	odd := &cobra.Command{Use: "odd.name", Short: "Has a name that is not plain", Run: run}
 	again := &cobra.Command{Use: "zap", Aliases: []string{"add"}, Run: run,
 		Short: "Has an alias that is a name of a command before it"}
-	root.AddCommand(add, remove, move, list, show, hidden, remote, clash, odd, again)
+	root.AddCommand(add, remove, move, list, show, floating, hidden, remote, clash, odd, again)
 	if root.Execute() != nil {
 		os.Exit(1)
 	}
