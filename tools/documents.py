@@ -13,7 +13,7 @@ packages/, release/ and tests/.
 - Each named source file exists, such as `quote/src/escape.rt`, `escape.rt` or `proofs/Lemmas`, and so does each
   named script of bench/, release/, tests/ and tools/. `complgen WORD` calls a command that exists.
 - Numbers of crates, planted faults, commands, keys and promises are those of the repository.
-- All pages have at most 61,000 words, and README.md at most 1,200. Each text between spaces is a word.
+- All pages have at most 62,000 words, and README.md at most 1,200. Each text between spaces is a word.
 
 The script prints how many sentences of each page have more than 30 words, and with --sentences these
 sentences. It prints the number of words, and then what does not hold. The status is 0 if all of it holds,
@@ -32,7 +32,7 @@ TOP = common.TOP
 WALKS = os.path.join("docs", "ARCHITECTURE.md")
 WITHOUT_SENTENCES = {os.path.join("docs", "TEXTS.md")}
 LONG_SENTENCE = 30
-MOST_WORDS, MOST_WORDS_OF_README = 61_000, 1_200
+MOST_WORDS, MOST_WORDS_OF_README = 62_000, 1_200
 
 
 def main():
