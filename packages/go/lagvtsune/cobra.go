@@ -293,10 +293,15 @@ func positionals(cmd *cobra.Command) (made []*argument) {
 		if strings.Contains(word, "...") {
 			one.NumArgs[1] = nil
 		}
+		if last := len(made) - 1; last >= 0 && made[last].ID == name && one.NumArgs[1] == nil { // NAME [NAME...]
+			made[last].NumArgs[1] = nil
+			continue
+		}
 		made = append(made, one)
 	}
+	endless := len(made) > 0 && made[len(made)-1].NumArgs[1] == nil
 	switch {
-	case known && most == len(made):
+	case known && (!endless && most == len(made) || endless && most < 0 && least <= len(made)):
 		for at := range made {
 			made[at].Required = at < least
 		}
