@@ -278,7 +278,7 @@ function finishArgument(given, at, taken, below, settings) {
   } else if (made.help) {
     made.help = made.help.replace(/\\/g, "/");
   }
-  made.id = made.id.replace(/['\n]/g, " ");
+  made.id = made.id.replace(/[':\\\s]+/g, " ").trim() || "arg";
   for (let number = 2, wanted = made.id; taken.has(`id ${made.id}`); number++) made.id = `${wanted} ${number}`;
   taken.add(`id ${made.id}`);
   if (made.global) [...(left || []), `id ${made.id}`].forEach((it) => below.add(it));

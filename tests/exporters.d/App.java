@@ -84,7 +84,9 @@ public class App {
 
     @Command(name = "list", description = "Lists notes")
     static class List_ implements Runnable {
-        @Parameters(arity = "0..1", paramLabel = "WHAT", completionCandidates = Whats.class)
+        @Parameters(index = "0", paramLabel = "it's:FIRST")
+        String first;
+        @Parameters(index = "1", arity = "0..1", paramLabel = "WHAT", completionCandidates = Whats.class)
         String what;
 
         @Override

@@ -38,6 +38,7 @@ def parser():
     either.add_argument("--fast", action="store_true")
     either.add_argument("--slow", action="store_const", const=1)
     add.add_argument("file", nargs="+", metavar="FILE")
+    add.add_argument("it's:last").completer = notes
     remove = commands.add_parser("remove", aliases=["rm", "r.m"], help="removes a note")
     remove.add_argument("id", help="a note with a \\ in its text").completer = notes
     listing = commands.add_parser("list", help="lists notes")

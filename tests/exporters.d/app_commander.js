@@ -23,6 +23,7 @@ const id = new Argument("<id>", "a note with a \\ in its text");
 id.completer = notes;
 program.command("remove").alias("rm").alias("r.m").description("removes a note").addArgument(id).action(run);
 const list = program.command("list").description("lists notes").action(run);
+list.addArgument(new Argument("<it's:first>"));
 list.addArgument(new Argument("[what]", "which").choices(["all", "new", "$(x)"]));
 program.command("secret", { hidden: true }).action(run);
 program.command("remote").description("other places").command("add <url>").description("adds a place").action(run);

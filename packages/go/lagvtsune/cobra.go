@@ -519,7 +519,7 @@ func (f finisher) argument(one *argument, path []string, names, ids map[string]b
 		return false
 	}
 	names["--"+one.Long], names["-"+one.Short] = one.Long != "", one.Short != ""
-	one.ID = strings.NewReplacer("'", "", "\n", " ").Replace(one.ID)
+	one.ID = labelSigns.Replace(strings.ReplaceAll(one.ID, "'", ""))
 	for wanted, number := one.ID, 2; ids[one.ID]; number++ {
 		one.ID = fmt.Sprintf("%s %d", wanted, number)
 	}

@@ -419,9 +419,10 @@ public final class GenerateTree implements Callable<Integer> {
         }
 
         private static String unused(String wanted, Set<String> taken) {
-            String id = wanted.replaceAll("['\\s]+", " ");
+            String plain = wanted.replaceAll("[':\\\\\\s]+", " ").strip();
+            String id = plain;
             for (int number = 2; !taken.add("id " + id); number++) {
-                id = wanted + " " + number;
+                id = plain + " " + number;
             }
             return id;
         }

@@ -173,7 +173,7 @@ class _Finisher:
             made["id"] = made.get("long") or made["short"]
         elif isinstance(made.get("help"), str):
             made["help"] = made["help"].replace("\\", "/")
-        made["id"] = re.sub(r"['\s]+", " ", str(made["id"])).strip() or "arg"
+        made["id"] = re.sub(r"[':\\\s]+", " ", str(made["id"])).strip() or "arg"
         self.put_values(made, made.get("long", made["id"]), path)
         return made
 

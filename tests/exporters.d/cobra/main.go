@@ -57,7 +57,7 @@ func main() {
 	remote := &cobra.Command{Use: "remote", Short: "Other places"}
 	remote.AddCommand(&cobra.Command{Use: "add URL", Short: "Adds a place", Run: run})
 	floating := &cobra.Command{Use: "floating-ip", Short: "Addresses"}
-	floating.AddCommand(&cobra.Command{Use: "label FLOATING IP {<name> | <url>} [-- REST...]", Args: cobra.ExactArgs(2), Run: run})
+	floating.AddCommand(&cobra.Command{Use: "label FLOATING IP {<it's:name> | <url>} [-- REST...]", Args: cobra.ExactArgs(2), Run: run})
 	clash := &cobra.Command{Use: "remote-add", Short: "Has the label of remote add", Run: run}
 	odd := &cobra.Command{Use: "odd.name", Short: "Has a name that is not plain", Run: run}
 	again := &cobra.Command{Use: "zap", Aliases: []string{"add"}, Run: run,
