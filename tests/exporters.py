@@ -408,13 +408,12 @@ class Trial:
                 terminal = started(shell, scratch, scratch.written(shell))
                 terminal.go(scratch.here)
                 for library in libraries:
-                    typed = f"notes-{library} remove n2"[:-1] + "2"
-                    received = terminal.received(f"notes-{library} remove n1"[:-1] + "1")
-                    if received != ["remove", "n1"]:
-                        self.differ(f"tab, {shell}, {library}: {received}")
-                    offered = [it.split("\t")[0].strip() for it in terminal.offered(f"notes-{library} remove n")]
-                    if offered != ["n1", "n2"]:
-                        self.differ(f"tab, {shell}, {library}: offered {offered}, typed {typed}")
+                    received = terminal.received(f"notes-{library} remove n2")
+                    if received != ["remove", "n2"]:
+                        self.differ(f"tab, {shell}, {library}: received {received}")
+                    offered = terminal.offered(f"notes-{library} remove ")
+                    if not {"n1", "n2"} <= {word for text in offered for word in text.split()}:
+                        self.differ(f"tab, {shell}, {library}: offered {offered}")
                 terminal.close()
         return f"{' '.join(libraries)} in {' '.join(shells)}"
 
