@@ -11,6 +11,7 @@ The parts:
   with the tree file;
 - programs: programs of Debian, each with the counts of `exporters.d/counts.json`, by kind of key. For Cobra, the
   program is built from Debian's sources of Cobra;
+- onto: `complgen-import --onto` over such tree files adds no argument twice, and the values that only a help text has;
 - bad: programs that fail to load, end early or do not exist, a name that is not plain, and a full disk. The status is 1
   and nothing is written; a file that exists stays as it was;
 - check: `complgen check` accepts all of these tree files;
@@ -52,12 +53,14 @@ PATHS = ("AnyPath", "FilePath", "DirPath", "ExecutablePath")
 KINDS = ("commands", "aliases", "names", "options with values", "positionals", "possible values", "path hints",
          "values_from", "delimiters", "conflicts", "hidden")
 FEATURES = ("argparse", "click", "typer", "cobra", "commander", "picocli")
-PARTS = (*FEATURES, "programs", "bad", "check", "tab")
+PARTS = (*FEATURES, "programs", "onto", "bad", "check", "tab")
 # Programs of Debian by the exporter of their library.
 PROGRAMS = {
     "argparse": ("borg", "streamlink", "http", "ansible-vault"), "click": ("black", "flask", "sqlite-utils", "mkdocs"),
     "commander": ("katex", "wb", "cleancss"), "picocli": ("checkstyle", "pgpainless-cli"),
 }
+# Programs whose help texts are added to their tree files, and how many options get values from them.
+ONTO = {"streamlink": 2, "black": 0, "flask": 0, "sqlite-utils": 8, "mkdocs": 0}
 # Of programs in Java: the class of the command, and the jars in /usr/share/java.
 CLASSES = {
     "checkstyle": ("com.puppycrawl.tools.checkstyle.Main$CliOptions", "checkstyle antlr4-runtime commons-beanutils "
@@ -90,6 +93,11 @@ def environment() -> Dict[str, str]:
     kept = {key: it for key, it in os.environ.items() if key in ("HOME", "LANG", "TMPDIR")}
     return {**kept, "PATH": "/usr/local/bin:/usr/bin:/bin", "PYTHONPATH": os.path.join(PACKAGES, "python"),
             "PYTHONDONTWRITEBYTECODE": "1", "NODE_PATH": "/usr/share/nodejs", "COLUMNS": "80"}
+
+
+def assignments() -> str:
+    """Returns the environment of programs, as a shell sets it."""
+    return " ".join(f"{key}={shlex.quote(value)}" for key, value in environment().items())
 
 
 # ---- the exporters
@@ -250,6 +258,18 @@ def counts(node: Dict[str, Any], inherited: Sequence[Dict[str, Any]] = ()) -> Di
 
 # ---- the parts
 
+def doubled(node: Dict[str, Any], inherited: List[str], path: str) -> Iterator[Tuple[str, str]]:
+    """Yields the names that a command has twice, also by a global option above it."""
+    seen, below = set(inherited), list(inherited)
+    for it in node.get("args", []):
+        names = [word for word in parts(it) if re.match("-[^ ]", word)]
+        yield from ((path, name) for name in names if name in seen)
+        seen.update(names)
+        below += names if it.get("global") else []
+    for child in node.get("subcommands", []):
+        yield from doubled(child, below, f"{path} {child['name']}")
+
+
 class Trial:
     """What is tried, and how many differences there are."""
 
@@ -315,6 +335,33 @@ class Trial:
                 tried.append(name)
         need(tried, "no program of Debian is installed")
         return f"{' '.join(tried)}" + (f"; not installed: {' '.join(missing)}" if missing else "")
+
+    # ---- help texts onto exported trees
+
+    def onto(self) -> str:
+        tried, missing = [], []
+        for library, names in PROGRAMS.items():
+            for name in set(names) & set(ONTO):
+                try:
+                    self.room.prepare(library)
+                    need(which(name), name)
+                except Missing:
+                    missing.append(name)
+                    continue
+                old = self.exported(library, os.path.realpath(str(which(name))))
+                new = import_tree(self.room, str(which(name)), "--onto", old)
+                if new is None:
+                    self.differ(f"{name}: complgen-import --onto wrote nothing")
+                    continue
+                before, after = counts(old), counts(new)
+                before["possible values"] += ONTO[name]
+                kinds = [it for it in KINDS if it != "path hints"]
+                self.compare(f"{name}, --onto", [f"{it}: {before[it]}" for it in kinds], [f"{it}: {after[it]}" for it in kinds])
+                for path, word in doubled(new, [], name):
+                    self.differ(f"{name}, --onto: {path} has {word} twice")
+                tried.append(name)
+        need(tried, "no program of Debian is installed")
+        return " ".join(sorted(tried)) + (f"; not installed: {' '.join(sorted(missing))}" if missing else "")
 
     # ---- bad input
 
@@ -400,19 +447,18 @@ class Trial:
                 ran = self.room.export(library, "")
                 tree = renamed(json.loads(ran.out), name)
                 scratch.program(tree)
-                words = " ".join(f"'{word}'" for word in self.room.app(library))
-                own = " ".join(f"{key}='{value}'" for key, value in environment().items())
+                words = shlex.join(self.room.app(library))
                 scratch.recorder(name, before=f"case $* in *__values* | *--complgen-values* | *--values*) "
-                                 f"{own} exec {words} \"$@\" ;; esac")
+                                 f"{assignments()} exec {words} \"$@\" ;; esac")
             for shell in shells:
                 terminal = started(shell, scratch, scratch.written(shell))
                 terminal.go(scratch.here)
                 for library in libraries:
-                    received = terminal.received(f"notes-{library} remove n2")
-                    if received != ["remove", "n2"]:
+                    received = terminal.received(f"notes-{library} remove c")
+                    if received != ["remove", "c2"]:
                         self.differ(f"tab, {shell}, {library}: received {received}")
                     offered = terminal.offered(f"notes-{library} remove ")
-                    if not {"n1", "n2"} <= {word for text in offered for word in text.split()}:
+                    if not {"n1", "c2"} <= {word for text in offered for word in text.split()}:
                         self.differ(f"tab, {shell}, {library}: offered {offered}")
                 terminal.close()
         return f"{' '.join(libraries)} in {' '.join(shells)}"
@@ -467,22 +513,35 @@ def table(room: Room, built: Sequence[str]) -> None:
 def imported(room: Room, library: str, name: str) -> Optional[Dict[str, int]]:
     """Returns the counts of what `complgen-import --walk` makes of a program, or nothing if it fails."""
     program = which(name) or name
-    if not name:
-        program = os.path.join(room.folder, "bin", f"app-{library}")
+    if not name or library == "commander":
+        # A program that needs the environment of these tests. The importer gives it one of its own.
+        words = ["node", os.path.realpath(program)] if name else room.app(library)
+        program = os.path.join(room.folder, "bin", name or f"app-{library}")
         os.makedirs(os.path.dirname(program), exist_ok=True)
-        own = " ".join(f"{key}='{value}'" for key, value in environment().items())
         with open(program, "w", encoding="utf-8") as file:
-            file.write(f"#!/bin/sh\n{own} exec {' '.join(room.app(library))} \"$@\"\n")
+            file.write(f"#!/bin/sh\n{assignments()} exec {shlex.join(words)} \"$@\"\n")
         os.chmod(program, 0o755)
-    words = [os.path.join(common.TOP, "complgen-import"), "--walk", "--force", "--seconds", "30", "--out-dir",
-             room.folder, program]
-    subprocess.run(words, env={**environment(), "COMPLGEN": "/bin/true"}, stdout=subprocess.DEVNULL,
-                   stderr=subprocess.DEVNULL, check=False)
+    tree = import_tree(room, program, "--force")
+    return None if tree is None else counts(tree)
+
+
+def import_tree(room: Room, program: str, mode: str, old: Optional[Dict[str, Any]] = None) -> Optional[Dict[str, Any]]:
+    """Imports a program, perhaps onto an old tree. Returns the tree, or nothing if that fails. Without `complgen`, each
+    tree is accepted."""
     path = os.path.join(room.folder, os.path.basename(program) + ".json")
-    if not os.path.exists(path):
+    if old is not None:
+        with open(path, "w", encoding="utf-8") as file:
+            json.dump(old, file)
+    complgen = common.default_program("complgen")
+    words = [os.path.join(common.TOP, "complgen-import"), "--walk", mode, "--seconds", "30", "--out-dir", room.folder]
+    checked = {"COMPLGEN": complgen if os.access(complgen, os.X_OK) else "/bin/true"}
+    ran = subprocess.run([*words, program], env={**environment(), **checked}, stdout=subprocess.DEVNULL,
+                         stderr=subprocess.PIPE, check=False)
+    if ran.returncode:
+        print(f"  {os.path.basename(program)}: {ran.stderr.decode(errors='replace').strip()[-300:]}")
         return None
     with open(path, encoding="utf-8") as file:
-        return counts(json.load(file))
+        return json.load(file)
 
 
 def main() -> int:
@@ -500,7 +559,7 @@ def main() -> int:
         for part in options.only or PARTS:
             before = trial.bad
             try:
-                tried = {"programs": trial.programs, "bad": trial.bad_input, "check": trial.check, "tab": trial.tab}.get(
+                tried = {"programs": trial.programs, "onto": trial.onto, "bad": trial.bad_input, "check": trial.check, "tab": trial.tab}.get(
                     part, lambda it=part: trial.features(it))()
                 print(f"{part}: {tried}, {trial.bad - before} differences", flush=True)
             except Missing as missing:

@@ -27,7 +27,7 @@ public class App {
     static class Notes implements GenerateTree.Computed {
         @Override
         public Iterator<String> iterator() {
-            return List.of("n1\tBuy milk", "n2\tCall Ann").iterator();
+            return List.of("n1\tBuy milk", "c2\tCall Ann").iterator();
         }
     }
 

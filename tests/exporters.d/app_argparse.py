@@ -9,7 +9,7 @@ import lagvtsune.argparse
 
 
 def notes(prefix, **_):
-    return {name: about for name, about in (("n1", "Buy milk"), ("n2", "Call Ann")) if name.startswith(prefix)}
+    return {name: about for name, about in (("n1", "Buy milk"), ("c2", "Call Ann")) if name.startswith(prefix)}
 
 
 def parser():

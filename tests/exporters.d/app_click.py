@@ -10,7 +10,7 @@ import lagvtsune.click
 
 
 def notes(context, param, incomplete):
-    pairs = (("n1", "Buy milk"), ("n2", "Call Ann"))
+    pairs = (("n1", "Buy milk"), ("c2", "Call Ann"))
     return [CompletionItem(name, help=about) for name, about in pairs if name.startswith(incomplete)]
 
 

@@ -3,7 +3,7 @@
 "use strict";
 const { Command, Option, Argument } = require("commander");
 
-const notes = () => [["n1", "Buy milk"], ["n2", "Call Ann"]];
+const notes = () => [["n1", "Buy milk"], ["c2", "Call Ann"]];
 const program = new Command();
 require("../../packages/javascript/commander").add(program);
 console.log("this is no part of a tree");

@@ -18,7 +18,7 @@ class When(str, enum.Enum):
 
 
 def notes():
-    return [("n1", "Buy milk"), ("n2", "Call Ann")]
+    return [("n1", "Buy milk"), ("c2", "Call Ann")]
 
 
 app = typer.Typer(help="Keeps notes.", add_completion=False)

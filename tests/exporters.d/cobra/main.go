@@ -13,7 +13,7 @@ import (
 )
 
 func notes(*cobra.Command, []string, string) ([]string, cobra.ShellCompDirective) {
-	return []string{"n1\tBuy milk", "n2\tCall Ann"}, cobra.ShellCompDirectiveNoFileComp
+	return []string{"n1\tBuy milk", "c2\tCall Ann"}, cobra.ShellCompDirectiveNoFileComp
 }
 
 func main() {
