@@ -383,7 +383,8 @@ public final class GenerateTree implements Callable<Integer> {
             if (arg.completionCandidates() != null) {
                 made.put("possible_values", quiet(arg, path));
             }
-            var type = arg.typeInfo().isMultiValue() ? arg.auxiliaryTypes()[arg.auxiliaryTypes().length - 1] : arg.type();
+            Class<?>[] types = arg.auxiliaryTypes();
+            Class<?> type = arg.typeInfo().isMultiValue() ? types[types.length - 1] : arg.type();
             made.put("value_hint", File.class.isAssignableFrom(type) || Path.class.isAssignableFrom(type) ? "AnyPath"
                     : InetAddress.class.isAssignableFrom(type) ? "Hostname" : null);
             return made;
@@ -436,7 +437,7 @@ public final class GenerateTree implements Callable<Integer> {
         }
     }
 
-    /** Returns lines as picocli prints them, without its marks for colours and without signs that no script can contain. */
+    /** Returns lines as picocli prints them: without its marks for colours, and signs that no script can contain. */
     private static String text(String... lines) {
         String text = String.join("\n", lines).replace("%n", "\n").replace("%%", "%");
         return CommandLine.Help.Ansi.OFF.string(text).replaceAll("[\u2018-\u201b]", "'")

@@ -29,11 +29,14 @@ from __future__ import annotations
 
 import argparse
 import inspect
+import itertools
 import pathlib
 import re
 from typing import Any, Dict, Iterable, List, NoReturn, Optional, Tuple
 
-from lagvtsune.trees import OWN_OPTIONS, TREE_OPTION, VALUES_OPTION, Answer, Node, program_name, text_of, warn, with_keys
+from lagvtsune.trees import (
+    OWN_OPTIONS, TREE_OPTION, VALUES_OPTION, Answer, Node, program_name, text_of, warn, with_keys,
+)
 
 # The least and the greatest number of values. `None` has no greatest.
 NUMBERS = {None: (1, 1), "?": (0, 1), "*": (0, None), "+": (1, None), argparse.REMAINDER: (0, None)}
@@ -56,8 +59,9 @@ def add(parser: argparse.ArgumentParser) -> None:
             answer.write(tree_file(parser) if is_tree else "".join(f"{it}\n" for it in values(parser, words)))
             parser.exit()
 
-    for option, number in ((TREE_OPTION, 0), (VALUES_OPTION, None)):
-        parser.add_argument(option, action=Show, nargs=number, help=argparse.SUPPRESS, default=argparse.SUPPRESS)
+    hidden: Node = {"action": Show, "help": argparse.SUPPRESS, "default": argparse.SUPPRESS}
+    parser.add_argument(TREE_OPTION, nargs=0, **hidden)
+    parser.add_argument(VALUES_OPTION, **hidden)
 
 
 def tree_file(parser: argparse.ArgumentParser, name: Optional[str] = None, short: bool = False) -> str:
@@ -189,9 +193,10 @@ def _choices(action: argparse.Action, completer: Any) -> Optional[List[Node]]:
     choices: Any = action.choices
     if choices is None and type(completer).__name__ == "ChoicesCompleter":
         choices = completer.choices
-    if not isinstance(choices, Iterable) or (hasattr(choices, "__len__") and len(choices) > MOST_VALUES):  # type: ignore[arg-type]
+    if not isinstance(choices, Iterable):
         return None
-    return [{"name": str(it)} for it in choices] or None
+    listed = list(itertools.islice(choices, MOST_VALUES + 1))
+    return [{"name": str(it)} for it in listed] if 0 < len(listed) <= MOST_VALUES else None
 
 
 def _is_of_paths(completer: Any) -> bool:
@@ -241,8 +246,8 @@ def main() -> NoReturn:
     def end(parser: argparse.ArgumentParser, *_: Any) -> NoReturn:
         run.end(lambda: tree_file(parser, run.name, run.short))
 
-    argparse.ArgumentParser.format_help = end  # type: ignore[method-assign]
-    argparse.ArgumentParser.print_help = end  # type: ignore[method-assign]
+    for name in ("format_help", "print_help"):
+        setattr(argparse.ArgumentParser, name, end)
     run.start("--help")
 
 

@@ -205,7 +205,7 @@ def main() -> NoReturn:
     def end(cli: click.Command, *_: Any, **__: Any) -> NoReturn:
         run.end(lambda: tree_file(cli, run.name, run.short))
 
-    click.Command.make_context = end  # type: ignore[method-assign,assignment]
+    setattr(click.Command, "make_context", end)
     run.start()
 
 
