@@ -218,7 +218,7 @@ def parts(it: Dict[str, Any]) -> Iterator[str]:
                 for value in it.get("possible_values", []))
     for key in ("value_hint", "value_delimiter"):
         if key in it:
-            yield it[key]
+            yield str(it[key])
     if "values_from" in it:
         yield "from " + shlex.join(it["values_from"][1:])
     yield from ("not " + other for other in it.get("conflicts_with", []))
@@ -356,7 +356,8 @@ class Trial:
                 before, after = counts(old), counts(new)
                 before["possible values"] += ONTO[name]
                 kinds = [it for it in KINDS if it != "path hints"]
-                self.compare(f"{name}, --onto", [f"{it}: {before[it]}" for it in kinds], [f"{it}: {after[it]}" for it in kinds])
+                self.compare(f"{name}, --onto", [f"{it}: {before[it]}" for it in kinds],
+                             [f"{it}: {after[it]}" for it in kinds])
                 for path, word in doubled(new, [], name):
                     self.differ(f"{name}, --onto: {path} has {word} twice")
                 tried.append(name)
@@ -387,7 +388,8 @@ class Trial:
                 file.write(text.format(library=library))
             self.expect_bad(f"{library}, {name}", self.room.export(library, path), message)
         with open("/dev/full", "wb") as full:
-            self.expect_bad(f"{library}, a full disk", self.room.export(library, good, out=full), "No space left|ENOSPC")
+            ran = self.room.export(library, good, out=full)
+            self.expect_bad(f"{library}, a full disk", ran, "No space left|ENOSPC")
         number = len(texts) + 1
         if library == "commander":
             return number
@@ -556,11 +558,12 @@ def main() -> int:
             table(room, options.go)
             return 0
         trial = Trial(room)
+        others = {"programs": trial.programs, "onto": trial.onto, "bad": trial.bad_input, "check": trial.check,
+                  "tab": trial.tab}
         for part in options.only or PARTS:
             before = trial.bad
             try:
-                tried = {"programs": trial.programs, "onto": trial.onto, "bad": trial.bad_input, "check": trial.check, "tab": trial.tab}.get(
-                    part, lambda it=part: trial.features(it))()
+                tried = others[part]() if part in others else trial.features(part)
                 print(f"{part}: {tried}, {trial.bad - before} differences", flush=True)
             except Missing as missing:
                 print(f"{part}: skipped: {missing}", flush=True)

@@ -77,7 +77,8 @@ function treeFile(program, settings = {}) {
   const exporter = { name, showsValues: program.options.some((it) => it.long === VALUES_OPTION), unasked: 0 };
   const made = { ...command(program, [], exporter), name };
   if (exporter.unasked) {
-    warn([name], `values of completers are left out: ${exporter.unasked} arguments, because the program does not call add`);
+    const why = "because the program does not call add";
+    warn([name], `values of completers are left out: ${exporter.unasked} arguments, ${why}`);
   }
   return JSON.stringify(finish(made, [], new Set(), { short: settings.short, labels: new Map() }), null, 1) + "\n";
 }
@@ -104,8 +105,8 @@ const idOf = (option) => (option.long || option.short).replace(/^-+/, "");
 
 /** Returns a command: its options, its arguments and its subcommands. A further key is a line here. */
 function command(cmd, above, exporter) {
-  const at = [...above, cmd.name()].slice(1);
-  const words = above.length ? at : [];
+  const words = [...above, cmd.name()].slice(1);
+  const names = [...above, cmd.name()];
   const help = cmd.createHelp();
   const generated = help.visibleOptions(cmd).filter((it) => !cmd.options.includes(it));
   const own = cmd.options.filter((it) => !OWN.includes(it.long));
@@ -126,7 +127,7 @@ function command(cmd, above, exporter) {
       ...argumentsOf(cmd).map((it) => argument(it, words, exporter)),
     ],
     subcommands: cmd.commands.map((it) =>
-      it._executableHandler ? executable(it, cmd, [...above, cmd.name()], exporter) : command(it, [...above, cmd.name()], exporter)
+      it._executableHandler ? executable(it, cmd, names, exporter) : command(it, names, exporter)
     ),
   };
 }
@@ -255,8 +256,8 @@ function finish(made, above, inherited, settings) {
     });
     subcommands.push(finish({ ...child, visible_aliases: aliases }, at, below, settings));
   }
-  const required = made.subcommand_required && subcommands.length > 0;
-  return kept({ ...made, args: args.map((it) => kept(it, settings)), subcommands, subcommand_required: required }, settings);
+  made.subcommand_required = made.subcommand_required && subcommands.length > 0;
+  return kept({ ...made, args: args.map((it) => kept(it, settings)), subcommands }, settings);
 }
 
 function finishArgument(given, at, taken, below, settings) {
@@ -288,7 +289,8 @@ function finishArgument(given, at, taken, below, settings) {
   if (made.possible_values) {
     const seen = new Set();
     made.possible_values = made.possible_values.filter(({ name }) => {
-      if (!QUIET.test(name)) warn(at, `the value ${JSON.stringify(name)} of ${made.id} is left out: a script could split or run it`);
+      const shown = `the value ${JSON.stringify(name)} of ${made.id}`;
+      if (!QUIET.test(name)) warn(at, `${shown} is left out: a script could split or run it`);
       return QUIET.test(name) && !seen.has(name) && seen.add(name);
     });
   }
@@ -302,9 +304,8 @@ const text = (it) => it.replace(CONTROLS, "").replace(/[\u2018-\u201b]/g, "'").t
 function kept(made, settings = {}) {
   const says = (key, it) => it !== undefined && it !== null && it !== false && it !== "" && it.length !== 0
     && !(settings.short && UNREAD.includes(key));
-  return Object.fromEntries(
-    Object.entries(made).map(([key, it]) => [key, typeof it === "string" ? text(it) : it]).filter((pair) => says(...pair))
-  );
+  const clean = Object.entries(made).map(([key, it]) => [key, typeof it === "string" ? text(it) : it]);
+  return Object.fromEntries(clean.filter((pair) => says(...pair)));
 }
 
 // ---- the run of a program
@@ -318,9 +319,10 @@ function runProgram(words, short) {
   const given = { stdio: ["inherit", 2, 2, "pipe"], maxBuffer: 1 << 28, env: environment };
   const ran = spawnSync(process.execPath, words, given);
   const made = ran.status === 0 && ran.output ? ran.output[3] : "";
-  if (ran.error) console.error(`${words[words.length - 1]}: ${ran.error.message}`);
+  const program = words[words.length - 1];
+  if (ran.error) console.error(`${program}: ${ran.error.message}`);
   else if (ran.status === 0 && !made.length) {
-    console.error(`${words[words.length - 1]}: the program ended before Commander parsed its command line, so there is no tree file`);
+    console.error(`${program}: it ended before Commander parsed its command line, so there is no tree file`);
   }
   try {
     if (made.length) fs.writeFileSync(1, made);
