@@ -115,7 +115,7 @@ func Write(out io.Writer, root *cobra.Command, short bool) error {
 	root.InitDefaultHelpCmd()
 	root.InitDefaultCompletionCmd()
 	made := commandOf(root)
-	finisher{short, map[string]string{}}.command(made, nil, map[string]bool{})
+	finisher{short, map[string]string{}}.command(made, nil, map[string]string{})
 	var text bytes.Buffer
 	encoder := json.NewEncoder(&text)
 	encoder.SetEscapeHTML(false)
@@ -137,7 +137,11 @@ func commandOf(cmd *cobra.Command) *command {
 		made.LongAbout = cmd.Long
 	}
 	if !cmd.DisableFlagParsing {
-		cmd.LocalFlags().VisitAll(func(flag *pflag.Flag) { made.Args = append(made.Args, option(cmd, flag)) })
+		cmd.Flags().VisitAll(func(flag *pflag.Flag) {
+			if !isInherited(cmd, flag) {
+				made.Args = append(made.Args, option(cmd, flag))
+			}
+		})
 	}
 	made.Args = append(made.Args, positionals(cmd)...)
 	for _, child := range cmd.Commands() {
@@ -149,6 +153,16 @@ func commandOf(cmd *cobra.Command) *command {
 		}
 	}
 	return made
+}
+
+// Returns whether a flag is one of a command above. Cobra's LocalFlags before 1.8 leaves out those that hide one.
+func isInherited(cmd *cobra.Command, flag *pflag.Flag) bool {
+	for above := cmd.Parent(); above != nil; above = above.Parent() {
+		if above.PersistentFlags().Lookup(flag.Name) == flag {
+			return true
+		}
+	}
+	return false
 }
 
 // Types whose values are no paths. Cobra completes files for all others of which it knows nothing.
@@ -448,27 +462,29 @@ func reason(name string, pattern *regexp.Regexp, taken bool) string {
 	return ""
 }
 
-// Finishes a command. `inherited` has the names of the global options above, as `-x` or `--name`, and their ids.
-func (f finisher) command(made *command, above []string, inherited map[string]bool) {
+// Finishes a command. `inherited` has the ids of the global options above by their names, as `-x` or `--name`.
+func (f finisher) command(made *command, above []string, inherited map[string]string) {
 	path := append(above[:len(above):len(above)], made.Name)
-	names, ids := map[string]bool{}, map[string]bool{}
-	for name := range inherited {
-		names[name], ids[name] = true, true
+	names, ids, below := map[string]bool{}, map[string]bool{}, map[string]string{}
+	hidden := map[string]bool{} // a flag hides one above if it has its name, and in a tree file its id
+	for _, one := range made.Args {
+		hidden[one.ID] = one.Long != "" && inherited["--"+one.Long] == one.ID
+	}
+	for name, id := range inherited {
+		if !hidden[id] {
+			names[name], ids[id], below[name] = true, true, id
+		}
 	}
 	made.About, made.LongAbout, made.AfterHelp = text(made.About), text(made.LongAbout), text(made.AfterHelp)
 	if f.short {
 		made.LongAbout, made.AfterHelp = "", ""
 	}
 	kept := made.Args[:0]
-	below := map[string]bool{}
-	for name := range inherited {
-		below[name] = true
-	}
 	for _, one := range made.Args {
 		if f.argument(one, path, names, ids) {
 			kept = append(kept, one)
 			if one.Global {
-				below[one.ID], below["--"+one.Long], below["-"+one.Short] = true, true, true
+				below["--"+one.Long], below["-"+one.Short] = one.ID, one.ID
 			}
 		}
 	}

@@ -53,6 +53,8 @@ func main() {
 	show := &cobra.Command{Use: "show [flags] [text|json] [ID|NAME] ...", Short: "Shows notes", Run: run}
 	mark := &cobra.Command{Use: "mark ID COLOR [COLOR...]", Short: "Marks a note", Args: cobra.MinimumNArgs(2), Run: run,
 		ValidArgsFunction: notes}
+	paint := &cobra.Command{Use: "paint", Short: "Has an option that hides one above", Run: run}
+	paint.Flags().Uint8("color", 0, "the number of a colour")
 	hidden := &cobra.Command{Use: "secret", Hidden: true, Run: run}
 	remote := &cobra.Command{Use: "remote", Short: "Other places"}
 	remote.AddCommand(&cobra.Command{Use: "add URL", Short: "Adds a place", Run: run})
@@ -62,7 +64,7 @@ func main() {
 	odd := &cobra.Command{Use: "odd.name", Short: "Has a name that is not plain", Run: run}
 	again := &cobra.Command{Use: "zap", Aliases: []string{"add"}, Run: run,
 		Short: "Has an alias that is a name of a command before it"}
-	root.AddCommand(add, remove, move, list, show, mark, floating, hidden, remote, clash, odd, again)
+	root.AddCommand(add, remove, move, list, show, mark, paint, floating, hidden, remote, clash, odd, again)
 	if root.Execute() != nil {
 		os.Exit(1)
 	}
