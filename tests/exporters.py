@@ -311,7 +311,7 @@ class Trial:
         short = self.room.export(library, "", short=True)
         tree = json.loads(short.out)
         self.compare(f"{library}: the short form", found, rows_of_app(tree, library))
-        if re.search('"(long_about|after_help|default_value)":', short.out):
+        if re.search('"(long_about|after_help|default_value|subcommand_required)":', short.out):
             self.differ(f"{library}: the short form has keys that no Tab reads")
         return f"{len(found)} rows, {len(said)} lines of what is left out"
 

@@ -33,7 +33,7 @@ const path = require("path");
 const TREE_OPTION = "--complgen-tree";
 const VALUES_OPTION = "--complgen-values";
 const OWN = [TREE_OPTION, VALUES_OPTION];
-const UNREAD = ["long_about", "after_help", "default_value"];
+const UNREAD = ["long_about", "after_help", "default_value", "subcommand_required"];
 // Keys of which an argument has one at most.
 const SOURCES = ["values_from", "values_file", "possible_values", "value_hint"];
 const PLAIN = /^[A-Za-z0-9]+([-_][A-Za-z0-9]+)*$/;
@@ -67,7 +67,7 @@ function add(program) {
  * Returns the text of a tree file. What a tree file cannot contain is left out, with a line on the standard error.
  *
  * @param {import("commander").Command} program
- * @param {{short?: boolean}} [settings] With `short`, the file lacks the keys that no Tab reads.
+ * @param {{short?: boolean}} [settings] With `short`, the file lacks the keys that no Tab reads, and spaces.
  * @returns {string}
  * @throws {Error} If the program's name is not plain, because no tree file would be found by it.
  */
@@ -80,7 +80,8 @@ function treeFile(program, settings = {}) {
     const why = "because the program does not call add";
     warn([name], `values of completers are left out: ${exporter.unasked} arguments, ${why}`);
   }
-  return JSON.stringify(finish(made, [], new Set(), { short: settings.short, labels: new Map() }), null, 1) + "\n";
+  const tree = finish(made, [], new Set(), { short: settings.short, labels: new Map() });
+  return JSON.stringify(tree, null, settings.short ? 0 : 1) + "\n";
 }
 
 /**

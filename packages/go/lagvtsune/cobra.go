@@ -104,7 +104,7 @@ func Add(root *cobra.Command) {
 }
 
 // Write writes the tree file of a program, as a whole or not at all. If short is set, the file lacks the keys that no
-// Tab reads: half of its size.
+// Tab reads, and spaces.
 //
 // What a tree file cannot contain is left out, with a line on the standard error. Write fails if the name of the
 // program is not plain, because no tree file would be found by it.
@@ -119,7 +119,9 @@ func Write(out io.Writer, root *cobra.Command, short bool) error {
 	var text bytes.Buffer
 	encoder := json.NewEncoder(&text)
 	encoder.SetEscapeHTML(false)
-	encoder.SetIndent("", " ")
+	if !short {
+		encoder.SetIndent("", " ")
+	}
 	if err := encoder.Encode(made); err != nil {
 		return err
 	}
@@ -477,7 +479,7 @@ func (f finisher) command(made *command, above []string, inherited map[string]st
 	}
 	made.About, made.LongAbout, made.AfterHelp = text(made.About), text(made.LongAbout), text(made.AfterHelp)
 	if f.short {
-		made.LongAbout, made.AfterHelp = "", ""
+		made.LongAbout, made.AfterHelp, made.Required = "", "", false
 	}
 	kept := made.Args[:0]
 	for _, one := range made.Args {

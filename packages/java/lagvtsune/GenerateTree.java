@@ -63,7 +63,8 @@ public final class GenerateTree implements Callable<Integer> {
     /** What bash offers as it is. */
     private static final String QUIET = "[A-Za-z0-9+\\-./:@_,=]+";
     /** Keys that no Tab reads. */
-    private static final List<String> UNREAD = List.of("long_about", "after_help", "default_value");
+    private static final List<String> UNREAD =
+            List.of("long_about", "after_help", "default_value", "subcommand_required");
 
     @Spec
     private CommandSpec spec;

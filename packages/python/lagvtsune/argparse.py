@@ -68,7 +68,7 @@ def tree_file(parser: argparse.ArgumentParser, name: Optional[str] = None, short
     """Returns the text of a tree file.
 
     `name` is the name of the program, by default that of the parser. With `short`, the file lacks the keys that no
-    Tab reads: half of its size. What a tree file cannot contain is left out, with a line on the standard error.
+    Tab reads, and spaces. What a tree file cannot contain is left out, with a line on the standard error.
     """
     return text_of(_Exporter(parser, name or program_name(parser.prog.split()[0])).root(), short)
 

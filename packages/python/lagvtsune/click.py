@@ -54,8 +54,8 @@ def add(cli: click.Command) -> None:
 def tree_file(cli: click.Command, name: str, short: bool = False) -> str:
     """Returns the text of a tree file for the program of this name.
 
-    With `short`, the file lacks the keys that no Tab reads: half of its size. What a tree file cannot contain is left
-    out, with a line on the standard error.
+    With `short`, the file lacks the keys that no Tab reads, and spaces. What a tree file cannot contain is left out, with
+    a line on the standard error.
     """
     return text_of(_Exporter(cli, name).root(), short)
 

@@ -28,7 +28,7 @@ Node = Dict[str, Any]
 # The hidden options that `add` gives to a program.
 OWN_OPTIONS = TREE_OPTION, VALUES_OPTION = "--complgen-tree", "--complgen-values"
 # Keys that no script and no Tab reads.
-UNREAD = ("long_about", "after_help", "default_value")
+UNREAD = ("long_about", "after_help", "default_value", "subcommand_required", "arg_required_else_help")
 # Keys of which an argument has one at most.
 SOURCES = {"values_from", "values_file", "possible_values", "value_hint"}
 PLAIN = re.compile(r"[A-Za-z0-9]+([-_][A-Za-z0-9]+)*")
@@ -47,11 +47,12 @@ class NotPlain(ValueError):
 
 
 def text_of(root: Node, short: bool = False) -> str:
-    """Returns the text of a tree file. With `short`, it lacks the keys that no Tab reads. Raises `NotPlain`."""
+    """Returns the text of a tree file. With `short`, it lacks the keys that no Tab reads, and spaces. Raises `NotPlain`."""
     name = root["names"][0]
     if not PLAIN.fullmatch(name):
         raise NotPlain(f"{name}: the name of the program is not plain (letters and digits, with single - or _ between)")
-    return json.dumps(_Finisher(short).command(root, ()), indent=1, ensure_ascii=False) + "\n"
+    form: Node = {"separators": (",", ":")} if short else {"indent": 1}
+    return json.dumps(_Finisher(short).command(root, ()), ensure_ascii=False, **form) + "\n"
 
 
 def program_name(word: str) -> str:
