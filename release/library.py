@@ -36,7 +36,8 @@ def put_library(args):
     put(root / "lib/pkgconfig/lagvtsune.pc", PKG_CONFIG.format(version=args.version))
     share = root / "share/lagvtsune"
     copy(own / "lagvtsune_posix.c", share / "lagvtsune_posix.c")
-    copy(args.source / "packages/python/lagvtsune.py", share / "lagvtsune.py")
+    for path in sorted((args.source / "packages/python/lagvtsune").glob("*.py")):
+        copy(path, share / "lagvtsune" / path.name)
     for language in ("c", "python"):
         examples = args.source / "packages" / language / "examples"
         for path in sorted(examples.rglob("*")):

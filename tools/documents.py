@@ -66,7 +66,7 @@ def print_long(long):
 
 
 def pages():
-    folders = (".", "docs", "bench", "examples/*", "importer", "packages/*/*", "release", "tests", "tools")
+    folders = (".", "docs", "bench", "examples/*", "importer", "packages/*", "packages/*/*", "release", "tests", "tools")
     return [os.path.relpath(path, TOP) for folder in folders for path in paths(f"{folder}/*.md")]
 
 

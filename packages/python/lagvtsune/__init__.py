@@ -1,13 +1,16 @@
 """Shell completions for Python programs, by the shared library liblagvtsune.so.0.
 
 `complete` answers a completion request of a shell, and `script` makes a script. Both take a tree file,
-as text or bytes. `registration` makes a registration, which needs no tree. The library is looked up as
-the system does it, or the variable LAGVTSUNE_SO names it.
+as text or bytes. `registration` makes a registration, which needs no tree. The library is looked up at the
+first call as the system does it, or the variable LAGVTSUNE_SO names it.
+
+The modules `lagvtsune.argparse` and `lagvtsune.click` make tree files. They do not need the library.
 
 SPDX-License-Identifier: MIT OR Apache-2.0
 """
 
 import ctypes
+import functools
 import os
 import sys
 
@@ -57,13 +60,6 @@ class Request(ctypes.Structure):
 SLICE = [ctypes.c_char_p, ctypes.c_size_t]
 ROOM = [ctypes.c_char_p, ctypes.c_size_t, ctypes.POINTER(ctypes.c_uint8)]
 
-library = ctypes.CDLL(os.environ.get("LAGVTSUNE_SO", "liblagvtsune.so.0"))
-library.lagvtsune_script.argtypes = SLICE * 3 + ROOM
-library.lagvtsune_registration.argtypes = [ctypes.c_bool, *SLICE, ctypes.POINTER(Names), *ROOM]
-library.lagvtsune_live.argtypes = [ctypes.POINTER(Request), *ROOM]
-for function in (library.lagvtsune_script, library.lagvtsune_registration, library.lagvtsune_live):
-    function.restype = ctypes.c_size_t
-
 
 class Failed(Exception):
     """The library's message instead of a text."""
@@ -71,7 +67,7 @@ class Failed(Exception):
 
 def script(shell, bin_name, tree):
     """Returns the script for a shell as text, of the command in a tree file. Raises `Failed`."""
-    return _made(library.lagvtsune_script, [*_slice(shell), *_slice(bin_name), *_slice(tree)])
+    return _made("lagvtsune_script", [*_slice(shell), *_slice(bin_name), *_slice(tree)])
 
 
 def registration(shell, bin_name, completer, variable="COMPLETE", name=None, safe=True):
@@ -82,7 +78,7 @@ def registration(shell, bin_name, completer, variable="COMPLETE", name=None, saf
     the registration of the original, whose names have to be plain.
     """
     names = Names(*map(_bytes, (variable, name or bin_name, bin_name, completer)))
-    return _made(library.lagvtsune_registration, [safe, *_slice(shell), ctypes.byref(names)])
+    return _made("lagvtsune_registration", [safe, *_slice(shell), ctypes.byref(names)])
 
 
 def answer(tree, words, variables, current_dir=None, output=b""):
@@ -103,7 +99,7 @@ def answer(tree, words, variables, current_dir=None, output=b""):
             _bytes(tree), _list(words), _list(pairs), _bytes(output), _bytes(listed), _list(names), _list(folders),
             _list(files),
         )
-        status, text = _call(library.lagvtsune_live, [ctypes.byref(request)])
+        status, text = _call("lagvtsune_live", [ctypes.byref(request)])
         if status != WANTS_FOLDER:
             break
         listed = os.fsdecode(text)
@@ -138,6 +134,18 @@ def complete(tree, words=None):
         sys.exit(status)
 
 
+@functools.lru_cache(maxsize=None)
+def _library():
+    """Loads the shared library. Raises `OSError` if it is not found."""
+    library = ctypes.CDLL(os.environ.get("LAGVTSUNE_SO", "liblagvtsune.so.0"))
+    library.lagvtsune_script.argtypes = SLICE * 3 + ROOM
+    library.lagvtsune_registration.argtypes = [ctypes.c_bool, *SLICE, ctypes.POINTER(Names), *ROOM]
+    library.lagvtsune_live.argtypes = [ctypes.POINTER(Request), *ROOM]
+    for function in (library.lagvtsune_script, library.lagvtsune_registration, library.lagvtsune_live):
+        function.restype = ctypes.c_size_t
+    return library
+
+
 def _output():
     """Returns what a command printed, from the standard input: the lines in the first 16 MiB."""
     with open(0, "rb", closefd=False) as stdin:
@@ -145,9 +153,9 @@ def _output():
     return output if len(output) <= MOST_OUTPUT else output[: output.rfind(b"\n", 0, MOST_OUTPUT) + 1]
 
 
-def _made(called, arguments):
-    """Returns the text of a call. Raises `Failed`."""
-    status, text = _call(called, arguments)
+def _made(name, arguments):
+    """Returns the text of a call of this name. Raises `Failed`."""
+    status, text = _call(name, arguments)
     if status != MADE:
         raise _failure(status, text)
     return text.decode()
@@ -188,9 +196,9 @@ def _list(texts):
     return List((Bytes * max(len(slices), 1))(*slices), len(slices))
 
 
-def _call(called, arguments):
+def _call(name, arguments):
     """Makes a call, again if its text needs more room. Returns the status and the text."""
-    size, status = FIRST_ROOM, ctypes.c_uint8()
+    called, size, status = getattr(_library(), name), FIRST_ROOM, ctypes.c_uint8()
     while True:
         room = ctypes.create_string_buffer(size)
         length = called(*arguments, room, size, ctypes.byref(status))
