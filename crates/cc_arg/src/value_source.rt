@@ -51,7 +51,12 @@ fn is_whole_word(word: &Text) -> bool
 fn has_byte(text: &[u8], byte: u8) -> bool
     ensures { result ≡ has_byte byte text.now }
 {
-    text.iter().any(|one| *one == byte)
+    for one in text {
+        if *one == byte {
+            return true;
+        }
+    }
+    false
 }
 
 /// Returns whether the values of `argument` come from a command that can run, from a file, or from
