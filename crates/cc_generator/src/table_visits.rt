@@ -87,8 +87,9 @@ impl<'f, 'a, K: KeyScheme> TableVisits<'f, 'a, K> {
         ensures { IfOk result
             (λ visits. visits ≡ table_visits (K.child_key keys.now) key.now (tree_at flat.now 0)) }
     {
+        let text = Text::copy_of(alloc, key)?;
         let mut own = Vec::new(alloc);
-        own.push(Text::copy_of(alloc, key)?)?;
+        own.push(text)?;
         let mut stack = Vec::new(alloc);
         push_below(&mut stack, alloc, flat, 0, &own)?;
         Ok(TableVisits {
@@ -122,6 +123,7 @@ impl<'f, 'a, K: KeyScheme> TableVisits<'f, 'a, K> {
         };
         let command = flat.command(number);
         push_keys_below(&mut self.ready, alloc, self.keys, key.as_str(), command)?;
+        drop(key);
         push_below(&mut self.stack, alloc, flat, number, &self.ready)?;
         self.number = number;
         self.above = above;
