@@ -1,24 +1,25 @@
 //! The blocks of a script: the options and words offered at a command, and the arms of its
 //! children.
 
-ghost use Rattle.std.specs.Prelude.{◌≡◌, ◌<◌, length, IfOk};
+ghost use Rattle.std.specs.Prelude.{◌≡◌, ◌<◌, ◌++◌, length, IfOk};
 ghost use Rattle.std.specs.List.{flat_map};
 ghost use Rattle.std.specs.String.{string_bytes};
 ghost use Rattle.cc_base.specs.Writes.{Writes, as_write};
 ghost use Rattle.cc_command.specs.ArgumentLists.{positionals};
 ghost use Rattle.cc_generator.specs.Flat.{tree_at};
 ghost use Rattle.cc_generator.specs.Meaning.{step_of, visit_of};
-ghost use Rattle.cc_zsh.specs.Nested.{arm_begins, arms_text, below_text, block_text, case_text, children_text, index_text, nested_begins, nested_ends, root_text};
+ghost use Rattle.cc_zsh.specs.Nested.{arm_begins, arms_text, below_text, block_begins, block_text, case_text, children_text, index_text, nested_begins, nested_ends, root_text};
+ghost use Rattle.cc_zsh.specs.Options.{flags_text, options_text};
 ghost use Rattle.cc_zsh.specs.Steps.{enter_text, leave_text, step_text};
 
-use crate::names::{write_dashed, write_label};
+use crate::names::{write_dashed, write_label_between};
 use crate::options::write_arguments;
 use crate::positionals::write_positionals;
 use crate::texts::{
     ARM_ENDS, BLOCK_BEGINS, BLOCK_ENDS, CASE_LINE, CASE_LINE_IN, CASE_STATE, COMMAND_BEGINS,
     CONTEXT_COMMAND, EXTERNAL_TEXT, NESTED_ENDS, SET_CONTEXT, SET_WORDS, STATE_BEGINS, STATE_ENDS,
 };
-use cc_base::{Error, Sink, Text, put_around, put_piece, put_pieces};
+use cc_base::{Error, Sink, Text, put_around, put_piece, put_pieces, put_text};
 use cc_command::{Command, full_name};
 use cc_generator::{Flat, KeyScheme, PathStep, PathSteps, Visit};
 use std::alloc::{AllocError, Global};
@@ -104,7 +105,7 @@ fn write_enter<W: Sink>(alloc: Global, sink: &mut W, visit: &Visit<'_>) -> Resul
     if !visit.command.has_subcommands() {
         return Ok(());
     }
-    put_piece(sink, "\n")?;
+    put_text(sink, "\n")?;
     write_nested_begins(alloc, sink, visit.command)
 }
 
@@ -127,17 +128,29 @@ fn write_leave<W: Sink>(sink: &mut W, command: &Command) -> Result<(), ErrorKind
     put_pieces(sink, &[NESTED_ENDS, ARM_ENDS])
 }
 
-#[tactic(auto, using(crate::proofs::FixedParts::in_blocks), unfolding(crate::specs::Nested::block_text, crate::specs::Options::options_text, crate::specs::Options::flags_text))]
 fn write_block<W: Sink>(sink: &mut W, above: &Command, command: &Command) -> Result<(), ErrorKind>
     ensures { Writes W.taken W.failed (as_write result) sink.old sink.new
         (block_text above.now.node command.now) }
 {
-    put_piece(sink, BLOCK_BEGINS)?;
-    write_arguments(sink, above, command, command.get_opts())?;
-    write_arguments(sink, above, command, command.get_flags())?;
+    write_block_begins(sink, above, command)?;
     write_positionals(sink, command)?;
     write_below(sink, command)?;
     put_piece(sink, BLOCK_ENDS)
+}
+
+// Begins a block, with the lines of the options and the flags.
+fn write_block_begins<W: Sink>(
+    sink: &mut W,
+    above: &Command,
+    command: &Command,
+) -> Result<(), ErrorKind>
+    ensures { Writes W.taken W.failed (as_write result) sink.old sink.new
+        (block_begins ++ options_text above.now.node command.now.node
+        ++ flags_text above.now.node command.now.node) }
+{
+    put_piece(sink, BLOCK_BEGINS)?;
+    write_arguments(sink, above, command, command.get_opts())?;
+    write_arguments(sink, above, command, command.get_flags())
 }
 
 #[tactic(auto, unfolding(crate::specs::Nested::below_text, crate::specs::Script::fixed_texts))]
@@ -158,12 +171,8 @@ fn write_children<W: Sink>(sink: &mut W, command: &Command) -> Result<(), ErrorK
     ensures { Writes W.taken W.failed (as_write result) sink.old sink.new
         (children_text command.now.node) }
 {
-    put_piece(sink, COMMAND_BEGINS)?;
-    write_label(sink, full_name(command))?;
-    put_piece(sink, STATE_BEGINS)?;
-    put_piece(sink, command.get_name())?;
-    put_piece(sink, STATE_ENDS)?;
-    Ok(())
+    write_label_between(sink, COMMAND_BEGINS, full_name(command), STATE_BEGINS)?;
+    put_pieces(sink, &[command.get_name(), STATE_ENDS])
 }
 
 fn write_nested_begins<W: Sink>(alloc: Global, sink: &mut W, command: &Command) -> Result<(), Error>

@@ -1,12 +1,13 @@
 //! The lines of a command's positionals.
 
-ghost use Rattle.std.specs.Prelude.{◌≡◌, false};
+ghost use Rattle.std.specs.Prelude.{◌≡◌, ◌++◌, codes, false};
 ghost use Rattle.std.specs.Option.{option_copied};
 ghost use Rattle.cc_base.specs.Writes.{Writes, as_write};
 ghost use Rattle.cc_command.specs.ArgumentLists.{positionals};
 ghost use Rattle.cc_quote.specs.ZshQuote.{zsh_replacement};
 ghost use Rattle.cc_zsh.specs.Positionals.{count_text, is_left_out, is_positional_escaped, positional_escaped, positional_help, positional_text, positionals_text, rest_text, takes_all, takes_rest, takes_several};
 
+use crate::escaped::put_escaped_between;
 use crate::texts::LINE_END;
 use crate::values::{range, write_value};
 use cc_arg::Arg;
@@ -70,13 +71,27 @@ fn write_positional<W: Sink>(
     ensures { Writes W.taken W.failed (as_write result) sink.old sink.new
         (positional_text has_children argument.now) }
 {
-    put_piece(sink, "'")?;
-    write_count(sink, has_children, argument)?;
-    put_pieces(sink, &[":", argument.get_id()])?;
-    write_help(sink, argument.get_help())?;
+    write_before_value(sink, has_children, argument)?;
     put_piece(sink, ":")?;
     write_value(sink, argument)?;
     put_piece(sink, LINE_END)
+}
+
+// Writes how many words a positional takes, its id and its help text.
+#[tactic(auto, using(cc_base::proofs::WrittenTexts::after_bytes))]
+fn write_before_value<W: Sink>(
+    sink: &mut W,
+    has_children: bool,
+    argument: &Arg,
+) -> Result<(), ErrorKind>
+    ensures { Writes W.taken W.failed (as_write result) sink.old sink.new
+        (codes "'" ++ count_text has_children argument.now ++ codes ":" ++ argument.now.id
+        ++ positional_help argument.now.help) }
+{
+    put_piece(sink, "'")?;
+    write_count(sink, has_children, argument)?;
+    put_pieces(sink, &[":", argument.get_id()])?;
+    write_help(sink, argument.get_help())
 }
 
 #[tactic(auto, unfolding(crate::specs::Positionals::count_text))]
@@ -101,9 +116,7 @@ fn write_rest<W: Sink>(sink: &mut W, terminator: Option<&str>) -> Result<(), Err
     let Some(terminator) = terminator else {
         return put_piece(sink, "*:");
     };
-    put_piece(sink, "*")?;
-    put_escaped(sink, &ZshValueEscape, terminator)?;
-    put_piece(sink, ":")
+    put_escaped_between(sink, "*", &ZshValueEscape, terminator, ":")
 }
 
 #[tactic(auto, using(cc_base::proofs::WrittenTexts::after_bytes), unfolding(crate::specs::Positionals::positional_escaped))]
