@@ -1,15 +1,14 @@
 //! The blocks of a script: the options and words offered at a command, and the arms of its
 //! children.
 
-ghost use Rattle.std.specs.Prelude.{◌≡◌, ◌<◌, ◌++◌, length, IfOk};
+ghost use Rattle.std.specs.Prelude.{◌≡◌, ◌<◌, length, IfOk};
 ghost use Rattle.std.specs.List.{flat_map};
 ghost use Rattle.std.specs.String.{string_bytes};
 ghost use Rattle.cc_base.specs.Writes.{Writes, as_write};
 ghost use Rattle.cc_command.specs.ArgumentLists.{positionals};
 ghost use Rattle.cc_generator.specs.Flat.{tree_at};
 ghost use Rattle.cc_generator.specs.Meaning.{step_of, visit_of};
-ghost use Rattle.cc_zsh.specs.Nested.{arm_begins, arms_text, below_text, block_begins, block_text, case_text, children_text, index_text, nested_begins, nested_ends, root_text};
-ghost use Rattle.cc_zsh.specs.Options.{flags_text, options_text};
+ghost use Rattle.cc_zsh.specs.Nested.{arm_begins, arms_text, below_text, block_text, case_text, children_text, index_text, nested_begins, nested_ends, root_text};
 ghost use Rattle.cc_zsh.specs.Steps.{enter_text, leave_text, step_text};
 
 use crate::names::{write_dashed, write_label_between};
@@ -82,7 +81,10 @@ fn write_steps<W: Sink>(
         (flat_map step_text steps.entry) }
 {
     while let Some(step) = steps.next(alloc)? {
-        write_step(alloc, sink, &step)?;
+        let written = write_step(alloc, sink, &step);
+        // One call here, instead of a drop of each variant at each exit.
+        drop(step);
+        written?;
     }
     Ok(())
 }
@@ -132,25 +134,12 @@ fn write_block<W: Sink>(sink: &mut W, above: &Command, command: &Command) -> Res
     ensures { Writes W.taken W.failed (as_write result) sink.old sink.new
         (block_text above.now.node command.now) }
 {
-    write_block_begins(sink, above, command)?;
+    put_piece(sink, BLOCK_BEGINS)?;
+    write_arguments(sink, above, command, command.get_opts())?;
+    write_arguments(sink, above, command, command.get_flags())?;
     write_positionals(sink, command)?;
     write_below(sink, command)?;
     put_piece(sink, BLOCK_ENDS)
-}
-
-// Begins a block, with the lines of the options and the flags.
-fn write_block_begins<W: Sink>(
-    sink: &mut W,
-    above: &Command,
-    command: &Command,
-) -> Result<(), ErrorKind>
-    ensures { Writes W.taken W.failed (as_write result) sink.old sink.new
-        (block_begins ++ options_text above.now.node command.now.node
-        ++ flags_text above.now.node command.now.node) }
-{
-    put_piece(sink, BLOCK_BEGINS)?;
-    write_arguments(sink, above, command, command.get_opts())?;
-    write_arguments(sink, above, command, command.get_flags())
 }
 
 #[tactic(auto, unfolding(crate::specs::Nested::below_text, crate::specs::Script::fixed_texts))]

@@ -1,11 +1,9 @@
 //! The lines of a command's options and flags.
 
-ghost use Rattle.std.specs.Prelude.{◌≡◌, ◌++◌, codes, flat_map};
+ghost use Rattle.std.specs.Prelude.{◌≡◌, flat_map};
 ghost use Rattle.cc_base.specs.Writes.{Writes, as_write};
 ghost use Rattle.cc_command.specs.Iterators.{arguments_left};
-ghost use Rattle.cc_zsh.specs.Conflicts.{conflicts_of, conflicts_text};
-ghost use Rattle.cc_zsh.specs.Options.{argument_line, argument_text, help_text, name_word};
-ghost use Rattle.cc_zsh.specs.Options.{repeated_text, value_sign};
+ghost use Rattle.cc_zsh.specs.Options.{argument_line, argument_text, help_text, repeated_text, value_sign};
 
 use crate::conflicts::write_conflicts;
 use crate::escaped::put_escaped_between;
@@ -52,7 +50,6 @@ fn write_argument<W: Sink>(
     Ok(())
 }
 
-#[tactic(auto, unfolding(crate::specs::Options::argument_line, crate::specs::Script::fixed_texts))]
 fn write_line<W: Sink>(
     sink: &mut W,
     above: &Command,
@@ -63,31 +60,14 @@ fn write_line<W: Sink>(
     ensures { Writes W.taken W.failed (as_write result) sink.old sink.new
         (argument_line above.now.node command.now.node argument.now name.now) }
 {
-    write_signed_name(sink, above, command, argument, name)?;
-    write_help(sink, argument)?;
-    write_values(sink, argument)?;
-    put_piece(sink, LINE_END)
-}
-
-// Writes a name, after the names that conflict with it and before the sign of its value.
-#[tactic(auto, using(cc_base::proofs::WrittenTexts::after_bytes))]
-fn write_signed_name<W: Sink>(
-    sink: &mut W,
-    above: &Command,
-    command: &Command,
-    argument: &Arg,
-    name: &ShownName<'_>,
-) -> Result<(), ErrorKind>
-    ensures { Writes W.taken W.failed (as_write result) sink.old sink.new
-        (codes "'" ++ conflicts_text (conflicts_of above.now.node command.now.node argument.now)
-        ++ repeated_text argument.now ++ name_word name.now
-        ++ value_sign argument.now name.now) }
-{
     put_piece(sink, "'")?;
     write_conflicts(sink, above, command, argument)?;
     put_piece(sink, star(argument))?;
     write_name(sink, name)?;
-    put_piece(sink, value_sign(argument, name))
+    put_piece(sink, value_sign(argument, name))?;
+    write_help(sink, argument)?;
+    write_values(sink, argument)?;
+    put_piece(sink, LINE_END)
 }
 
 // Returns a star if the argument may be used again.

@@ -1,6 +1,6 @@
 //! The lines of a command's positionals.
 
-ghost use Rattle.std.specs.Prelude.{◌≡◌, ◌++◌, codes, false};
+ghost use Rattle.std.specs.Prelude.{◌≡◌, false};
 ghost use Rattle.std.specs.Option.{option_copied};
 ghost use Rattle.cc_base.specs.Writes.{Writes, as_write};
 ghost use Rattle.cc_command.specs.ArgumentLists.{positionals};
@@ -62,7 +62,6 @@ fn takes_all(has_children: bool, argument: &Arg) -> bool
     takes_rest(has_children, argument) && !argument.get_value_terminator().is_some()
 }
 
-#[tactic(auto, using(cc_base::proofs::WrittenTexts::after_bytes), unfolding(crate::specs::Positionals::positional_text, crate::specs::Script::fixed_texts))]
 fn write_positional<W: Sink>(
     sink: &mut W,
     has_children: bool,
@@ -71,27 +70,13 @@ fn write_positional<W: Sink>(
     ensures { Writes W.taken W.failed (as_write result) sink.old sink.new
         (positional_text has_children argument.now) }
 {
-    write_before_value(sink, has_children, argument)?;
-    put_piece(sink, ":")?;
-    write_value(sink, argument)?;
-    put_piece(sink, LINE_END)
-}
-
-// Writes how many words a positional takes, its id and its help text.
-#[tactic(auto, using(cc_base::proofs::WrittenTexts::after_bytes))]
-fn write_before_value<W: Sink>(
-    sink: &mut W,
-    has_children: bool,
-    argument: &Arg,
-) -> Result<(), ErrorKind>
-    ensures { Writes W.taken W.failed (as_write result) sink.old sink.new
-        (codes "'" ++ count_text has_children argument.now ++ codes ":" ++ argument.now.id
-        ++ positional_help argument.now.help) }
-{
     put_piece(sink, "'")?;
     write_count(sink, has_children, argument)?;
     put_pieces(sink, &[":", argument.get_id()])?;
-    write_help(sink, argument.get_help())
+    write_help(sink, argument.get_help())?;
+    put_piece(sink, ":")?;
+    write_value(sink, argument)?;
+    put_piece(sink, LINE_END)
 }
 
 #[tactic(auto, unfolding(crate::specs::Positionals::count_text))]
