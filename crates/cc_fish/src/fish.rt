@@ -98,7 +98,10 @@ fn write_steps<W: Sink>(
         let PathStep::Enter(visit) = step else {
             continue;
         };
-        write_visit(sink, bin_name, function, &visit, &mut front)?;
+        let written = write_visit(sink, bin_name, function, &visit, &mut front);
+        // One call here, instead of a drop of each field at each exit.
+        drop(visit);
+        written?;
     }
     Ok(())
 }
