@@ -17,6 +17,7 @@ The parts:
 - check: `complgen check` accepts all of these tree files;
 - tab: the values that a program computes reach a Tab in bash, zsh and fish.
 
+Debian's packages are python3-typer, golang-go, golang-github-spf13-cobra-dev, node-commander, libpicocli-java and a JDK.
 A part is skipped, with a line that names what is missing, if a library or a program is not installed. --table prints
 the counts of tree files beside those of `complgen-import --walk` for each program, instead of trying anything. The
 status is 0 if nothing differs.
