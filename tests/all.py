@@ -79,7 +79,7 @@ def listed() -> List[Test]:
         tested(complgen, [], "tests/own_tree.py"),
         tested([], ["git"], "tests/first-minutes", "--without-rt"), tested([], [], "tools/documents.py"),
         tested([], [], "tools/calls.py", "--check"), tested([], [], "tools/clauses.py", "--check"),
-        tested([], [], "tools/keys.py", "--check"), tested([], [], "release/declarations.py"),
+        tested([], [], "tools/keys.py", "--check"), tested([], [], "tools/rows.py"), tested([], [], "release/declarations.py"),
         tested(complgen, ["bash", "zsh"], "tools/demo.py", "--check"),
     ]
     skipped = [
