@@ -17,6 +17,7 @@ The parts:
 - check: `complgen check` accepts all of these tree files;
 - tab: the values that a program computes reach a Tab in bash, zsh and fish.
 
+Debian's packages are python3-typer, golang-go, golang-github-spf13-cobra-dev, node-commander, libpicocli-java and a JDK.
 A part is skipped, with a line that names what is missing, if a library or a program is not installed. --table prints
 the counts of tree files beside those of `complgen-import --walk` for each program, instead of trying anything. The
 status is 0 if nothing differs.
@@ -136,7 +137,7 @@ class Room:
             return run([PYTHON, "-m", f"lagvtsune.{module}", *flags, path], out=out)
         if library == "commander":
             exporter = os.path.join(PACKAGES, "javascript/commander.js")
-            path = os.path.realpath(which(program) or program) if program else "app_commander.js"
+            path = which(program) or program if program else "app_commander.js"
             return run(["node", *([exporter, "--short"] if short else ["-r", exporter]), path], out=out)
         if library == "picocli":
             name, jars = class_of(program) if program else ("App", "")
@@ -329,9 +330,10 @@ class Trial:
                 except Missing:
                     missing.append(name)
                     continue
-                tree = self.exported(library, os.path.realpath(str(which(name))) if library in ("argparse", "click")
-                                     else name)
+                tree = self.exported(library, str(which(name)) if library in ("argparse", "click") else name)
                 self.compare(name, listed_counts(known[name]), listed_counts(counts(tree)))
+                if tree["name"] != name and name not in CLASSES:
+                    self.differ(f"{name}: the tree is of {tree['name']}")
                 tried.append(name)
         need(tried, "no program of Debian is installed")
         return f"{' '.join(tried)}" + (f"; not installed: {' '.join(missing)}" if missing else "")
@@ -368,28 +370,26 @@ class Trial:
 
     def bad_input(self) -> str:
         tried = 0
-        for library, folder in (("argparse", self.room.folder), ("click", self.room.folder),
-                                ("commander", self.room.folder)):
+        for library in ("argparse", "click", "commander", "cobra", "picocli"):
             try:
                 self.room.prepare(library)
             except Missing:
                 continue
-            tried += self.try_bad(library, folder)
+            with open("/dev/full", "wb") as full:
+                ran = self.room.export(library, "", out=full)
+            self.expect_bad(f"{library}, a full disk", ran, "[Nn]o space left|ENOSPC|write failed")
+            tried += 1 if library in ("cobra", "picocli") else self.try_bad(library, self.room.folder)
         need(tried, "no library is installed")
         return f"{tried} calls"
 
     def try_bad(self, library: str, folder: str) -> int:
         end = ".js" if library == "commander" else ".py"
-        good = os.path.join(HERE, f"app_{library}{end}")
         texts = BAD_JS if library == "commander" else BAD_PYTHON
         for name, (text, message) in texts.items():
             path = os.path.join(folder, f"{name}{end}")
             with open(path, "w", encoding="utf-8") as file:
                 file.write(text.format(library=library))
             self.expect_bad(f"{library}, {name}", self.room.export(library, path), message)
-        with open("/dev/full", "wb") as full:
-            ran = self.room.export(library, good, out=full)
-            self.expect_bad(f"{library}, a full disk", ran, "No space left|ENOSPC")
         number = len(texts) + 1
         if library == "commander":
             return number
@@ -403,7 +403,7 @@ class Trial:
             with open(kept, encoding="utf-8") as file:
                 if file.read() != "kept" or ran.status != 1:
                     self.differ(f"{library}, --out: status {ran.status}, or {name} changed a file")
-        ran = run([PYTHON, *module, good])
+        ran = run([PYTHON, *module, os.path.join(HERE, f"app_{library}.py")])
         with open(kept, encoding="utf-8") as file:
             if ran.status or ran.out or json.load(file)["name"] != f"app_{library}":
                 self.differ(f"{library}, --out: wrote no tree file")

@@ -387,7 +387,8 @@ public final class GenerateTree implements Callable<Integer> {
             Class<?>[] types = arg.auxiliaryTypes();
             Class<?> type = arg.typeInfo().isMultiValue() ? types[types.length - 1] : arg.type();
             made.put("value_hint", File.class.isAssignableFrom(type) || Path.class.isAssignableFrom(type) ? "AnyPath"
-                    : InetAddress.class.isAssignableFrom(type) ? "Hostname" : null);
+                    : InetAddress.class.isAssignableFrom(type) ? "Hostname"
+                    : type.isPrimitive() || Number.class.isAssignableFrom(type) ? "Other" : null);
             return made;
         }
 

@@ -210,7 +210,7 @@ def _hint(action: argparse.Action, completer: Any, name: str) -> Optional[str]:
     marks = str(getattr(action, "complete", ""))
     if kind == "DirectoriesCompleter" or "dirs" in marks or "_files -/" in marks:
         return "DirPath"
-    if kind == "SuppressCompleter":
+    if kind == "SuppressCompleter" or action.type in (int, float):
         return "Other"
     if isinstance(action.type, argparse.FileType) or kind == "FilesCompleter" or "_files" in marks:
         return "FilePath"

@@ -160,7 +160,7 @@ class _Exporter:
                 self.unasked += 1
         elif isinstance(param.type, click.Choice):
             made["possible_values"] = [{"name": str(getattr(it, "name", it))} for it in param.type.choices]
-        else:
+        elif not param.metavar or param.type is not click.STRING:  # the name of a text may tell more
             made["value_hint"] = _hint(param.type)
         return made
 
