@@ -23,7 +23,6 @@ pub mod PowershellSearch
 pub mod PowershellSigns
 pub mod PowershellWords
 pub mod SafeNames
-pub mod Stopped
 pub mod WithinQuotes
 pub mod WordReading
 mod ZshExamples

@@ -1,6 +1,6 @@
 use Rattle.std.proofs.Common.{◌≡◌, ℕ, List, ◌++◌, refl}
 use Rattle.cc_base.proofs.WrittenTexts.{writes_same, writes_then}
-use Rattle.cc_quote.proofs.Stopped.{put_stopped, stops_before, writes_three}
+use Rattle.cc_base.proofs.Stopped.{put_stopped, stops_before, writes_three}
 use Rattle.cc_registrations.specs.BashRegistration.{fixed_texts, registration_front}
 use Rattle.cc_registrations.specs.Names.{underscored}
 use Rattle.cc_registrations.specs.declared.bash.TheConstants.{CALL_BEGINS, FUNCTION_BEGINS, FUNCTION_HEAD}

@@ -1,6 +1,6 @@
 use Rattle.std.proofs.Common.{◌≡◌, ℕ, List, ◌++◌, refl}
 use Rattle.cc_base.proofs.WrittenTexts.{writes_same, writes_then}
-use Rattle.cc_quote.proofs.Stopped.{put_stopped, stops_before, writes_three}
+use Rattle.cc_base.proofs.Stopped.{put_stopped, stops_before, writes_three}
 use Rattle.cc_registrations.specs.BashRegistration.{call_ends, fixed_texts, sorted_call}
 use Rattle.cc_registrations.specs.Names.{underscored}
 use Rattle.cc_registrations.specs.declared.bash.TheConstants.{NAME_ENDS, OTHERWISE}

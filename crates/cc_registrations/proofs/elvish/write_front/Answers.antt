@@ -1,6 +1,6 @@
 use Rattle.std.proofs.Common.{◌≡◌, ℕ, List, ◌++◌, refl}
 use Rattle.cc_base.proofs.WrittenTexts.{writes_same, writes_then}
-use Rattle.cc_quote.proofs.Stopped.{as_stopped, stops_before, writes_three}
+use Rattle.cc_base.proofs.Stopped.{as_stopped, stops_before, writes_three}
 use Rattle.cc_quote.specs.PosixQuote.{posix_quoted}
 use Rattle.cc_registrations.specs.ElvishRegistration.{fixed_texts, registration_front}
 use Rattle.cc_registrations.specs.declared.elvish.TheConstants.{FUNCTION_HEAD, REGISTRATION_BEGINS, SHELL_SET}

@@ -1,6 +1,6 @@
 use Rattle.std.proofs.Common.{◌≡◌, ℕ, List, ◌++◌, refl}
 use Rattle.cc_base.proofs.WrittenTexts.{writes_same, writes_then}
-use Rattle.cc_quote.proofs.Stopped.{as_stopped, stops_before}
+use Rattle.cc_base.proofs.Stopped.{as_stopped, stops_before}
 use Rattle.cc_quote.specs.FishQuote.{fish_quoted_for_eval}
 use Rattle.cc_registrations.specs.FishRegistration.{fish_registration, fixed_texts, registration_front}
 use Rattle.cc_registrations.specs.declared.fish.TheConstants.{REGISTRATION_ENDS}

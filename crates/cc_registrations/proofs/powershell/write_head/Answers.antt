@@ -1,6 +1,6 @@
 use Rattle.std.proofs.Common.{◌≡◌, ℕ, List, ◌++◌, refl}
 use Rattle.cc_base.proofs.WrittenTexts.{writes_same, writes_then}
-use Rattle.cc_quote.proofs.Stopped.{as_stopped, stops_before, writes_two}
+use Rattle.cc_base.proofs.Stopped.{as_stopped, stops_before, writes_two}
 use Rattle.cc_quote.specs.PosixQuote.{posix_quoted}
 use Rattle.cc_registrations.specs.PowershellRegistration.{fixed_texts, registration_head}
 use Rattle.cc_registrations.specs.declared.powershell.TheConstants.{ENVIRONMENT, REGISTRATION_BEGINS, SCRIPT_HEAD}

@@ -1,7 +1,7 @@
 use Rattle.std.proofs.Common.{◌≡◌, ℕ, List, ◌++◌, codes, map, refl}
 use Rattle.cc_base.proofs.WrittenTexts.{writes_same, writes_then}
 use Rattle.cc_base.specs.Joined.{joined}
-use Rattle.cc_quote.proofs.Stopped.{as_stopped, stops_before, writes_two}
+use Rattle.cc_base.proofs.Stopped.{as_stopped, stops_before, writes_two}
 use Rattle.cc_registrations.specs.Names.{elvish_quoted, identifier}
 use Rattle.cc_registrations.specs.SafeElvish.{fixed_texts, registration_front}
 use Rattle.cc_registrations.specs.declared.safe_elvish.TheConstants.{CALL_BEGINS, FUNCTION_HEAD, NAMES_BEGIN}

@@ -1,6 +1,6 @@
 use Rattle.std.proofs.Common.{◌≡◌, ℕ, List, ◌++◌, map, refl}
 use Rattle.cc_base.proofs.WrittenTexts.{writes_same, writes_then}
-use Rattle.cc_quote.proofs.Stopped.{as_stopped, stops_before}
+use Rattle.cc_base.proofs.Stopped.{as_stopped, stops_before}
 use Rattle.cc_registrations.specs.Names.{elvish_quoted}
 use Rattle.cc_registrations.specs.SafeElvish.{fixed_texts, registration_front, safe_elvish}
 use Rattle.cc_registrations.specs.declared.safe_elvish.TheConstants.{CALL_ENDS}

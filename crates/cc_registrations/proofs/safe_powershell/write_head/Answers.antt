@@ -1,7 +1,7 @@
 use Rattle.std.proofs.Common.{◌≡◌, ℕ, List, ◌++◌, codes, map, refl}
 use Rattle.cc_base.proofs.WrittenTexts.{writes_same, writes_then}
 use Rattle.cc_base.specs.Joined.{joined}
-use Rattle.cc_quote.proofs.Stopped.{as_stopped, stops_before}
+use Rattle.cc_base.proofs.Stopped.{as_stopped, stops_before}
 use Rattle.cc_registrations.specs.Names.{powershell_quoted}
 use Rattle.cc_registrations.specs.SafePowershell.{fixed_texts, registration_head}
 use Rattle.cc_registrations.specs.declared.safe_powershell.TheConstants.{NAMES_BEGIN, SCRIPT_HEAD}

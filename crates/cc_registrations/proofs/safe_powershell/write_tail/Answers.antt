@@ -1,6 +1,6 @@
 use Rattle.std.proofs.Common.{◌≡◌, ℕ, List, ◌++◌, refl}
 use Rattle.cc_base.proofs.WrittenTexts.{writes_same, writes_then}
-use Rattle.cc_quote.proofs.Stopped.{as_stopped, stops_before}
+use Rattle.cc_base.proofs.Stopped.{as_stopped, stops_before}
 use Rattle.cc_registrations.specs.Names.{identifier}
 use Rattle.cc_registrations.specs.SafePowershell.{fixed_texts, registration_tail}
 use Rattle.cc_registrations.specs.declared.safe_powershell.TheConstants.{CALL_ENDS, SCRIPT_ENDS}

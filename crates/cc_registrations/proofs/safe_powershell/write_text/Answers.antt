@@ -1,6 +1,6 @@
 use Rattle.std.proofs.Common.{◌≡◌, ℕ, List, ◌++◌, map, refl}
 use Rattle.cc_base.proofs.WrittenTexts.{writes_same, writes_then}
-use Rattle.cc_quote.proofs.Stopped.{as_stopped, stops_before}
+use Rattle.cc_base.proofs.Stopped.{as_stopped, stops_before}
 use Rattle.cc_registrations.specs.Names.{powershell_quoted}
 use Rattle.cc_registrations.specs.SafePowershell.{call, registration_head, registration_tail, safe_powershell}
 use Rattle.cc_registrations.proofs.safe_powershell.write_text.Goals as goal

@@ -1,6 +1,6 @@
 use Rattle.std.proofs.Common.{◌≡◌, ℕ, List, ◌++◌, ap₂, refl}
 use Rattle.cc_base.proofs.WrittenTexts.{writes_same, writes_then}
-use Rattle.cc_quote.proofs.Stopped.{as_stopped, stops_before, writes_two}
+use Rattle.cc_base.proofs.Stopped.{as_stopped, stops_before, writes_two}
 use Rattle.cc_registrations.specs.Names.{identifier}
 use Rattle.cc_registrations.specs.SafeText.{function_front}
 use Rattle.cc_registrations.specs.declared.safe_text.SafeFrame.{SafeFrame}

@@ -1,6 +1,6 @@
 use Rattle.std.proofs.Common.{◌≡◌, ℕ, List, ◌++◌, refl}
 use Rattle.cc_base.proofs.WrittenTexts.{writes_same, writes_then}
-use Rattle.cc_quote.proofs.Stopped.{as_stopped, stops_before}
+use Rattle.cc_base.proofs.Stopped.{as_stopped, stops_before}
 use Rattle.cc_quote.specs.PosixQuote.{posix_quoted}
 use Rattle.cc_registrations.specs.ZshRegistration.{fixed_texts, registration_head}
 use Rattle.cc_registrations.specs.declared.zsh.TheConstants.{FUNCTION_BEGINS, REGISTRATION_BEGINS}

@@ -1,6 +1,6 @@
 use Rattle.std.proofs.Common.{◌≡◌, ◌∙◌, ℕ, List, ap, filter, flat_map, refl, sym, true}
 use Rattle.cc_candidates.specs.declared.candidate.CompletionCandidate.{CompletionCandidate}
-use Rattle.cc_quote.proofs.Stopped.{put_stopped, stops_at}
+use Rattle.cc_base.proofs.Stopped.{put_stopped, stops_at}
 use Rattle.cc_replies.proofs.reply_lines.put_each.Goals as goal
 
 pub returns-in_err-put_line : goal.returns-in_err-put_line

@@ -1,5 +1,5 @@
 use Rattle.cc_base.proofs.WrittenTexts.{writes_then}
-use Rattle.cc_quote.proofs.Stopped.{put_stopped, stops_before}
+use Rattle.cc_base.proofs.Stopped.{put_stopped, stops_before}
 use Rattle.cc_replies.proofs.bash_list.BashList.put_described.Goals as goal
 
 pub returns-in_err-put_padded : goal.returns-in_err-put_padded

@@ -1,6 +1,6 @@
 use Rattle.std.proofs.Common.{ap, replicate}
 use Rattle.cc_base.proofs.WrittenTexts.{writes_same, writes_then}
-use Rattle.cc_quote.proofs.Stopped.{put_stopped, stops_before}
+use Rattle.cc_base.proofs.Stopped.{put_stopped, stops_before}
 use Rattle.cc_replies.specs.BashList.{space}
 use Rattle.cc_replies.proofs.bash_list.BashList.put_padded.Goals as goal
 
