@@ -81,28 +81,10 @@ impl<R: Files + Input, D: Folder> SystemLines<'_, R, D> {
 
     // Returns the names of the hosts in the files of the system and of the user.
     fn hosts(&self, alloc: Global) -> Result<Vec<u8>, AllocError> {
-        let mut hosts = self.table_hosts(alloc)?;
-        self.push_known(alloc, &mut hosts)?;
-        self.push_configured(alloc, &mut hosts)?;
-        Ok(hosts)
-    }
-
-    // Returns the names of the hosts in the table of the system.
-    fn table_hosts(&self, alloc: Global) -> Result<Vec<u8>, AllocError> {
         let table = self.contents(alloc, "/etc/hosts")?;
-        hosts_of_table(alloc, table.as_slice())
-    }
-
-    // Adds the names of the hosts that ssh knows.
-    fn push_known(&self, alloc: Global, hosts: &mut Vec<u8>) -> Result<(), AllocError> {
         let known = self.lines_of_file(alloc, "~/.ssh/known_hosts")?;
-        hosts.append(&mut hosts_known(alloc, known.as_slice())?)
-    }
-
-    // Adds the names of the hosts in the configuration of ssh.
-    fn push_configured(&self, alloc: Global, hosts: &mut Vec<u8>) -> Result<(), AllocError> {
         let config = self.lines_of_file(alloc, "~/.ssh/config")?;
-        hosts.append(&mut hosts_of_config(alloc, config.as_slice())?)
+        hosts_of_files(alloc, table.as_slice(), known.as_slice(), config.as_slice())
     }
 
     // Returns the names of the executable files in the directories of `PATH`, in their order.
@@ -110,37 +92,22 @@ impl<R: Files + Input, D: Folder> SystemLines<'_, R, D> {
         let mut commands = Vec::new(alloc);
         let path = self.env.get("PATH").unwrap_or("");
         for folder in path_folders(alloc, path)? {
-            self.push_commands(alloc, folder, &mut commands)?;
+            let names = self.executables(alloc, folder)?;
+            push_lines(&mut commands, command_names(alloc, names.as_slice()))?;
         }
         Ok(commands)
-    }
-
-    // Adds the names of the executable files in a directory.
-    fn push_commands(
-        &self,
-        alloc: Global,
-        folder: &str,
-        commands: &mut Vec<u8>,
-    ) -> Result<(), AllocError> {
-        let names = self.executables(alloc, folder)?;
-        commands.append(&mut command_names(alloc, names.as_slice())?)
     }
 
     // Returns the names of the executable files in a directory.
     fn executables(&self, alloc: Global, folder: &str) -> Result<Vec<String>, AllocError> {
         let mut found = Vec::new(alloc);
         for name in self.names(alloc, folder)? {
-            if self.is_executable(alloc, folder, name.as_str())? {
+            let path = join(alloc, folder, name.as_str())?;
+            if self.folder.is_executable(path.as_str()) {
                 found.push(name)?;
             }
         }
         Ok(found)
-    }
-
-    // Returns whether a directory has an executable file of this name.
-    fn is_executable(&self, alloc: Global, folder: &str, name: &str) -> Result<bool, AllocError> {
-        let path = join(alloc, folder, name)?;
-        Ok(self.folder.is_executable(path.as_str()))
     }
 
     // Returns the names in a directory; none if it cannot be read.
@@ -164,6 +131,25 @@ impl<R: Files + Input, D: Folder> SystemLines<'_, R, D> {
             Err(_) => Ok(Vec::new(alloc)),
         }
     }
+}
+
+// Returns the names of the hosts in the table of the system, those that ssh knows, and those in its
+// configuration.
+fn hosts_of_files(
+    alloc: Global,
+    table: &[u8],
+    known: &[u8],
+    config: &[u8],
+) -> Result<Vec<u8>, AllocError> {
+    let mut hosts = hosts_of_table(alloc, table)?;
+    push_lines(&mut hosts, hosts_known(alloc, known))?;
+    push_lines(&mut hosts, hosts_of_config(alloc, config))?;
+    Ok(hosts)
+}
+
+// Adds more lines, if they could be made.
+fn push_lines(lines: &mut Vec<u8>, more: Result<Vec<u8>, AllocError>) -> Result<(), AllocError> {
+    lines.append(&mut more?)
 }
 
 // Returns the lines of a source, up to the limit. After an error, what was read before it counts.
