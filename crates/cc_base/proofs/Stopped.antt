@@ -1,19 +1,21 @@
 -- Writes that stop: after an error the sink holds a beginning of the whole text.
-use Rattle.std.proofs.Common.{◌≡◌, ◌≤◌, ◌<◌, ◌+◌, ◌∙◌, ℕ, List, ◌∷◌, ◌++◌, append_assoc, true, Result, Ok, Err, ap, arith, drop, get_or, length, subst, sym}
+use Rattle.std.proofs.Common.{◌≡◌, ◌≤◌, ◌<◌, ◌+◌, ◌∙◌, ℕ, List, ◌∷◌, ◌++◌, ◌||◌, Bool, append_assoc, true, Result, Ok, Err, ap, arith, drop, get_or, length, subst, sym}
 use Rattle.std.specs.Result.{IsErrAnd}
 use Rattle.std.specs.declared.io.ErrorKind.{ErrorKind}
 use Rattle.cc_base.specs.declared.error.Error.{Error}
 use Rattle.cc_base.specs.declared.error.Error.TheVariants.{Write}
 use Rattle.cc_base.specs.declared.failures.Failures.{Failures}
+use Rattle.cc_base.specs.Joined.{has_texts, joined_after}
 use Rattle.cc_base.specs.Partly.{partly}
 use Rattle.cc_base.specs.Writes.{Writes, CountsWrite, as_write}
+use Rattle.cc_base.proofs.JoinedTexts.{joined_append}
 use Rattle.cc_base.proofs.Lists.{one_more}
 use Rattle.cc_base.proofs.WrittenTexts.{GoesOn, in_loops, in_steps, writes_same, writes_then}
 
-part_first : (old new a b : List ℕ) → partly new old a ≡ true → partly new old (a ++ b) ≡ true
+pub part_first : (old new a b : List ℕ) → partly new old a ≡ true → partly new old (a ++ b) ≡ true
 part_first old new a b p = grind (arith, in_loops)
 
-part_within : (old mid new all a b : List ℕ) → length old ≤ length mid →
+pub part_within : (old mid new all a b : List ℕ) → length old ≤ length mid →
     mid ++ (a ++ b) ≡ old ++ all → partly new mid a ≡ true → partly new old all ≡ true
 part_within old mid new all a b least whole p = grind (arith, in_steps)
 

@@ -6,7 +6,7 @@ use Rattle.cc_base.specs.Joined.{has_texts}
 use Rattle.cc_base.specs.Writes.{Writes}
 use Rattle.cc_base.specs.declared.error.Error.{Error}
 use Rattle.cc_base.specs.declared.failures.Failures.{Failures}
-use Rattle.cc_generator.proofs.Stopped.{stops_joined}
+use Rattle.cc_base.proofs.Stopped.{stops_joined}
 use Rattle.cc_bash.specs.Words.{words_after}
 
 abbrev pub WordsGoOn : {S : Type 0} → (S → List ℕ) → (S → Failures) → S → S → Bool → Bool → List (List ℕ) → List (List ℕ) → Type 0

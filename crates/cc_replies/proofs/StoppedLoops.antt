@@ -6,7 +6,7 @@ use Rattle.cc_base.specs.declared.error.Error.{Error}
 use Rattle.cc_base.specs.declared.failures.Failures.{Failures}
 use Rattle.cc_base.specs.Joined.{joined_after, separator}
 use Rattle.cc_base.specs.Writes.{Writes}
-use Rattle.cc_quote.proofs.Stopped.{stops_within}
+use Rattle.cc_base.proofs.Stopped.{stops_within}
 
 module _ {X : Type 0} (between : List ℕ) (begun : Bool) (texts : List X → List (List ℕ)) (items : List X)
     (i : ℕ) (item : X) (one : List ℕ) where

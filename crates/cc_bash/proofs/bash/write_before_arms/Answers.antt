@@ -1,6 +1,6 @@
 use Rattle.std.proofs.Common.{◌≡◌, refl}
 use Rattle.cc_base.proofs.WrittenTexts.{writes_same, writes_then}
-use Rattle.cc_generator.proofs.Stopped.{as_stopped, stops_before}
+use Rattle.cc_base.proofs.Stopped.{as_stopped, stops_before}
 use Rattle.cc_bash.specs.Texts.{arms_begin}
 use Rattle.cc_bash.specs.declared.texts.TheConstants.{ARMS_BEGIN}
 use Rattle.cc_bash.proofs.bash.write_before_arms.Goals as goal

@@ -1,6 +1,6 @@
 use Rattle.std.proofs.Common.{◌≡◌, List, map, refl, rules}
 use Rattle.cc_base.proofs.WrittenTexts.{writes_same, writes_then}
-use Rattle.cc_generator.proofs.Stopped.{as_stopped, stops_before}
+use Rattle.cc_base.proofs.Stopped.{as_stopped, stops_before}
 use Rattle.cc_bash.specs.Labels.{Labelled}
 use Rattle.cc_bash.specs.Nodes.{labelled_of}
 use Rattle.cc_bash.proofs.WholeScript.{script_pieces}

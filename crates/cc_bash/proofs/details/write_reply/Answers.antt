@@ -1,6 +1,6 @@
 use Rattle.std.proofs.Common.{◌≡◌, refl}
 use Rattle.cc_base.proofs.WrittenTexts.{writes_same, writes_then}
-use Rattle.cc_generator.proofs.Stopped.{put_stopped, stops_before}
+use Rattle.cc_base.proofs.Stopped.{put_stopped, stops_before}
 use Rattle.cc_bash.specs.Arms.{offered_by}
 use Rattle.cc_bash.specs.Script.{offered_text, reply_text}
 use Rattle.cc_bash.specs.Texts.{reply_begins, reply_ends}

@@ -4,7 +4,7 @@ use Rattle.cc_arg.specs.Arguments.{takes_values}
 use Rattle.cc_arg.specs.ShownNames.{shown_longs, shown_shorts}
 use Rattle.cc_arg.specs.declared.parts.ArgParts.{ArgParts as Arg}
 use Rattle.cc_base.proofs.WrittenTexts.{writes_same, writes_then}
-use Rattle.cc_generator.proofs.Stopped.{put_stopped, stops_before}
+use Rattle.cc_base.proofs.Stopped.{put_stopped, stops_before}
 use Rattle.cc_fish.specs.Script.{first_long, first_short, spec_text}
 use Rattle.cc_fish.proofs.head.write_spec.Goals as goal
 

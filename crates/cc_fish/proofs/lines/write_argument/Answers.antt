@@ -1,7 +1,7 @@
 use Rattle.std.proofs.Common.{[], ◌∷◌}
 use Rattle.cc_base.specs.Bytes.{line_feed}
 use Rattle.cc_base.proofs.WrittenTexts.{writes_then}
-use Rattle.cc_generator.proofs.Stopped.{put_stopped, stops_before}
+use Rattle.cc_base.proofs.Stopped.{put_stopped, stops_before}
 use Rattle.cc_fish.specs.Script.{argument_text, names_text, values_text}
 use Rattle.cc_fish.proofs.lines.write_argument.Goals as goal
 

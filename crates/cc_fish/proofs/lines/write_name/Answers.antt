@@ -2,7 +2,7 @@ use Rattle.std.proofs.Common.{◌≡◌, ◌++◌, ◌∷◌, [], ℕ, List, ap,
 use Rattle.std.specs.Option.{option_copied}
 use Rattle.cc_base.specs.Bytes.{line_feed}
 use Rattle.cc_base.proofs.WrittenTexts.{writes_same, writes_then}
-use Rattle.cc_generator.proofs.Stopped.{put_stopped, stops_before}
+use Rattle.cc_base.proofs.Stopped.{put_stopped, stops_before}
 use Rattle.cc_fish.specs.Script.{child_text, help_text}
 use Rattle.cc_fish.proofs.lines.write_name.Goals as goal
 

@@ -1,7 +1,7 @@
 use Rattle.std.proofs.Common.{ap, flat_map}
 use Rattle.cc_arg.specs.ShownNames.{shown_longs}
 use Rattle.cc_base.proofs.WrittenTexts.{writes_same, writes_then}
-use Rattle.cc_generator.proofs.Stopped.{put_stopped, stops_before}
+use Rattle.cc_base.proofs.Stopped.{put_stopped, stops_before}
 use Rattle.cc_fish.specs.Script.{help_text, long_text, names_text}
 use Rattle.cc_fish.proofs.lines.write_names.Goals as goal
 

@@ -1,6 +1,6 @@
 use Rattle.std.proofs.Common.{flat_map, refl}
 use Rattle.cc_base.proofs.WrittenTexts.{writes_same}
-use Rattle.cc_quote.proofs.Stopped.{put_stopped, stops_at}
+use Rattle.cc_base.proofs.Stopped.{put_stopped, stops_at}
 use Rattle.cc_replies.specs.Reply.{candidate_line}
 use Rattle.cc_replies.proofs.reply.put_lines.Goals as goal
 

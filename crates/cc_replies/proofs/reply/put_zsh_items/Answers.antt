@@ -1,7 +1,7 @@
 use Rattle.std.proofs.Common.{ℕ, List, map, refl}
 use Rattle.cc_base.proofs.WrittenTexts.{writes_same, writes_then}
 use Rattle.cc_candidates.specs.declared.candidate.CompletionCandidate.{CompletionCandidate}
-use Rattle.cc_quote.proofs.Stopped.{put_stopped}
+use Rattle.cc_base.proofs.Stopped.{put_stopped}
 use Rattle.cc_replies.specs.Reply.{shown, zsh_item}
 use Rattle.cc_replies.proofs.StoppedLoops.{stops_after_separator, stops_at_separator}
 use Rattle.cc_replies.proofs.reply.put_zsh_items.Goals as goal

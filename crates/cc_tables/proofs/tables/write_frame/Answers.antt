@@ -1,5 +1,5 @@
 use Rattle.cc_base.proofs.WrittenTexts.{writes_same, writes_then}
-use Rattle.cc_generator.proofs.Stopped.{as_stopped, stops_before}
+use Rattle.cc_base.proofs.Stopped.{as_stopped, stops_before}
 use Rattle.cc_tables.proofs.tables.write_frame.Goals as goal
 
 pub returns-in_err-write_head : goal.returns-in_err-write_head

@@ -1,6 +1,6 @@
 use Rattle.std.proofs.Common.{◌≡◌, ◌∙◌, ◌++◌, ap}
 use Rattle.cc_base.proofs.WrittenTexts.{writes_same, writes_then}
-use Rattle.cc_generator.proofs.Stopped.{put_stopped, stops_before}
+use Rattle.cc_base.proofs.Stopped.{put_stopped, stops_before}
 use Rattle.cc_tables.specs.Script.{node_text, table_text}
 use Rattle.cc_tables.specs.declared.tables.Frame.{Frame}
 use Rattle.cc_tables.proofs.tables.write_table.Goals as goal

@@ -1,7 +1,7 @@
 use Rattle.std.proofs.Common.{◌≡◌, ap, flat_map, refl}
 use Rattle.cc_base.proofs.WrittenTexts.{writes_same, writes_then}
 use Rattle.cc_command.specs.declared.node.Node.{Node}
-use Rattle.cc_generator.proofs.Stopped.{put_stopped, stops_before}
+use Rattle.cc_base.proofs.Stopped.{put_stopped, stops_before}
 use Rattle.cc_zsh.specs.Nested.{below_text, block_begins, block_ends, block_text}
 use Rattle.cc_zsh.specs.Options.{argument_text, flags_text, options_text}
 use Rattle.cc_zsh.specs.Positionals.{positionals_text}

@@ -1,5 +1,5 @@
 use Rattle.cc_base.proofs.WrittenTexts.{writes_then}
-use Rattle.cc_generator.proofs.Stopped.{put_stopped, stops_before}
+use Rattle.cc_base.proofs.Stopped.{put_stopped, stops_before}
 use Rattle.cc_zsh.proofs.escaped.put_escaped_between.Goals as goal
 
 pub returns-in_err-put_piece : goal.returns-in_err-put_piece

@@ -2,7 +2,7 @@ use Rattle.cc_arg.specs.declared.names.ShownName.{ShownName}
 use Rattle.cc_arg.specs.declared.parts.ArgParts.{ArgParts as Arg}
 use Rattle.cc_base.proofs.WrittenTexts.{writes_same, writes_then}
 use Rattle.cc_command.specs.declared.node.Node.{Node}
-use Rattle.cc_generator.proofs.Stopped.{put_stopped, stops_before}
+use Rattle.cc_base.proofs.Stopped.{put_stopped, stops_before}
 use Rattle.cc_zsh.specs.Conflicts.{conflicts_of, conflicts_text}
 use Rattle.cc_zsh.specs.Options.{argument_line, help_text, line_end, name_word, repeated_text, value_sign}
 use Rattle.cc_zsh.specs.Values.{values_text}

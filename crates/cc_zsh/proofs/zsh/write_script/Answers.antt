@@ -3,7 +3,7 @@ use Rattle.cc_base.proofs.WrittenTexts.{writes_same, writes_then}
 use Rattle.cc_command.specs.Names.{full_name}
 use Rattle.cc_command.specs.Tree.{Tree}
 use Rattle.cc_generator.specs.Flat.{tree_at}
-use Rattle.cc_generator.proofs.Stopped.{as_stopped, stops_before}
+use Rattle.cc_base.proofs.Stopped.{as_stopped, stops_before}
 use Rattle.cc_zsh.specs.Nested.{root_text}
 use Rattle.cc_zsh.specs.Script.{begin_text, body_ends, end_text, functions_text, script_text}
 use Rattle.cc_zsh.specs.declared.texts.TheConstants.{BODY_ENDS}
