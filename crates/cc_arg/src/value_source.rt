@@ -38,7 +38,12 @@ fn is_program(word: &str) -> bool
 fn are_whole_words(words: &[Text]) -> bool
     ensures { result ≡ list_all is_whole_word words.now }
 {
-    words.iter().all(is_whole_word)
+    for word in words {
+        if !is_whole_word(word) {
+            return false;
+        }
+    }
+    true
 }
 
 fn is_whole_word(word: &Text) -> bool
