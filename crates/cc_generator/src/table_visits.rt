@@ -123,7 +123,6 @@ impl<'f, 'a, K: KeyScheme> TableVisits<'f, 'a, K> {
         };
         let command = flat.command(number);
         push_keys_below(&mut self.ready, alloc, self.keys, key.as_str(), command)?;
-        drop(key);
         push_below(&mut self.stack, alloc, flat, number, &self.ready)?;
         self.number = number;
         self.above = above;
