@@ -145,6 +145,7 @@ impl<'f, 'a, K: KeyScheme> PathSteps<'f, 'a, K> {
         if leaving {
             return Ok(Some(PathStep::Leave(visit_at(flat, above, number, key))));
         }
+        let below = items_below(alloc, flat, self.keys, number, key.as_str())?;
         let own = key.try_clone(alloc)?;
         self.stack.push(StepItem {
             above,
@@ -152,7 +153,6 @@ impl<'f, 'a, K: KeyScheme> PathSteps<'f, 'a, K> {
             key: own,
             leaving: true,
         })?;
-        let below = items_below(alloc, flat, self.keys, number, key.as_str())?;
         push_reversed(&mut self.stack, below)?;
         Ok(Some(PathStep::Enter(visit_at(flat, above, number, key))))
     }

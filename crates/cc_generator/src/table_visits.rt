@@ -87,9 +87,8 @@ impl<'f, 'a, K: KeyScheme> TableVisits<'f, 'a, K> {
         ensures { IfOk result
             (λ visits. visits ≡ table_visits (K.child_key keys.now) key.now (tree_at flat.now 0)) }
     {
-        let text = Text::copy_of(alloc, key)?;
         let mut own = Vec::new(alloc);
-        own.push(text)?;
+        own.push(Text::copy_of(alloc, key)?)?;
         let mut stack = Vec::new(alloc);
         push_below(&mut stack, alloc, flat, 0, &own)?;
         Ok(TableVisits {
