@@ -95,7 +95,6 @@ fn nodes_below<'a>(
 }
 
 // Writes the script, given the label of the root and the nodes below it.
-#[tactic(auto, using(crate::proofs::FixedParts::in_script))]
 fn write_script<W: Sink>(
     alloc: Global,
     sink: &mut W,
@@ -117,7 +116,6 @@ fn write_script<W: Sink>(
 }
 
 // Writes the script up to its arms, given the label of the root and the nodes below it.
-#[tactic(auto, using(crate::proofs::FixedParts::in_script))]
 fn write_before_arms<W: Sink>(
     alloc: Global,
     sink: &mut W,

@@ -105,7 +105,6 @@ fn write_reply_with_mode<W: Sink>(sink: &mut W, argument: &Arg, word: &str) -> R
 }
 
 // Writes a reply with names of files, for which the separator of words is a line feed.
-#[tactic(auto, using(crate::proofs::FixedParts::in_replies))]
 fn write_file_reply<W: Sink>(sink: &mut W, argument: &Arg) -> Result<(), ErrorKind>
     ensures { Writes W.taken W.failed (as_write result) sink.old sink.new
         (keep_separator ++ reply_text (offered_by argument.now) ++ separator_back
@@ -116,7 +115,6 @@ fn write_file_reply<W: Sink>(sink: &mut W, argument: &Arg) -> Result<(), ErrorKi
     put_pieces(sink, &[SEPARATOR_BACK, MODE_BEGINS, "filenames", MODE_ENDS])
 }
 
-#[tactic(auto, using(crate::proofs::FixedParts::in_replies), unfolding(crate::specs::Script::reply_text))]
 fn write_reply<W: Sink>(sink: &mut W, argument: &Arg) -> Result<(), ErrorKind>
     ensures { Writes W.taken W.failed (as_write result) sink.old sink.new
         (reply_text (offered_by argument.now)) }
@@ -141,7 +139,6 @@ fn write_offered<W: Sink>(sink: &mut W, argument: &Arg) -> Result<(), ErrorKind>
     }
 }
 
-#[tactic(auto, using(crate::proofs::FixedParts::in_replies))]
 fn write_values<W: Sink>(sink: &mut W, possible: &[PossibleValue]) -> Result<(), ErrorKind>
     ensures { Writes W.taken W.failed (as_write result) sink.old sink.new
         (values_begin ++ words_text (names_of_shown possible.now) ++ values_end) }

@@ -98,10 +98,7 @@ fn write_steps<W: Sink>(
         let PathStep::Enter(visit) = step else {
             continue;
         };
-        let written = write_visit(sink, bin_name, function, &visit, &mut front);
-        // One call here, instead of a drop of each field at each exit.
-        drop(visit);
-        written?;
+        write_visit(sink, bin_name, function, &visit, &mut front)?;
     }
     Ok(())
 }
