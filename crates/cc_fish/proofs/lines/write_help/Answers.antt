@@ -1,7 +1,7 @@
 use Rattle.std.proofs.Common.{◌≡◌, ◌++◌, ℕ, List, Some, ap, codes, rules, sym}
 use Rattle.std.specs.Option.{option_copied}
 use Rattle.cc_base.proofs.WrittenTexts.{writes_same, writes_then}
-use Rattle.cc_generator.proofs.Stopped.{put_stopped, stops_before}
+use Rattle.cc_base.proofs.Stopped.{put_stopped, stops_before}
 use Rattle.cc_quote.specs.FishQuote.{fish_escaped}
 use Rattle.cc_fish.specs.Script.{help_text}
 use Rattle.cc_fish.proofs.lines.write_help.Goals as goal

@@ -1,5 +1,5 @@
 use Rattle.cc_base.proofs.WrittenTexts.{writes_then}
-use Rattle.cc_generator.proofs.Stopped.{put_stopped, stops_before}
+use Rattle.cc_base.proofs.Stopped.{put_stopped, stops_before}
 use Rattle.cc_quote.specs.FishQuote.{fish_escaped}
 use Rattle.cc_fish.specs.Script.{long_text}
 use Rattle.cc_fish.proofs.lines.write_long.Goals as goal

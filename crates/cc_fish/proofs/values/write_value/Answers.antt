@@ -4,7 +4,7 @@ use Rattle.cc_arg.specs.declared.possible_value.PossibleValue.{PossibleValue}
 use Rattle.cc_base.specs.Bytes.{line_feed}
 use Rattle.cc_base.specs.Joined.{separator}
 use Rattle.cc_base.proofs.WrittenTexts.{writes_same, writes_then}
-use Rattle.cc_generator.proofs.Stopped.{put_stopped, stops_before}
+use Rattle.cc_base.proofs.Stopped.{put_stopped, stops_before}
 use Rattle.cc_quote.specs.FishQuote.{fish_help_for_eval_of, fish_quoted_for_eval}
 use Rattle.cc_fish.specs.Script.{value_text}
 use Rattle.cc_fish.proofs.values.write_value.Goals as goal

@@ -2,7 +2,7 @@ use Rattle.std.proofs.Common.{◌≡◌, ◌∙◌, ◌++◌, [], ◌∷◌, ℕ
 use Rattle.cc_base.specs.Bytes.{line_feed}
 use Rattle.cc_base.proofs.WrittenTexts.{writes_same, writes_then}
 use Rattle.cc_command.specs.Tree.{Tree, has_nodes}
-use Rattle.cc_generator.proofs.Stopped.{as_stopped, stops_before}
+use Rattle.cc_base.proofs.Stopped.{as_stopped, stops_before}
 use Rattle.cc_zsh.specs.Nested.{arm_begins, block_text, nested_begins}
 use Rattle.cc_zsh.specs.Steps.{enter_text, nested_opens}
 use Rattle.cc_zsh.proofs.blocks.write_enter.Goals as goal

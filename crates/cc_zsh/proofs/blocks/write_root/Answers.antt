@@ -1,7 +1,7 @@
 use Rattle.std.proofs.Common.{◌≡◌, ◌∙◌, ◌++◌, ℕ, List, ap, append_assoc, refl, rules, subst, sym, true}
 use Rattle.cc_base.proofs.WrittenTexts.{writes_same, writes_then}
 use Rattle.cc_command.specs.Tree.{Tree, has_nodes}
-use Rattle.cc_generator.proofs.Stopped.{as_stopped, stops_before}
+use Rattle.cc_base.proofs.Stopped.{as_stopped, stops_before}
 use Rattle.cc_generator.specs.Flat.{tree_at}
 use Rattle.cc_zsh.specs.Nested.{arms_text, block_text, nested_begins, nested_ends, nested_text, root_text}
 use Rattle.cc_zsh.proofs.blocks.write_root.Goals as goal

@@ -1,7 +1,7 @@
 use Rattle.std.proofs.Common.{◌≡◌, ◌∙◌, ◌++◌, [], ℕ, List, ap, append_assoc, codes, rules}
 use Rattle.std.specs.Prelude.{unwrap_or}
 use Rattle.cc_base.proofs.WrittenTexts.{writes_same, writes_then}
-use Rattle.cc_generator.proofs.Stopped.{put_stopped, stops_before}
+use Rattle.cc_base.proofs.Stopped.{put_stopped, stops_before}
 use Rattle.cc_quote.specs.ZshQuote.{zsh_escaped_help}
 use Rattle.cc_zsh.specs.Functions.{entry_text}
 use Rattle.cc_zsh.proofs.functions.write_entry.Goals as goal

@@ -1,6 +1,6 @@
 use Rattle.std.proofs.Common.{◌≡◌, ◌++◌, ◌∙◌, ℕ, List, ap, append_assoc, codes}
 use Rattle.cc_base.proofs.WrittenTexts.{writes_same, writes_then}
-use Rattle.cc_generator.proofs.Stopped.{put_stopped, stops_before}
+use Rattle.cc_base.proofs.Stopped.{put_stopped, stops_before}
 use Rattle.cc_quote.specs.ElvishQuote.{elvish_escaped}
 use Rattle.cc_tables.specs.ElvishScript.{offer_row, offer_text, row_begin, row_end, row_text, text_begin}
 use Rattle.cc_tables.specs.Offers.{dashes, word}

@@ -1,6 +1,6 @@
 use Rattle.std.proofs.Common.{◌≡◌, ◌++◌, ◌∙◌, ℕ, List, Bool, ap, append_assoc, codes}
 use Rattle.cc_base.proofs.WrittenTexts.{writes_same, writes_then}
-use Rattle.cc_generator.proofs.Stopped.{put_stopped, stops_before}
+use Rattle.cc_base.proofs.Stopped.{put_stopped, stops_before}
 use Rattle.cc_tables.specs.NushellScript.{content, help_text, line_begin, line_text, offer_text, type_text}
 use Rattle.cc_tables.specs.Offers.{dashes, word}
 use Rattle.cc_tables.specs.declared.offers.Offer.{Offer}
