@@ -5,9 +5,10 @@
     tools/faults.py --gate [--at-once N]                   those of tools/faults.txt, after `rt ci`
 
 With --gate the script tries the listed faults over the libraries that the gate built, in a few minutes. `rt` would
-prove all crates below anew there, so the script calls the prover, `rattle check`, for the listed functions alone. A
-fault counts as rejected if its function has no proof for another reason than a missing name. The script prints a line
-for each fault, and counts them in the last line.
+prove all crates below anew there, so the script calls the prover, `rattle check`, for the listed functions alone. The
+prover also proves what these call in their crate, once for all checks of the crate. A fault counts as rejected if its
+function has no proof for another reason than a missing name. The script prints a line for each fault, and counts them
+in the last line.
 
 The rest of this text is about the other faults. The prover has to reject each. It proves a function against its own contract and the contracts of what it
 calls, so faults in different functions are independent. The script therefore plants as many as possible
@@ -116,6 +117,7 @@ def tried_over_libraries(crate, listed):
     with tempfile.TemporaryDirectory() as copy:
         folder = os.path.join(copy, crate)
         shutil.copytree(os.path.join(TOP, "crates", crate), folder, ignore=shutil.ignore_patterns("out"))
+        os.makedirs(os.path.join(folder, "out", "kept"))
         while left:
             together, texts = in_different_functions(folder, left)
             left = [it for it in left if it not in together]
@@ -154,7 +156,7 @@ def prover_words(crate):
     for folder in [os.path.join(kit, "rlibs"), *map(os.path.dirname, own.values())]:
         words += ["-L", f"dependency={folder}"]
     words += ["--antt-project", os.path.join(kit, "rattle", "logic", "antt-project.json")]
-    return [*words, "--logic-built", os.path.join(kit, "logic_built")]
+    return [*words, "--logic-built", os.path.join(kit, "logic_built"), "--incremental", os.path.join("out", "kept")]
 
 
 def commit():
