@@ -55,6 +55,18 @@ module _ {S : Type 0} {taken : S → List ℕ} {failed : S → Failures} {error 
       stops_within (text items) one (text (drop (i + 1) items))
       (subst P (ap text (one_more items i item item less at) ∙ opens) goes) w
 
+  -- the same for a loop over texts that it joins
+  pub stops_joined : {before mid new : S} (between : List ℕ) (begun : Bool) (all : List ℕ)
+      (left first rest : List (List ℕ)) → left ≡ first ++ rest →
+      GoesOn taken failed before mid all (joined_after between begun left) →
+      Writes taken failed (Err error) mid new (joined_after between begun first) →
+      Writes taken failed (Err error) before new all
+  stops_joined {before} {mid} {new} between begun all left first rest is goes w =
+      let P : List ℕ → Type 0 = λ text. GoesOn taken failed before mid all text in
+      stops_within all (joined_after between begun first)
+      (joined_after between (begun || has_texts first) rest)
+      (subst P (ap (joined_after between begun) is ∙ joined_append between begun first rest) goes) w
+
   -- `?` returns the error as it is
   pub as_stopped : {old new : S} {text : List ℕ} (result : Result (Unit {0}) Error) →
       IsErrAnd result (λ other. other ≡ error) →
