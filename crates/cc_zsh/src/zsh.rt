@@ -43,6 +43,7 @@ impl Generator for Zsh {
     }
 }
 
+#[tactic(auto, unfolding(crate::specs::Script::script_text, crate::specs::Script::fixed_texts))]
 fn write_script<W: Sink>(alloc: Global, sink: &mut W, flat: &Flat<'_>) -> Result<(), Error>
     requires { 0 < length flat.now }
     ensures { Writes W.taken W.failed result sink.old sink.new (zsh_script (tree_at flat.now 0)) }
