@@ -12,4 +12,5 @@ pub mod PlainNames
 pub mod ShownLemmas
 pub mod Sorted
 pub mod Stopped
+pub mod TextLoops
 pub mod WrittenTexts

@@ -11,7 +11,6 @@ pub mod PlainTable
 pub mod ReadsArms
 pub mod ReadsCases
 pub mod ReadsDetails
-pub mod TextLoops
 pub mod WholeScript
 pub mod WordsRead
 pub mod WordLoops

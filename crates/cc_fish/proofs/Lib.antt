@@ -5,4 +5,3 @@ pub mod Names
 pub mod RecordWords
 pub mod RecordsRead
 pub mod ScriptRead
-pub mod TextLoops

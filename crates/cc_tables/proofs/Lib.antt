@@ -11,4 +11,3 @@ pub mod PowershellFreeScripts
 pub mod PowershellFreeTexts
 pub mod PowershellReadsBack
 pub mod ScriptReadsBack
-pub mod TextLoops

@@ -17,5 +17,4 @@ pub mod PositionalsRead
 pub mod PreorderFunctions
 mod ReadExamples
 pub mod ReadsBack
-pub mod TextLoops
 pub mod WholeRead

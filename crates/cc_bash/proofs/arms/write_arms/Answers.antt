@@ -4,7 +4,7 @@ use Rattle.cc_base.proofs.WrittenTexts.{writes_same}
 use Rattle.cc_bash.specs.Arms.{arm_of, node_arm}
 use Rattle.cc_bash.specs.Nodes.{labelled_of}
 use Rattle.cc_bash.specs.Script.{arm_text}
-use Rattle.cc_bash.proofs.TextLoops.{goes_next}
+use Rattle.cc_base.proofs.TextLoops.{goes_next}
 use Rattle.cc_bash.proofs.arms.write_arms.Goals as goal
 
 pub loop-node-preserved : goal.loop-node-preserved

@@ -3,7 +3,7 @@ use Rattle.cc_arg.specs.Aliases.{longs_left}
 use Rattle.cc_generator.specs.ArgumentNames.{long_word}
 use Rattle.cc_bash.specs.Arms.{detail_of}
 use Rattle.cc_bash.specs.Script.{detail_text}
-use Rattle.cc_bash.proofs.TextLoops.{goes_next}
+use Rattle.cc_base.proofs.TextLoops.{goes_next}
 use Rattle.cc_bash.proofs.details.write_long_details.Goals as goal
 
 pub loop-long-preserved : goal.loop-long-preserved

@@ -5,7 +5,7 @@ use Rattle.cc_base.proofs.WrittenTexts.{writes_same}
 use Rattle.cc_generator.specs.ArgumentNames.{short_word}
 use Rattle.cc_bash.specs.Arms.{detail_of}
 use Rattle.cc_bash.specs.Script.{detail_text}
-use Rattle.cc_bash.proofs.TextLoops.{goes_next}
+use Rattle.cc_base.proofs.TextLoops.{goes_next}
 use Rattle.cc_bash.proofs.details.write_short_details.Goals as goal
 
 pub loop-short-preserved : goal.loop-short-preserved

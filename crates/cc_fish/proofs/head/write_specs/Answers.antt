@@ -2,7 +2,7 @@ use Rattle.std.proofs.Common.{◌≡◌, false, filter, flat_map, not, refl, rul
 use Rattle.cc_arg.specs.Arguments.{is_positional}
 use Rattle.cc_base.proofs.Lists.{one_more}
 use Rattle.cc_fish.specs.Script.{spec_text}
-use Rattle.cc_fish.proofs.TextLoops.{goes_next}
+use Rattle.cc_base.proofs.TextLoops.{goes_next}
 use Rattle.cc_fish.proofs.head.write_specs.Goals as goal
 
 pub loop-argument-preserved : goal.loop-argument-preserved

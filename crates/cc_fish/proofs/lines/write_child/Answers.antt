@@ -3,7 +3,7 @@ use Rattle.std.specs.Option.{option_copied}
 use Rattle.cc_base.proofs.WrittenTexts.{writes_same}
 use Rattle.cc_command.specs.Iterators.{names_left}
 use Rattle.cc_fish.specs.Script.{child_text}
-use Rattle.cc_fish.proofs.TextLoops.{goes_next}
+use Rattle.cc_base.proofs.TextLoops.{goes_next}
 use Rattle.cc_fish.proofs.lines.write_child.Goals as goal
 
 pub loop-name-preserved : goal.loop-name-preserved

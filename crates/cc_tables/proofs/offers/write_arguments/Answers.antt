@@ -2,7 +2,7 @@ use Rattle.std.proofs.Common.{◌≡◌, ◌∷◌, flat_map, rules}
 use Rattle.std.proofs.lemmas.List.Concat.{flat_map-append}
 use Rattle.cc_command.specs.Iterators.{arguments_left}
 use Rattle.cc_tables.specs.Offers.{argument_offers}
-use Rattle.cc_tables.proofs.TextLoops.{goes_next}
+use Rattle.cc_base.proofs.TextLoops.{goes_next}
 use Rattle.cc_tables.proofs.offers.write_arguments.Goals as goal
 
 pub loop-argument-preserved : goal.loop-argument-preserved

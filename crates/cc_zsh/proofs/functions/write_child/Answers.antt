@@ -1,7 +1,7 @@
 use Rattle.std.proofs.Common.{◌≡◌, ◌∷◌, flat_map, map, refl, rules}
 use Rattle.cc_command.specs.Iterators.{names_left}
 use Rattle.cc_zsh.specs.Functions.{entry, entry_text}
-use Rattle.cc_zsh.proofs.TextLoops.{goes_next}
+use Rattle.cc_base.proofs.TextLoops.{goes_next}
 use Rattle.cc_zsh.proofs.functions.write_child.Goals as goal
 
 pub loop-name-preserved : goal.loop-name-preserved

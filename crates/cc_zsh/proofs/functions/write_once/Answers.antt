@@ -4,7 +4,7 @@ use Rattle.cc_base.proofs.Lists.{one_more}
 use Rattle.cc_base.proofs.WrittenTexts.{GoesOn}
 use Rattle.cc_zsh.specs.Functions.{function_text, is_again, once_after}
 use Rattle.cc_zsh.specs.Named.{function_named}
-use Rattle.cc_zsh.proofs.TextLoops.{goes_on}
+use Rattle.cc_base.proofs.TextLoops.{goes_on}
 use Rattle.cc_zsh.proofs.functions.write_once.Goals as goal
 
 pub loop-command-preserved : goal.loop-command-preserved

@@ -1,7 +1,7 @@
 use Rattle.std.proofs.Common.{◌≡◌, ◌∷◌, flat_map, refl, rules}
 use Rattle.cc_arg.specs.ShownNames.{names_left}
 use Rattle.cc_zsh.specs.Options.{argument_line}
-use Rattle.cc_zsh.proofs.TextLoops.{goes_next}
+use Rattle.cc_base.proofs.TextLoops.{goes_next}
 use Rattle.cc_zsh.proofs.options.write_argument.Goals as goal
 
 pub loop-name-preserved : goal.loop-name-preserved

@@ -1,7 +1,7 @@
 use Rattle.std.proofs.Common.{◌≡◌, ◌∷◌, flat_map, refl, rules}
 use Rattle.cc_command.specs.Iterators.{arguments_left}
 use Rattle.cc_zsh.specs.Options.{argument_text}
-use Rattle.cc_zsh.proofs.TextLoops.{goes_next}
+use Rattle.cc_base.proofs.TextLoops.{goes_next}
 use Rattle.cc_zsh.proofs.options.write_arguments.Goals as goal
 
 pub loop-argument-preserved : goal.loop-argument-preserved
