@@ -11,4 +11,6 @@ pub mod NameBytes
 pub mod PlainNames
 pub mod ShownLemmas
 pub mod Sorted
+pub mod Stopped
+pub mod TextLoops
 pub mod WrittenTexts

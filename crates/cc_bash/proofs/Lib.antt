@@ -3,7 +3,6 @@ pub mod CaseOrder
 pub mod CaseWalk
 pub mod Clashes
 mod Examples
-pub mod FixedParts
 pub mod LabelledPath
 pub mod ListedNodes
 pub mod PlainArms
