@@ -1,4 +1,3 @@
 mod PageRead
 mod Parts
 mod Rows
-mod Stopped

@@ -1,7 +1,7 @@
 use Rattle.std.proofs.Common.{codes}
+use Rattle.cc_base.proofs.Stopped.{put_stopped, stops_before}
 use Rattle.cc_base.proofs.WrittenTexts.{writes_then}
 use Rattle.complgen_man.specs.Page.{value_list}
-use Rattle.complgen_man.proofs.Stopped.{put_stopped, stops_before}
 use Rattle.complgen_man.proofs.arguments.write_titled_values.Goals as goal
 
 pub returns-in_err-put_request : goal.returns-in_err-put_request

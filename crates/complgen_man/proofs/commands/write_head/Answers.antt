@@ -1,8 +1,8 @@
 use Rattle.std.proofs.Common.{◌++◌, ap, codes}
+use Rattle.cc_base.proofs.Stopped.{put_stopped, stops_before}
 use Rattle.cc_base.proofs.WrittenTexts.{writes_same, writes_then}
 use Rattle.complgen_man.specs.Page.{command_head, request_text, usage_text}
 use Rattle.complgen_man.specs.Roff.{escaped_word}
-use Rattle.complgen_man.proofs.Stopped.{put_stopped, stops_before}
 use Rattle.complgen_man.proofs.commands.write_head.Goals as goal
 
 pub returns-in_err-put_word_between : goal.returns-in_err-put_word_between

@@ -1,6 +1,6 @@
+use Rattle.cc_base.proofs.Stopped.{put_stopped, stops_before}
 use Rattle.cc_base.proofs.WrittenTexts.{writes_then}
 use Rattle.complgen_man.specs.Roff.{escaped_word}
-use Rattle.complgen_man.proofs.Stopped.{put_stopped, stops_before}
 use Rattle.complgen_man.proofs.escapes.put_word_between.Goals as goal
 
 pub returns-in_err-put_piece : goal.returns-in_err-put_piece

@@ -1,8 +1,8 @@
 use Rattle.std.proofs.Common.{codes}
+use Rattle.cc_base.proofs.Stopped.{put_stopped, stops_before}
 use Rattle.cc_base.proofs.WrittenTexts.{writes_then}
 use Rattle.complgen_man.specs.Page.{paragraph_text}
 use Rattle.complgen_man.specs.Roff.{escaped_prose}
-use Rattle.complgen_man.proofs.Stopped.{put_stopped, stops_before}
 use Rattle.complgen_man.proofs.escapes.write_paragraph.Goals as goal
 
 pub returns-in_err-put_piece : goal.returns-in_err-put_piece

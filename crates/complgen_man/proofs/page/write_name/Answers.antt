@@ -1,9 +1,9 @@
 use Rattle.std.proofs.Common.{codes}
 use Rattle.std.specs.Option.{option_copied}
+use Rattle.cc_base.proofs.Stopped.{put_stopped, stops_before}
 use Rattle.cc_base.proofs.WrittenTexts.{writes_then}
 use Rattle.complgen_man.specs.Page.{about_text, name_section}
 use Rattle.complgen_man.specs.Roff.{escaped_word}
-use Rattle.complgen_man.proofs.Stopped.{put_stopped, stops_before}
 use Rattle.complgen_man.proofs.page.write_name.Goals as goal
 
 pub returns-in_err-put_request : goal.returns-in_err-put_request

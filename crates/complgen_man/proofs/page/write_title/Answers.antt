@@ -1,8 +1,8 @@
 use Rattle.std.proofs.Common.{codes}
 use Rattle.std.specs.Option.{option_copied}
+use Rattle.cc_base.proofs.Stopped.{put_stopped, stops_before}
 use Rattle.cc_base.proofs.WrittenTexts.{writes_then}
 use Rattle.complgen_man.specs.Page.{request_text, source_text, title_text}
-use Rattle.complgen_man.proofs.Stopped.{put_stopped, stops_before}
 use Rattle.complgen_man.proofs.page.write_title.Goals as goal
 
 pub returns-in_err-put_word_between : goal.returns-in_err-put_word_between

@@ -1,7 +1,7 @@
 use Rattle.std.proofs.Common.{codes, flat_map}
+use Rattle.cc_base.proofs.Stopped.{put_stopped, stops_before}
 use Rattle.cc_base.proofs.WrittenTexts.{writes_then}
 use Rattle.complgen_man.specs.Page.{bold_text, further_bold}
-use Rattle.complgen_man.proofs.Stopped.{put_stopped, stops_before}
 use Rattle.complgen_man.proofs.usage.write_titled_aliases.Goals as goal
 
 pub returns-in_err-put_request : goal.returns-in_err-put_request
