@@ -54,6 +54,8 @@ def add_reading(made: Parser) -> None:
     add("--list", action="store_true", help="with --texts: only print the subcommands that have no help text there")
     add("--flag", default="--help", metavar="FLAG",
         help="the word that makes a program print its help text (default: --help)")
+    add("--one-hyphen", action="store_true",
+        help="read names such as -name as --name, for programs that accept both")
     add("--seconds", type=whole(1, 600), default=5, metavar="N", help="the time for each help text (default: 5)")
     add("--own-home", action="store_true", help="run programs with your home directory instead of an empty one")
 

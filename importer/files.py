@@ -18,9 +18,9 @@ TEXT_NAME = "help.txt"
 MOST_FOLDERS, MOST_LEVELS = 2000, 16
 
 
-def read_files(files: Dict[Path, str]) -> Dict[Path, HelpText]:
+def read_files(files: Dict[Path, str], one_hyphen: bool = False) -> Dict[Path, HelpText]:
     """Returns the help texts in some files. The text of a subcommand has its path."""
-    return {path: read_help(file_bytes(file), path) for path, file in files.items()}
+    return {path: read_help(file_bytes(file), path, one_hyphen) for path, file in files.items()}
 
 
 def files_at(place: str, name: str) -> Dict[Path, str]:

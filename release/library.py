@@ -9,6 +9,8 @@ from packing import copy, put, put_tar_xz, run
 
 TARGET = kit.TARGET
 ARCHIVE = "libcomplgen_c.a"
+# The exporters, apart from those in the package for Python.
+EXPORTERS = ("go/lagvtsune/cobra.go", "javascript/commander.js", "java/lagvtsune/GenerateTree.java")
 LICENCES = ("NOTICE", "LICENSE-MIT", "LICENSE-APACHE")
 # Not part of the Rust package.
 LEFT_OUT = shutil.ignore_patterns("target", "native", "Cargo.lock")
@@ -36,7 +38,10 @@ def put_library(args):
     put(root / "lib/pkgconfig/lagvtsune.pc", PKG_CONFIG.format(version=args.version))
     share = root / "share/lagvtsune"
     copy(own / "lagvtsune_posix.c", share / "lagvtsune_posix.c")
-    copy(args.source / "packages/python/lagvtsune.py", share / "lagvtsune.py")
+    for path in sorted((args.source / "packages/python/lagvtsune").glob("*.py")):
+        copy(path, share / "lagvtsune" / path.name)
+    for path in EXPORTERS:
+        copy(args.source / "packages" / path, share / "exporters" / path)
     for language in ("c", "python"):
         examples = args.source / "packages" / language / "examples"
         for path in sorted(examples.rglob("*")):

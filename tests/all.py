@@ -70,6 +70,7 @@ def listed() -> List[Test]:
         *(tested(complgen, [shell], "tests/scripts.py", "--shells", shell) for shell in SHELLS),
         tested(complgen, [], "tests/values_from.py", *only(("protocol", "random"))),
         tested(both, [], "tests/hostile.py"), tested([], [], "tests/import.py"), tested([], [], "tests/import_parsers.py"),
+        tested([], [], "tests/exporters.py"),
         refused(),
         tested([], ["bash", "zsh"], "tests/running.py"), tested(both, [], "tests/live.py"),
         tested(both, [], "tests/offered.py"), tested(complgen, needs_of_folders(), "tests/folders"),
@@ -78,7 +79,7 @@ def listed() -> List[Test]:
         tested(complgen, [], "tests/own_tree.py"),
         tested([], ["git"], "tests/first-minutes", "--without-rt"), tested([], [], "tools/documents.py"),
         tested([], [], "tools/calls.py", "--check"), tested([], [], "tools/clauses.py", "--check"),
-        tested([], [], "tools/keys.py", "--check"), tested([], [], "release/declarations.py"),
+        tested([], [], "tools/keys.py", "--check"), tested([], [], "tools/rows.py"), tested([], [], "release/declarations.py"),
         tested(complgen, ["bash", "zsh"], "tools/demo.py", "--check"),
     ]
     skipped = [

@@ -3,7 +3,7 @@
 
     tests/registrations.py [--archive FOLDER]
 
-It links the archive as a shared library, and calls that by packages/python/lagvtsune.py. For each shell it
+It links the archive as a shared library, and calls that by packages/python/lagvtsune. For each shell it
 makes the registrations of the safe set and of the original's, with plain names and with names full of signs.
 It takes the texts of the original's set from docs/TEXTS.md, and those of the safe set from the files of
 tests/registrations.d. It fills in the names as the tables of docs/TEXTS.md say. --archive names the directory

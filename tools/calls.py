@@ -12,10 +12,14 @@ The list in tools/calls.txt names the calls that users rely on. A call is a func
 its methods. The module of crates/clap_complete has to re-export the name, or the named crate has to declare
 it public. Each method has to be public in an `impl` or a trait of that type.
 
+Each call of the list that returns a `Result` has to be called by a crate that tests run, because a body that always
+fails with `Memory` meets most contracts. A call is looked for by its name.
+
 The script searches the sources, and builds nothing. With --check it prints what is missing, and the number of
 calls. The status is 0 if nothing is missing.
 """
 
+import functools
 import os
 import re
 import sys
@@ -30,6 +34,8 @@ CRATES = [
     "complgen_tree_file", "complgen_command_line", "complgen_scripts", "complgen_commands", "complgen_check",
     "complgen_plans", "complgen_c",
 ]
+# The crates that tests run: tests, programs, and the crates that only the program uses.
+RUN = ["cc_tests", "library_calls", "larder", "pantry", *(it for it in common.crate_lines() if it.startswith("complgen"))]
 LAW = {"Model", "Drop"}
 SHOWN = {"ThisError": "Error"}
 
@@ -200,6 +206,7 @@ def check():
             continue
         there = methods_of(crate, name) if methods else set()
         missing += [f"{module}: {name}::{it}" for it in methods if it not in there]
+        missing += [f"{module}: no crate that tests run calls {it}" for it in uncalled(crate, name, methods)]
     print("\n".join([*missing, f"{count} calls and types, {len(missing)} missing"]))
     return 1 if missing else 0
 
@@ -222,6 +229,29 @@ def listed():
             methods = text.split()
             if line.startswith("["):
                 module, name = line.strip("[]\n"), ""
+
+
+def uncalled(crate, name, methods):
+    """Returns those of these methods, or the function of this name, that may fail and that no test calls."""
+    if methods:
+        bodies = [body for _, _, body in implementations(crate, name)]
+        found = {it.name: it for body in bodies for it in items(body, "    ") if it.kind == "fn" and it.name in methods}
+    else:
+        item = find(crate, name)
+        found = {name: item} if item.kind == "fn" else {}
+    return [it for it, item in found.items() if may_fail(item) and not re.search(rf"\b{it}(?:::<[^>]*>)?\(", run())]
+
+
+def may_fail(item):
+    """Tells whether a function returns a `Result`."""
+    signature = "\n".join(call(item, {}, 0))
+    return bool(re.search(r"-> (?:Option<)?Result<", signature))
+
+
+@functools.lru_cache(maxsize=None)
+def run():
+    """Returns the sources of the crates that tests run, as one text."""
+    return "\n".join(line for crate in RUN for lines in sources(crate) for line in lines)
 
 
 def crate_of(module, name):

@@ -3,8 +3,14 @@
 
     tools/chain.py [--number N] [CRATE..]   the longest chain of crates, and the N (10) slowest crates and functions
     tools/chain.py --costs                  a table in Markdown: the processor minutes of a crate and those above it
+    tools/chain.py --sizes [CRATE..]        how large the files of the proofs are: by crate, by kind and by function
 
-With CRATE, only functions of these crates are listed.
+With CRATE, only functions of these crates are listed, and with --sizes only these crates.
+
+A size repeats to the byte on every machine, whatever else runs there, so it shows what a change of form gains. A
+megabyte is about a second of a check with one job, and more if a search runs. The sizes of a library are those in what
+`rt lib` built. Those of a program are of all files in `out/incremental`, where some may be of earlier versions: remove
+that directory and check the program whole. The gate leaves neither.
 
 A crate is proved after all that it uses. So on many processors the longest chain decides how long all proofs take.
 The times are those of the files that `rt` writes into crates/NAME/out as each part of a proof ends. They are right
@@ -18,6 +24,7 @@ proved anew counts once more at most. The status is 1 if no crate has such files
 import argparse
 import collections
 import glob
+import json
 import os
 import re
 import sys
@@ -38,9 +45,12 @@ Proof = collections.namedtuple("Proof", "seconds parts")
 def main():
     parser = argparse.ArgumentParser(usage=common.usage(__doc__))
     parser.add_argument("--costs", action="store_true")
+    parser.add_argument("--sizes", action="store_true")
     parser.add_argument("--number", type=int, default=10, metavar="N")
     parser.add_argument("crates", nargs="*", metavar="CRATE")
     options = parser.parse_args()
+    if options.sizes:
+        return print_sizes(options.crates or common.crate_lines(), options.number)
     below = uses()
     proofs = {crate: proof for crate, proof in ((it, proof_of(it)) for it in below) if proof}
     lacking = [it for it in below if it not in proofs]
@@ -65,11 +75,16 @@ def uses():
     return {crate: [it for it in line.partition(":")[2].split() if it in lines] for crate, line in lines.items()}
 
 
+def files_of(crate):
+    """Returns the paths of the files that `rt` keeps of a crate's proof."""
+    paths = glob.glob(os.path.join(common.TOP, "crates", crate, "out", "incremental", "*", "*"))
+    return [it for it in paths if os.path.basename(it) != LAST_USED]
+
+
 def proof_of(crate):
     """Returns the proof of a crate, or None if `rt` keeps none."""
     out = os.path.join(common.TOP, "crates", crate, "out")
-    paths = glob.glob(os.path.join(out, "incremental", "*", "*"))
-    paths = [it for it in paths if os.path.basename(it) != LAST_USED]
+    paths = files_of(crate)
     if not paths:
         return None
     stamp = os.path.join(out, "rlib", "stamp")
@@ -132,6 +147,49 @@ def split(crate, name):
     if not any(re.match("[a-z_+]", it) for it in path[:end]):
         return ".".join(path), "all"
     return "::".join(path[:end]), ".".join(path[end:]) or "other"
+
+
+def sizes_of(crate):
+    """Yields the names and sizes of the checked modules of a crate: those in its library, or else those kept."""
+    index = os.path.join(common.TOP, "crates", crate, "out", "rlib", f"{crate}.rlib", "toolchain", "checked.json")
+    if os.path.exists(index):
+        with open(index, encoding="utf-8") as lines:
+            for name, _, size in map(json.loads, lines):
+                yield name, size
+    else:
+        for path in files_of(crate):
+            yield re.sub(r"\.oantt$", "", os.path.basename(path)), os.path.getsize(path)
+
+
+def print_sizes(crates, number):
+    """Prints the sizes of these crates' proofs, in MB, largest first. Returns the exit status."""
+    kinds, functions = {}, collections.defaultdict(collections.Counter)
+    for crate in crates:
+        sizes = collections.Counter()
+        for name, size in sizes_of(crate):
+            function, part = split(crate, name)
+            # Modules whose names go on with a number are pieces of one part.
+            part = part.partition("-")[0]
+            sizes[part] += size / 1e6
+            functions[crate, function][part] += size / 1e6
+        if sizes:
+            kinds[crate] = sizes
+    if not kinds:
+        return 1
+    total = sum(kinds.values(), collections.Counter())
+    print(f"{sum(total.values()):8.1f} MB together: {shown_parts(total)}")
+    for crate in sorted(kinds, key=lambda it: -sum(kinds[it].values())):
+        print(f"{sum(kinds[crate].values()):8.1f} {crate}: {shown_parts(kinds[crate])}")
+    print("\nThe largest functions, in MB, with their largest parts:")
+    for crate, function in sorted(functions, key=lambda it: -sum(functions[it].values()))[:number]:
+        parts = functions[crate, function]
+        print(f"{sum(parts.values()):8.2f} {crate} {function}: {shown_parts(parts)}")
+    return 0
+
+
+def shown_parts(sizes, most=5):
+    """Returns the largest parts with their sizes, as a text."""
+    return ", ".join(f"{part} {size:.1f}" for part, size in sizes.most_common(most))
 
 
 def print_costs(below, seconds):

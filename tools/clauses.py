@@ -36,7 +36,7 @@ NAMES = ("PROOFS", "SECURITY", "DEFINITIONS", "LIBRARY", "EXTENDING", "TREE_FILE
 PAGES = [os.path.join("docs", f"{it}.md") for it in NAMES] + ["README.md"]
 # Tests, their trees and callers that show how contracts are used.
 NO_LIBRARY = {
-    "cc_caller", "cc_core_tests", "cc_fixtures", "cc_library_tests", "complgen_cases",
+    "cc_caller", "cc_tests", "complgen_cases",
 }
 DEFINED = re.compile(r"^(?:(?:pub|abbrev|unfoldable|data|record) +)+(\w+)\b", re.MULTILINE)
 

@@ -2,8 +2,15 @@
 """Tries the planted faults that the gate leaves out: crates/NAME/more-faults/*.edit.
 
     tools/faults.py [--alone] [--at-once N] [CRATE..]      without a name: every crate that has some
+    tools/faults.py --gate [--at-once N]                   those of tools/faults.txt, after `rt ci`
 
-The prover has to reject each. It proves a function against its own contract and the contracts of what it
+With --gate the script tries the listed faults over the libraries that the gate built, in a few minutes. `rt` would
+prove all crates below anew there, so the script calls the prover, `rattle check`, for the listed functions alone. The
+prover also proves what these call in their crate, once for all checks of the crate. A fault counts as rejected if its
+function has no proof for another reason than a missing name. The script prints a line for each fault, and counts them
+in the last line.
+
+The rest of this text is about the other faults. The prover has to reject each. It proves a function against its own contract and the contracts of what it
 calls, so faults in different functions are independent. The script therefore plants as many as possible
 at once, in a copy of the repository. One check of these functions then shows which have no proof, or a
 proof with an error. Such a fault counts as rejected, if the crate is proved without any fault. The others
@@ -41,6 +48,9 @@ TOP = common.TOP
 
 Fault = collections.namedtuple("Fault", "name path texts functions")
 
+# A fault of tools/faults.txt, and the path of the function that the prover must reject.
+Listed = collections.namedtuple("Listed", "fault function")
+
 # The processor time of the commands that a thread ran for its crate, in seconds.
 SPENT = threading.local()
 
@@ -49,12 +59,15 @@ MISSING = r"has no field|is not in scope|has no `|was not admitted"
 
 
 def main():
-    parser = argparse.ArgumentParser(usage="tools/faults.py [--alone] [--at-once N] [CRATE..]")
+    parser = argparse.ArgumentParser(usage="tools/faults.py [--gate] [--alone] [--at-once N] [CRATE..]")
+    parser.add_argument("--gate", action="store_true")
     parser.add_argument("--alone", action="store_true")
     parser.add_argument("--at-once", type=int, default=1, metavar="N")
     parser.add_argument("crates", nargs="*", metavar="CRATE")
     options = parser.parse_args()
     print(f"commit {commit()}", flush=True)
+    if options.gate:
+        return tried_after_gate(options.at_once)
     left = queue.SimpleQueue()
     for crate in options.crates or with_faults():
         left.put(crate)
@@ -62,10 +75,88 @@ def main():
     with concurrent.futures.ThreadPoolExecutor(options.at_once) as workers:
         for done in [workers.submit(tried_crates, left, options.alone) for _ in range(options.at_once)]:
             totals.update(done.result())
-    used = resource.getrusage(resource.RUSAGE_CHILDREN)
-    minutes = (used.ru_utime + used.ru_stime) / 60
-    print(f"{totals['tried']} faults, {totals['rejected']} rejected, {minutes:.1f} processor minutes")
+    print(f"{totals['tried']} faults, {totals['rejected']} rejected, {processor_minutes():.1f} processor minutes")
     return 0 if totals["tried"] == totals["rejected"] else 1
+
+
+def processor_minutes():
+    """Returns the processor time of all commands that this script ran."""
+    used = resource.getrusage(resource.RUSAGE_CHILDREN)
+    return (used.ru_utime + used.ru_stime) / 60
+
+
+def tried_after_gate(at_once):
+    """Tries the listed faults, and prints a line for each and their counts. Returns the exit status."""
+    listed = listed_faults()
+    with concurrent.futures.ThreadPoolExecutor(at_once) as workers:
+        tries = [workers.submit(tried_over_libraries, crate, listed[crate]) for crate in listed]
+        rejected = sum(done.result() for done in tries)
+    total = sum(map(len, listed.values()))
+    print(f"{processor_minutes():.1f} processor minutes")
+    print(f"{rejected} passed, {total - rejected} failed")
+    return 0 if rejected == total else 1
+
+
+def listed_faults():
+    """Returns the faults of tools/faults.txt by crate."""
+    listed = collections.defaultdict(list)
+    with open(os.path.join(TOP, "tools", "faults.txt"), encoding="utf-8") as lines:
+        for line in lines:
+            if not line.startswith("#"):
+                crate, name, function = line.split()
+                folder = os.path.join(TOP, "crates", crate)
+                fault = read_fault(folder, os.path.join(folder, "more-faults", f"{name}.edit"))
+                listed[crate].append(Listed(fault, function))
+    return listed
+
+
+def tried_over_libraries(crate, listed):
+    """Tries listed faults of a crate, as many together as there are different functions. Returns how many the prover
+    rejects."""
+    rejected, left = 0, listed
+    with tempfile.TemporaryDirectory() as copy:
+        folder = os.path.join(copy, crate)
+        shutil.copytree(os.path.join(TOP, "crates", crate), folder, ignore=shutil.ignore_patterns("out"))
+        os.makedirs(os.path.join(folder, "out", "kept"))
+        while left:
+            together, texts = in_different_functions(folder, left)
+            left = [it for it in left if it not in together]
+            only = [word for it in together for word in ("--only", it.function)]
+            told = told_with(folder, texts, [*prover_words(crate), *only])
+            for it in together:
+                place = it.function.replace("::", "/")
+                is_refused = is_rejected(told, re.escape(f"{crate}::{it.function}"), rf"\./proofs/{place}/\w+")
+                print(f"{crate}/{it.fault.name}: {'rejected' if is_refused else 'NOT REJECTED'}, {it.function}", flush=True)
+                if not is_refused:
+                    print(told[-2000:], flush=True)
+                rejected += is_refused
+    return rejected
+
+
+def in_different_functions(folder, listed):
+    """Returns listed faults of different functions, which can be planted together, and the files with them."""
+    taken, texts = [], {}
+    for it in listed:
+        if it.function not in [other.function for other in taken]:
+            changed = with_fault(folder, it.fault, texts)
+            if changed:
+                taken.append(it)
+                texts.update(changed)
+    return taken, texts
+
+
+def prover_words(crate):
+    """Returns the command that checks a crate, in its directory, over the libraries that the gate built."""
+    page = subprocess.run(["rt", "doc"], stdout=subprocess.PIPE, text=True, check=True).stdout.strip()
+    kit = os.path.dirname(page)
+    own = {name: os.path.join(TOP, "crates", name, "out", "rlib", f"{name}.rlib") for name in common.crate_lines()}
+    words = [os.path.join(kit, "bin", "rattle"), "check", "--crate-name", crate, "src/lib.rt", "--jobs", "1"]
+    for name in ["std", *common.crate_lines()[crate].partition(":")[2].split()]:
+        words += ["--extern", f"{name}={own.get(name) or os.path.join(kit, 'rlibs', f'{name}.rlib')}"]
+    for folder in [os.path.join(kit, "rlibs"), *map(os.path.dirname, own.values())]:
+        words += ["-L", f"dependency={folder}"]
+    words += ["--antt-project", os.path.join(kit, "rattle", "logic", "antt-project.json")]
+    return [*words, "--logic-built", os.path.join(kit, "logic_built"), "--incremental", os.path.join("out", "kept")]
 
 
 def commit():
@@ -200,12 +291,17 @@ def read(path):
 
 def check_with(folder, texts, only=()):
     """Checks the crate, or these functions, with these texts instead of its files. Returns the output."""
-    whole = {file: read(os.path.join(folder, file)) for file in texts}
-    write_all(folder, texts)
     begin_anew(folder)
     words = [word for function in only for word in ("--only", function)]
     # Over kept work, each of several jobs would read all of it again, for a few functions.
-    printed = printed_by(["rt", "check", "--jobs", "1", *words], folder)
+    return told_with(folder, texts, ["rt", "check", "--jobs", "1", *words])
+
+
+def told_with(folder, texts, words):
+    """Runs a command in a crate's directory with these texts instead of its files. Returns the output."""
+    whole = {file: read(os.path.join(folder, file)) for file in texts}
+    write_all(folder, texts)
+    printed = printed_by(words, folder)
     write_all(folder, whole)
     return printed
 
@@ -224,7 +320,7 @@ def printed_by(words, folder):
         printed = command.stdout.read()
         _, status, used = os.wait4(command.pid, 0)
         command.returncode = os.waitstatus_to_exitcode(status)
-    SPENT.seconds += used.ru_utime + used.ru_stime
+    SPENT.seconds = getattr(SPENT, "seconds", 0) + used.ru_utime + used.ru_stime
     return printed
 
 

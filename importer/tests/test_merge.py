@@ -5,6 +5,9 @@ import unittest
 from importer.merge import merged
 
 V = {"id": "v", "short": "v"}
+# An option with a value, and what may be said of its values.
+O = {"id": "o", "long": "out"}
+AB, URL = {"possible_values": [{"name": "a"}, {"name": "b"}]}, {"value_hint": "Url"}
 # What the old command says, what the new one says, and both together.
 ROWS = (
     ({"name": "a"}, {"name": "b"}, {"name": "a"}),
@@ -26,6 +29,34 @@ ROWS = (
     ({"args": [V]}, {"args": [{**V, "global": True}]}, {"args": [{**V, "global": True}]}),
     ({"args": [{**V, "global": False}]}, {"args": [{**V, "global": True}]}, {"args": [{**V, "global": False}]}),
     ({"args": [V]}, {"args": [{**V, "global": "yes"}]}, {"args": [V]}),
+    # Values and hints, for an old argument that has none and takes some.
+    ({"args": [O]}, {"args": [{**O, **AB}]}, {"args": [{**O, **AB}]}),
+    ({"args": [O]}, {"args": [{**O, **URL}]}, {"args": [{**O, **URL}]}),
+    ({"args": [{**O, "value_hint": "Other"}]}, {"args": [{**O, **AB}]}, {"args": [{**O, "value_hint": "Other", **AB}]}),
+    ({"args": [{**O, **URL}]}, {"args": [{**O, **AB}]}, {"args": [{**O, **URL}]}),
+    ({"args": [{**O, "value_hint": "Other"}]}, {"args": [{**O, **URL}]}, {"args": [{**O, "value_hint": "Other"}]}),
+    ({"args": [{**O, "values_from": ["x"]}]}, {"args": [{**O, **AB}]}, {"args": [{**O, "values_from": ["x"]}]}),
+    ({"args": [{**O, "values_file": "x"}]}, {"args": [{**O, **URL}]}, {"args": [{**O, "values_file": "x"}]}),
+    ({"args": [{**O, "possible_values": []}]}, {"args": [{**O, **AB}]}, {"args": [{**O, "possible_values": []}]}),
+    ({"args": [{**O, "action": "SetTrue"}]}, {"args": [{**O, **AB}]}, {"args": [{**O, "action": "SetTrue"}]}),
+    # Positionals by their id, or else by their place.
+    ({"args": [{"id": "p"}]}, {"args": [{"id": "FILE", **URL}]}, {"args": [{"id": "p", **URL}]}),
+    ({"args": [O, {"id": "p"}, {"id": "q"}]}, {"args": [{"id": "P", **AB}, O, {"id": "Q", **URL}]},
+     {"args": [O, {"id": "p", **AB}, {"id": "q", **URL}]}),
+    ({"args": [{"id": "p"}, {"id": "q"}]}, {"args": [{"id": "q", **URL}]}, {"args": [{"id": "p"}, {"id": "q", **URL}]}),
+    ({"args": [{"id": "p"}]}, {"args": [{"id": "P"}, {"id": "Q"}]}, {"args": [{"id": "p"}, {"id": "Q"}]}),
+    ({"args": [{"id": "p", "num_args": [0, None]}]}, {"args": [{"id": "P"}, {"id": "Q"}]},
+     {"args": [{"id": "p", "num_args": [0, None]}]}),
+    ({"args": [{"id": "o"}, O]}, {"args": [O, {"id": "P", **URL}]}, {"args": [{"id": "o", **URL}, O]}),
+    # Options that are global in one of the trees, and are in each command of the other.
+    ({"args": [O], "subcommands": [{"name": "s", "args": [O]}]},
+     {"args": [{**O, **AB, "global": True}], "subcommands": [{"name": "s"}]},
+     {"args": [{**O, **AB}], "subcommands": [{"name": "s", "args": [{**O, **AB}]}]}),
+    ({"subcommands": [{"name": "s", "args": [O]}]}, {"args": [{**O, **AB, "global": True}], "subcommands": [{"name": "s"}]},
+     {"subcommands": [{"name": "s", "args": [{**O, **AB}]}], "args": [{**O, **AB}]}),
+    ({"args": [{**O, "global": True}], "subcommands": [{"name": "s"}]},
+     {"args": [O], "subcommands": [{"name": "s", "args": [O, V]}, {"name": "t", "args": [O, V]}]},
+     {"args": [{**O, "global": True}], "subcommands": [{"name": "s", "args": [V]}, {"name": "t", "args": [V]}]}),
     # Subcommands by name or alias, at any depth.
     ({"subcommands": [{"name": "x"}]}, {"subcommands": [{"name": "y"}]}, {"subcommands": [{"name": "x"}, {"name": "y"}]}),
     ({"subcommands": [{"name": "x", "aliases": ["y"]}]}, {"subcommands": [{"name": "y", "args": [V]}]},

@@ -16,7 +16,7 @@ use Rattle.cc_command.specs.Plain.{is_plain_tree}
 use Rattle.cc_base.specs.PlainName.{is_plain_name}
 use Rattle.cc_command.specs.Tree.{Tree, Forest, none, more, join}
 use Rattle.cc_command.proofs.BuiltAgain.{built_tree-again}
-use Rattle.cc_generator.proofs.Stopped.{part_later}
+use Rattle.cc_base.proofs.WrittenTexts.{part_later}
 use Rattle.cc_engine.specs.Completion.{Completes, Refuses, words_before}
 use Rattle.cc_gather.specs.Values.{MayReturn}
 use Rattle.cc_walk.specs.Visible.{HasNoHiddenAlias, visible_end, has_no_hidden_alias, shows}

@@ -48,7 +48,9 @@ impl<'a> Iterator for ShortAndVisibleAliases<'a> {
         if let Some(short) = self.short.take() {
             return Some(short);
         }
-        let (first, others) = self.visible_aliases.split_first()?;
+        let [first, others @ ..] = self.visible_aliases else {
+            return None;
+        };
         self.visible_aliases = others;
         Some(*first)
     }
@@ -97,7 +99,9 @@ impl<'a> Iterator for LongAndVisibleAliases<'a> {
         if let Some(long) = self.long.take() {
             return Some(long);
         }
-        let (first, others) = self.visible_aliases.split_first()?;
+        let [first, others @ ..] = self.visible_aliases else {
+            return None;
+        };
         self.visible_aliases = others;
         Some(first.as_str())
     }

@@ -1,7 +1,7 @@
 //! An argument, with its builders and getters.
 
 ghost use Rattle.std.specs.Prelude.{◌≡◌, [], ◌∷◌, ◌++◌, Some, None, Option, unwrap_or};
-ghost use Rattle.std.specs.Prelude.{IfOk, IfErr};
+ghost use Rattle.std.specs.Prelude.{IfOk, IfErr, is_ok};
 ghost use Rattle.std.specs.Option.{option_map, option_copied};
 ghost use Rattle.std.specs.String.{string_bytes};
 ghost use Rattle.cc_arg.specs.Aliases.{shorts_left, longs_left};
@@ -10,12 +10,12 @@ ghost use Rattle.cc_arg.specs.Arguments.{takes_values, filled, possible_values};
 
 use crate::action::ArgAction;
 use crate::aliases::{LongAndVisibleAliases, ShortAndVisibleAliases};
-use crate::parts::{ArgParts, text_of};
+use crate::parts::{ArgParts, items_of, set_text, text_of};
 use crate::possible_value::PossibleValue;
 use crate::range::ValueRange;
 use crate::value_hint::ValueHint;
 use cc_base::{ArgValueCandidates, ArgValueCompleter, Error, Items, Text};
-use std::alloc::{AllocError, Global};
+use std::alloc::{AllocError, AllocFailed, Global};
 use std::marker::Model;
 
 /// An argument of a command. If it has neither a short nor a long, it is a positional. Otherwise it
@@ -89,7 +89,7 @@ impl Arg {
         ensures memory { IfErr result (λ error. error ≡ Error.Memory) }
     {
         let added = self.parts.visible_short_aliases.push(alias);
-        Ok(added.map(|()| self)?)
+        if_added(added, self)
     }
 
     /// Returns the visible aliases of the short.
@@ -121,7 +121,7 @@ impl Arg {
         ensures memory { IfErr result (λ error. error ≡ Error.Memory) }
     {
         let added = self.parts.short_aliases.push(alias);
-        Ok(added.map(|()| self)?)
+        if_added(added, self)
     }
 
     /// Returns the hidden aliases of the short, which a parser accepts.
@@ -135,7 +135,7 @@ impl Arg {
     pub fn long(mut self, long: String) -> Arg
         ensures { result ≡ record self { long = Some (string_bytes long) } }
     {
-        self.parts.long = Some(Text::from(long));
+        set_text(&mut self.parts.long, long);
         self
     }
 
@@ -157,7 +157,7 @@ impl Arg {
         ensures memory { IfErr result (λ error. error ≡ Error.Memory) }
     {
         let added = self.parts.visible_aliases.push(Text::from(alias));
-        Ok(added.map(|()| self)?)
+        if_added(added, self)
     }
 
     /// Returns the visible aliases of the long.
@@ -189,7 +189,7 @@ impl Arg {
         ensures memory { IfErr result (λ error. error ≡ Error.Memory) }
     {
         let added = self.parts.aliases.push(Text::from(alias));
-        Ok(added.map(|()| self)?)
+        if_added(added, self)
     }
 
     /// Returns the hidden aliases of the long, which a parser accepts.
@@ -203,7 +203,7 @@ impl Arg {
     pub fn help(mut self, help: String) -> Arg
         ensures { result ≡ record self { help = Some (string_bytes help) } }
     {
-        self.parts.help = Some(Text::from(help));
+        set_text(&mut self.parts.help, help);
         self
     }
 
@@ -218,7 +218,7 @@ impl Arg {
     pub fn help_heading(mut self, heading: String) -> Arg
         ensures { result ≡ record self { help_heading = Some (string_bytes heading) } }
     {
-        self.parts.help_heading = Some(Text::from(heading));
+        set_text(&mut self.parts.help_heading, heading);
         self
     }
 
@@ -270,7 +270,7 @@ impl Arg {
         ensures memory { IfErr result (λ error. error ≡ Error.Memory) }
     {
         let added = self.parts.value_names.push(Text::from(name));
-        Ok(added.map(|()| self)?)
+        if_added(added, self)
     }
 
     /// Returns the names of the values.
@@ -331,17 +331,14 @@ impl Arg {
     pub fn get_values_from(&self) -> Option<&[Text]>
         ensures { option_copied result ≡ self.now.values_from }
     {
-        self.parts
-            .values_from
-            .as_ref()
-            .map(|words| words.as_slice())
+        items_of(&self.parts.values_from)
     }
 
     /// Sets the path of the file that lists the values. Scripts do not change.
     pub fn values_file(mut self, path: String) -> Arg
         ensures { result ≡ record self { values_file = Some (string_bytes path) } }
     {
-        self.parts.values_file = Some(Text::from(path));
+        set_text(&mut self.parts.values_file, path);
         self
     }
 
@@ -357,7 +354,7 @@ impl Arg {
     pub fn values_split(mut self, separator: String) -> Arg
         ensures { result ≡ record self { values_split = Some (string_bytes separator) } }
     {
-        self.parts.values_split = Some(Text::from(separator));
+        set_text(&mut self.parts.values_split, separator);
         self
     }
 
@@ -373,7 +370,7 @@ impl Arg {
     pub fn default_value(mut self, value: String) -> Arg
         ensures { result ≡ record self { default_value = Some (string_bytes value) } }
     {
-        self.parts.default_value = Some(Text::from(value));
+        set_text(&mut self.parts.default_value, value);
         self
     }
 
@@ -388,7 +385,7 @@ impl Arg {
     pub fn value_terminator(mut self, terminator: String) -> Arg
         ensures { result ≡ record self { value_terminator = Some (string_bytes terminator) } }
     {
-        self.parts.value_terminator = Some(Text::from(terminator));
+        set_text(&mut self.parts.value_terminator, terminator);
         self
     }
 
@@ -410,7 +407,7 @@ impl Arg {
         ensures memory { IfErr result (λ error. error ≡ Error.Memory) }
     {
         let added = self.parts.conflicts.push(Text::from(id));
-        Ok(added.map(|()| self)?)
+        if_added(added, self)
     }
 
     /// Sets the index of a positional, counted from 1. Building the command keeps it.
@@ -598,6 +595,21 @@ impl Arg {
     }
 }
 
+// Returns the argument if the addition to one of its lists succeeded. Otherwise drops it.
+fn if_added<F: Drop>(added: Result<(), AllocFailed<F>>, argument: Arg) -> Result<Arg, Error>
+    ensures same { is_ok result ≡ is_ok added }
+    ensures ok { IfOk result (λ arg. arg ≡ argument) }
+    ensures memory { IfErr result (λ error. error ≡ Error.Memory) }
+{
+    match added {
+        Ok(()) => Ok(argument),
+        Err(_) => {
+            drop(argument);
+            Err(Error::Memory)
+        }
+    }
+}
+
 /// Returns the possible values, if they are set and the argument takes values.
 pub fn possible_values(argument: &Arg) -> Option<&[PossibleValue]>
     ensures { option_copied result ≡ possible_values argument.now }
@@ -613,11 +625,7 @@ pub fn possible_values(argument: &Arg) -> Option<&[PossibleValue]>
 pub fn listed_values(argument: &Arg) -> Option<&[PossibleValue]>
     ensures { option_copied result ≡ argument.now.possible_values }
 {
-    argument
-        .parts
-        .possible_values
-        .as_ref()
-        .map(|values| values.as_slice())
+    items_of(&argument.parts.possible_values)
 }
 
 /// Returns the number of values in effect: the range that is set, or the one that the action and
@@ -675,7 +683,11 @@ pub fn fill_index(argument: &mut Arg, index: usize)
     ensures { argument.new ≡
         record argument.old { index = Some (unwrap_or argument.old.index index) } }
 {
-    argument.parts.index = Some(argument.parts.index.unwrap_or(index));
+    let filled = match argument.parts.index {
+        Some(given) => given,
+        None => index,
+    };
+    argument.parts.index = Some(filled);
 }
 
 /// Sets the display order to `order` if none is set, as adding an argument to a command does.
@@ -683,7 +695,11 @@ pub fn fill_display_order(argument: &mut Arg, order: usize)
     ensures { argument.new ≡
         record argument.old { display_order = Some (unwrap_or argument.old.display_order order) } }
 {
-    argument.parts.display_order = Some(argument.parts.display_order.unwrap_or(order));
+    let filled = match argument.parts.display_order {
+        Some(given) => given,
+        None => order,
+    };
+    argument.parts.display_order = Some(filled);
 }
 
 /// Sets the list of candidates for the values, as `Arg::add_candidates` does.

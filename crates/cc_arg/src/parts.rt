@@ -1,6 +1,7 @@
 //! The fields of an argument.
 
-ghost use Rattle.std.specs.Prelude.{◌≡◌, IfOk, OnOk};
+ghost use Rattle.std.specs.Prelude.{◌≡◌, Some, IfOk, OnOk};
+ghost use Rattle.std.specs.String.{string_bytes};
 ghost use Rattle.std.specs.Option.{option_copied};
 ghost use Rattle.cc_arg.specs.Arguments.{new_arg};
 
@@ -170,8 +171,14 @@ impl ArgParts {
         ensures { IfOk result (λ copy. copy ≡ self.now) }
     {
         let mut copy = ArgParts::new(alloc, self.id.try_clone(alloc)?);
-        copy_fields(alloc, &mut copy, self)?;
-        Ok(copy)
+        match copy_fields(alloc, &mut copy, self) {
+            Ok(()) => Ok(copy),
+            Err(error) => {
+                // One call here, instead of a drop of each field.
+                drop(copy);
+                Err(error)
+            }
+        }
     }
 }
 
@@ -196,9 +203,23 @@ fn copy_of_words(
     }
 }
 
+// Sets the text of a field.
+pub(crate) fn set_text(field: &mut Option<Text>, text: String)
+    ensures { field.new ≡ Some (string_bytes text) }
+{
+    *field = Some(Text::from(text));
+}
+
 // Returns the text of a field, if it is set.
 pub(crate) fn text_of(field: &Option<Text>) -> Option<&str>
     ensures { option_copied result ≡ field.now }
 {
-    field.as_ref().map(|text| text.as_str())
+    field.as_ref().map(Text::as_str)
+}
+
+// Returns the items of a field, if it is set.
+pub(crate) fn items_of<T>(field: &Option<Items<T>>) -> Option<&[T]>
+    ensures { option_copied result ≡ field.now }
+{
+    field.as_ref().map(Items::as_slice)
 }

@@ -5,6 +5,7 @@ ghost use Rattle.std.specs.Option.{option_copied};
 ghost use Rattle.std.specs.String.{string_bytes};
 ghost use Rattle.cc_arg.specs.PossibleValues.{new_possible_value};
 
+use crate::parts::{set_text, text_of};
 use cc_base::{Items, Text};
 use std::alloc::{AllocError, Global};
 
@@ -32,7 +33,7 @@ impl PossibleValue {
     pub fn help(mut self, help: String) -> PossibleValue
         ensures { result ≡ record self { help = Some (string_bytes help) } }
     {
-        self.help = Some(Text::from(help));
+        set_text(&mut self.help, help);
         self
     }
 
@@ -55,7 +56,7 @@ impl PossibleValue {
     pub fn get_help(&self) -> Option<&str>
         ensures { option_copied result ≡ self.now.help }
     {
-        self.help.as_ref().map(|help| help.as_str())
+        text_of(&self.help)
     }
 
     /// Returns whether the value is hidden.

@@ -28,12 +28,10 @@ fn write_name<W: fmt::Write>(argument: &Arg, f: &mut fmt::Formatter<W>) -> fmt::
         (Some (printed_name argument.now.long argument.now.short)) f.new }
 {
     if let Some(long) = argument.get_long() {
-        f.write_str("--")?;
-        return f.write_str(long);
+        return write!(f, "--{long}");
     }
     if let Some(short) = argument.get_short() {
-        f.write_str("-")?;
-        return f.write_char(short);
+        return write!(f, "-{short}");
     }
     Ok(())
 }

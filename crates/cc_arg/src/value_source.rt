@@ -38,7 +38,12 @@ fn is_program(word: &str) -> bool
 fn are_whole_words(words: &[Text]) -> bool
     ensures { result ≡ list_all is_whole_word words.now }
 {
-    words.iter().all(is_whole_word)
+    for word in words {
+        if !is_whole_word(word) {
+            return false;
+        }
+    }
+    true
 }
 
 fn is_whole_word(word: &Text) -> bool
@@ -51,7 +56,12 @@ fn is_whole_word(word: &Text) -> bool
 fn has_byte(text: &[u8], byte: u8) -> bool
     ensures { result ≡ has_byte byte text.now }
 {
-    text.iter().any(|one| *one == byte)
+    for one in text {
+        if *one == byte {
+            return true;
+        }
+    }
+    false
 }
 
 /// Returns whether the values of `argument` come from a command that can run, from a file, or from

@@ -74,9 +74,18 @@ where
     ensures { Answers (parts_of C.CandidateSources (D.facts sources.now.folder.now) call.now
         sources.now) (S.gives lines.now) command (seen_answer result) }
 {
-    let asked = asked_by(alloc, &mut command, call.env, words_after(call.args))?;
-    let step = next_step(call.env, call.trusted, asked);
-    answer_step(alloc, call, command, sources, lines, &step)
+    match asked_by(alloc, &mut command, call.env, words_after(call.args)) {
+        Ok(asked) => {
+            let step = next_step(call.env, call.trusted, asked);
+            let answer = answer_step(alloc, call, command, sources, lines, &step);
+            drop(step);
+            answer
+        }
+        Err(error) => {
+            drop(command);
+            Err(error)
+        }
+    }
 }
 
 // Returns the answer over a built command, by this step.
@@ -102,7 +111,10 @@ where
                     .text(alloc, command, call.args, call.env, sources),
             )
         }
-        Step::Run(asked) => run_answer(alloc, asked),
+        Step::Run(asked) => {
+            drop(command);
+            run_answer(alloc, asked)
+        }
         Step::ReadLines(asked) => {
             text_answer(text_of_lines(alloc, call, command, sources, lines, asked))
         }
@@ -144,8 +156,13 @@ where
         sources.now) (S.gives lines.now) command (Step.ReadLines asked.now)
         (told (made_bytes result)) }
 {
-    let given = lines_of(alloc, lines, asked)?;
-    text_over(alloc, call, command, sources, asked, given.as_slice())
+    match lines_of(alloc, lines, asked) {
+        Ok(given) => text_over(alloc, call, command, sources, asked, given.as_slice()),
+        Err(error) => {
+            drop(command);
+            Err(error)
+        }
+    }
 }
 
 // Returns the text over a command in which the lines are the values of each argument whose values
@@ -165,16 +182,23 @@ where
         sources.now) asked.now lines.now command (made_bytes result) }
 {
     list_values(&mut command, asked, lines_list());
-    let given = GivenLines::new(alloc, lines, asked.get_values_split())?;
-    let completers = WithLines {
-        sources: sources.completers,
-        lines: &given,
-    };
-    let with_lines = Sources {
-        current_dir: sources.current_dir,
-        folder: sources.folder,
-        completers: &completers,
-    };
-    call.program
-        .text(alloc, command, call.args, call.env, &with_lines)
+    match GivenLines::new(alloc, lines, asked.get_values_split()) {
+        Ok(given) => {
+            let completers = WithLines {
+                sources: sources.completers,
+                lines: &given,
+            };
+            let with_lines = Sources {
+                current_dir: sources.current_dir,
+                folder: sources.folder,
+                completers: &completers,
+            };
+            call.program
+                .text(alloc, command, call.args, call.env, &with_lines)
+        }
+        Err(_) => {
+            drop(command);
+            Err(Error::Memory)
+        }
+    }
 }

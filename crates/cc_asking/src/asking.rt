@@ -55,7 +55,9 @@ pub fn wanted_command(
     ensures errors { IfErr result (Refuses command.old command.new (length words.now) index) }
 {
     let asked = asked_argument(alloc, command, words, index)?;
-    Ok(command_of(alloc, &asked)?)
+    let found = command_of(alloc, &asked);
+    drop(asked);
+    Ok(found?)
 }
 
 // Returns a copy of the words of the argument's command, if it has one.
@@ -131,6 +133,7 @@ pub(crate) fn next_step(env: &EnvValues, trusted: bool, asked: Option<Arg>) -> S
     if may_run(env, trusted) {
         step_of_mode(env.get(VALUES), asked)
     } else {
+        drop(asked);
         Step::Reply
     }
 }
@@ -142,7 +145,10 @@ fn step_of_mode(mode: Option<&str>, asked: Arg) -> Step
     match mode {
         Some("ask") => Step::Run(asked),
         Some("stdin") => Step::ReadLines(asked),
-        _ => Step::Reply,
+        _ => {
+            drop(asked);
+            Step::Reply
+        }
     }
 }
 

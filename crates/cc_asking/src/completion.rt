@@ -3,12 +3,14 @@
 ghost use Rattle.std.specs.Prelude.{◌≡◌, length, map, string_bytes, true};
 ghost use Rattle.std.specs.Prelude.{IfErr, IfOk, OnOk};
 ghost use Rattle.cc_command.specs.Built.{built_tree};
+ghost use Rattle.cc_command.specs.ValueLists.{listed_tree};
 ghost use Rattle.cc_engine.specs.Asked.{Asks};
 ghost use Rattle.cc_engine.specs.Completion.{Completes, Refuses, is_in_range};
 ghost use Rattle.cc_engine.specs.Sources.{returned_of};
 ghost use Rattle.cc_gather.specs.Finished.{Differ};
+ghost use Rattle.cc_replies.specs.GivenLines.{candidates_of_lines};
 ghost use Rattle.cc_asking.specs.Completion.{CompletesWith, LeavesListed, RefusesWith};
-ghost use Rattle.cc_asking.specs.Given.{with_lines};
+ghost use Rattle.cc_asking.specs.Given.{lines_list, with_lines};
 
 use crate::given::{WithLines, lines_list};
 use cc_arg::Arg;
@@ -18,7 +20,7 @@ use cc_command::{Command, list_values};
 use cc_engine::{Sources, asked_argument, complete_from};
 use cc_paths::Folder;
 use cc_replies::GivenLines;
-use std::alloc::Global;
+use std::alloc::{AllocError, Global};
 
 /// Returns the candidates for the word at `index`, counted from 0, of a command line of `command`,
 /// as `complete_from` does.
@@ -58,9 +60,17 @@ where
     let Some(asked) = asked_of(alloc, command, words.as_slice(), index)? else {
         return complete_from(alloc, command, words, index, sources);
     };
-    let given = GivenLines::new(alloc, lines, asked.get_values_split())?;
-    list_values(command, &asked, lines_list());
-    complete_over(alloc, command, words, index, &given, sources)
+    match list_lines(alloc, command, &asked, lines) {
+        Ok(given) => {
+            // One call here, instead of a drop of each field at each return.
+            drop(asked);
+            complete_over(alloc, command, words, index, &given, sources)
+        }
+        Err(_) => {
+            drop(asked);
+            Err(Error::Memory)
+        }
+    }
 }
 
 // Builds the command, and returns the argument that the word at `index` asks for.
@@ -80,6 +90,24 @@ fn asked_of(
 {
     command.build(alloc)?;
     asked_argument(alloc, command, words, index)
+}
+
+// Returns the candidates in the lines, and gives their list to each argument whose values come from
+// where those of `asked` come from.
+fn list_lines(
+    alloc: Global,
+    command: &mut Command,
+    asked: &Arg,
+    lines: &[u8],
+) -> Result<GivenLines, AllocError>
+    ensures given { IfOk result (λ given.
+        given.candidates ≡ candidates_of_lines asked.now.values_split lines.now) }
+    ensures listed { OnOk result (command.new ≡ listed_tree asked.now lines_list command.old) }
+    ensures untouched { IfErr result (λ _. command.new ≡ command.old) }
+{
+    let given = GivenLines::new(alloc, lines, asked.get_values_split())?;
+    list_values(command, asked, lines_list());
+    Ok(given)
 }
 
 // Returns the candidates, with those in the given lines as one list more.

@@ -58,8 +58,17 @@ where
     let Some(answer) = answer_own(alloc, completion, called, sources, lines)? else {
         return Ok(None);
     };
-    write_answer(&answer, out)?;
-    Ok(Some(answer.status()))
+    let status = answer.status();
+    match write_answer(&answer, out) {
+        Ok(()) => {
+            drop(answer);
+            Ok(Some(status))
+        }
+        Err(error) => {
+            drop(answer);
+            Err(error)
+        }
+    }
 }
 
 /// Returns the answer to the request of the environment, or `None` if it requests nothing.

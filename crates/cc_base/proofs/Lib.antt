@@ -11,4 +11,5 @@ pub mod NameBytes
 pub mod PlainNames
 pub mod ShownLemmas
 pub mod Sorted
+pub mod Stopped
 pub mod WrittenTexts

@@ -96,7 +96,7 @@ pub ruleset to_the_end = (in_loops, within_last)
 -- texts that begin with a byte
 pub ruleset after_bytes = (common_steps, partly_split, partly_self, partly_first)
 
-part_later : (old mid new a b : List ℕ) → mid ≡ old ++ a → partly new mid b ≡ true →
+pub part_later : (old mid new a b : List ℕ) → mid ≡ old ++ a → partly new mid b ≡ true →
     partly new old (a ++ b) ≡ true
 part_later old mid new a b e p = grind (arith, in_loops)
 

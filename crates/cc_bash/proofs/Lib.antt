@@ -3,7 +3,6 @@ pub mod CaseOrder
 pub mod CaseWalk
 pub mod Clashes
 mod Examples
-pub mod FixedParts
 pub mod LabelledPath
 pub mod ListedNodes
 pub mod PlainArms
@@ -12,6 +11,7 @@ pub mod PlainTable
 pub mod ReadsArms
 pub mod ReadsCases
 pub mod ReadsDetails
+pub mod TextLoops
 pub mod WholeScript
 pub mod WordsRead
 pub mod WordLoops

@@ -1,12 +1,14 @@
 -- A loop that writes words goes on: the bytes taken since it began and the remaining words are the
 -- whole, a word has been written or remains as before, and no put failed.
-use Rattle.std.proofs.Common.{◌≡◌, ◌≤◌, ◌++◌, ◌||◌, ◌∙◌, ℕ, Bool, List, Ok, Err, ap, arith, codes, length, length-append, sym}
+use Rattle.std.proofs.Common.{◌≡◌, ◌≤◌, [], ◌∷◌, ◌++◌, ◌||◌, ◌∙◌, ℕ, Bool, List, Result, Ok, Err, ap, arith, codes, length, length-append, sym}
+use Rattle.std.proofs.lemmas.List.{append-nil}
 use Rattle.cc_base.proofs.JoinedTexts.{begun_step, joined_step}
-use Rattle.cc_base.specs.Joined.{has_texts}
+use Rattle.cc_base.proofs.WrittenTexts.{writes_same}
+use Rattle.cc_base.specs.Joined.{has_texts, separator}
 use Rattle.cc_base.specs.Writes.{Writes}
 use Rattle.cc_base.specs.declared.error.Error.{Error}
 use Rattle.cc_base.specs.declared.failures.Failures.{Failures}
-use Rattle.cc_generator.proofs.Stopped.{stops_joined}
+use Rattle.cc_base.proofs.Stopped.{stops_joined}
 use Rattle.cc_bash.specs.Words.{words_after}
 
 abbrev pub WordsGoOn : {S : Type 0} → (S → List ℕ) → (S → Failures) → S → S → Bool → Bool → List (List ℕ) → List (List ℕ) → Type 0
@@ -16,6 +18,13 @@ WordsGoOn taken failed before sink started begun all rest = record {
   begun : (begun || has_texts rest) ≡ (started || has_texts all);
   failures : failed sink ≡ failed before;
 }
+
+-- a word after its separator, as one of the words
+pub word_written : {S : Type 0} {taken : S → List ℕ} {failed : S → Failures}
+    {result : Result (Unit {0}) Error} {old new : S} (begun : Bool) (word : List ℕ) →
+    Writes taken failed result old new (separator (codes " ") begun ++ word) →
+    Writes taken failed result old new (words_after begun (word ∷ []))
+word_written begun word w = writes_same _ _ (sym (append-nil (separator (codes " ") begun ++ word))) w
 
 module _ {S : Type 0} {taken : S → List ℕ} {failed : S → Failures} {before mid new : S}
     (started begun : Bool) (all left first rest : List (List ℕ)) (is : left ≡ first ++ rest)

@@ -89,20 +89,22 @@ fn write_moded<W: Sink>(sink: &mut W, argument: &Arg) -> Result<(), ErrorKind>
 {
     match argument.get_value_hint() {
         ValueHint::FilePath => write_file_reply(sink, argument),
-        ValueHint::DirPath => {
-            write_reply(sink, argument)?;
-            write_mode(sink, "plusdirs")
-        }
-        ValueHint::Other => {
-            write_reply(sink, argument)?;
-            write_mode(sink, "nospace")
-        }
+        ValueHint::DirPath => write_reply_with_mode(sink, argument, "plusdirs"),
+        ValueHint::Other => write_reply_with_mode(sink, argument, "nospace"),
         _ => write_reply(sink, argument),
     }
 }
 
+// Writes a reply, and the text that sets the mode with the given word.
+fn write_reply_with_mode<W: Sink>(sink: &mut W, argument: &Arg, word: &str) -> Result<(), ErrorKind>
+    ensures { Writes W.taken W.failed (as_write result) sink.old sink.new
+        (reply_text (offered_by argument.now) ++ (mode_begins ++ word.now ++ mode_ends)) }
+{
+    write_reply(sink, argument)?;
+    write_mode(sink, word)
+}
+
 // Writes a reply with names of files, for which the separator of words is a line feed.
-#[tactic(auto, using(crate::proofs::FixedParts::in_replies))]
 fn write_file_reply<W: Sink>(sink: &mut W, argument: &Arg) -> Result<(), ErrorKind>
     ensures { Writes W.taken W.failed (as_write result) sink.old sink.new
         (keep_separator ++ reply_text (offered_by argument.now) ++ separator_back
@@ -110,20 +112,16 @@ fn write_file_reply<W: Sink>(sink: &mut W, argument: &Arg) -> Result<(), ErrorKi
 {
     put_piece(sink, KEEP_SEPARATOR)?;
     write_reply(sink, argument)?;
-    put_piece(sink, SEPARATOR_BACK)?;
-    write_mode(sink, "filenames")?;
-    Ok(())
+    put_pieces(sink, &[SEPARATOR_BACK, MODE_BEGINS, "filenames", MODE_ENDS])
 }
 
-#[tactic(auto, using(crate::proofs::FixedParts::in_replies), unfolding(crate::specs::Script::reply_text))]
 fn write_reply<W: Sink>(sink: &mut W, argument: &Arg) -> Result<(), ErrorKind>
     ensures { Writes W.taken W.failed (as_write result) sink.old sink.new
         (reply_text (offered_by argument.now)) }
 {
     put_piece(sink, REPLY_BEGINS)?;
     write_offered(sink, argument)?;
-    put_piece(sink, REPLY_ENDS)?;
-    Ok(())
+    put_piece(sink, REPLY_ENDS)
 }
 
 #[tactic(auto, unfolding(crate::specs::Script::offered_text))]
@@ -141,7 +139,6 @@ fn write_offered<W: Sink>(sink: &mut W, argument: &Arg) -> Result<(), ErrorKind>
     }
 }
 
-#[tactic(auto, using(crate::proofs::FixedParts::in_replies))]
 fn write_values<W: Sink>(sink: &mut W, possible: &[PossibleValue]) -> Result<(), ErrorKind>
     ensures { Writes W.taken W.failed (as_write result) sink.old sink.new
         (values_begin ++ words_text (names_of_shown possible.now) ++ values_end) }

@@ -114,8 +114,17 @@ impl CompletionCandidate {
         ensures { IfOk result (λ candidate.
             candidate ≡ record self { value = prefix.now ++ self.value }) }
     {
-        self.value = concat(alloc, prefix, self.value.as_str())?;
-        Ok(self)
+        match concat(alloc, prefix, self.value.as_str()) {
+            Ok(value) => {
+                self.value = value;
+                Ok(self)
+            }
+            Err(error) => {
+                // One call here, instead of a drop of each field.
+                drop(self);
+                Err(error)
+            }
+        }
     }
 
     /// Returns the value.

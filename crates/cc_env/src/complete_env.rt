@@ -184,16 +184,40 @@ impl<'s, F: Fn(Global) -> Result<Command, Error> + Drop, E: EnvCompleter> Comple
             (option_copied current_dir.entry))) (map string_bytes args.items))
             (wanted_name (value_of self.entry.variable.now env.now)) out.old out.new result }
     {
-        let Some(name) = wanted_name(env.get(self.variable)) else {
-            return Ok(false);
-        };
-        let adapter = known_shell(alloc, &self.shells, name)?;
         let sources = Sources {
             current_dir,
             folder,
             completers,
         };
-        let text = self.make_text_of_sources(alloc, adapter, args, env, &sources)?;
+        let completed = self.complete(alloc, args, env, &sources, out);
+        // One call here, instead of a drop of each field at each return.
+        drop(self);
+        completed
+    }
+
+    // Writes a registration or a reply, as `try_complete` does.
+    fn complete<D: Folder, W: Sink>(
+        &self,
+        alloc: Global,
+        args: Vec<String>,
+        env: &EnvValues,
+        sources: &Sources<'_, D, Completers>,
+        out: &mut W,
+    ) -> Result<bool, Error>
+        requires { F.IsAlwaysCallable self.now.factory }
+        ensures { Tries W.taken W.failed E.spec self.now.shells.0.now (λ shell. MakesText
+            (λ made. F.post self.now.factory alloc made) (E.spec shell)
+            (names_of self.now.variable.now self.now.bin self.now.completer
+            (option_copied sources.now.current_dir)) env.now (Completes (returned_of
+            ⟦<Completers as CandidateSources>⟧ (D.facts sources.now.folder.now) sources.now))
+            (map string_bytes args.items))
+            (wanted_name (value_of self.now.variable.now env.now)) out.old out.new result }
+    {
+        let Some(name) = wanted_name(env.get(self.variable)) else {
+            return Ok(false);
+        };
+        let adapter = known_shell(alloc, &self.shells, name)?;
+        let text = self.make_text_of_sources(alloc, adapter, args, env, sources)?;
         put_all(out, text.as_slice())?;
         Ok(true)
     }
@@ -291,6 +315,28 @@ where
             (L.current lookup.now)) env.now (Completes (L.may_return lookup.now))
             (map string_bytes args.items))
             (wanted_name (value_of self.entry.variable.now env.now)) out.old out.new result }
+    {
+        let completed = self.complete_from(alloc, args, env, lookup, out);
+        drop(self);
+        completed
+    }
+
+    // Writes a registration or a reply, as `try_complete_from` does.
+    fn complete_from<L: Lookup, W: Sink>(
+        &self,
+        alloc: Global,
+        args: Vec<String>,
+        env: &EnvValues,
+        lookup: &L,
+        out: &mut W,
+    ) -> Result<bool, Error>
+        requires { F.IsAlwaysCallable self.now.factory }
+        ensures { Tries W.taken W.failed E.spec self.now.shells.0.now (λ shell. MakesText
+            (λ made. F.post self.now.factory alloc made) (E.spec shell)
+            (names_of self.now.variable.now self.now.bin self.now.completer
+            (L.current lookup.now)) env.now (Completes (L.may_return lookup.now))
+            (map string_bytes args.items))
+            (wanted_name (value_of self.now.variable.now env.now)) out.old out.new result }
     {
         let Some(name) = wanted_name(env.get(self.variable)) else {
             return Ok(false);

@@ -5,3 +5,4 @@ pub mod Names
 pub mod RecordWords
 pub mod RecordsRead
 pub mod ScriptRead
+pub mod TextLoops

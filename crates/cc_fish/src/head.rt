@@ -73,7 +73,6 @@ fn write_specs<W: Sink>(sink: &mut W, arguments: &[Arg]) -> Result<(), ErrorKind
     Ok(())
 }
 
-#[tactic(auto, using(cc_base::proofs::WrittenTexts::after_bytes), unfolding(crate::specs::Script::spec_text))]
 fn write_spec<W: Sink>(sink: &mut W, argument: &Arg) -> Result<(), ErrorKind>
     ensures { Writes W.taken W.failed (as_write result) sink.old sink.new (spec_text argument.now) }
 {
@@ -91,8 +90,7 @@ fn write_first_short<W: Sink>(sink: &mut W, argument: &Arg) -> Result<(), ErrorK
         return Ok(());
     };
     let mut buffer = [0; 4];
-    put_piece(sink, short.encode_utf8(&mut buffer))?;
-    put_piece(sink, slash(argument))
+    put_pieces(sink, &[short.encode_utf8(&mut buffer), slash(argument)])
 }
 
 #[tactic(auto, unfolding(cc_quote::specs::FishQuote::fish_escaped))]

@@ -16,7 +16,7 @@ ghost use Rattle.cc_fish.specs.Table.{has_positionals};
 use crate::front::set_front;
 use crate::values::write_values;
 use cc_arg::{Arg, shown_longs, shown_shorts};
-use cc_base::{Error, Sink, put_around, put_piece};
+use cc_base::{Error, Sink, put_around, put_piece, put_pieces};
 use cc_command::{Arguments, Command};
 use cc_generator::Visit;
 use cc_quote::{FishEscape, put_escaped};
@@ -40,7 +40,6 @@ pub(crate) fn write_visit<W: Sink>(
 }
 
 // Writes the records of a node. Each begins with `front`.
-#[tactic(auto, unfolding(crate::specs::Script::node_text, crate::specs::Script::options_text, crate::specs::Script::flags_text))]
 fn write_node<W: Sink>(sink: &mut W, front: &str, command: &Command) -> Result<(), ErrorKind>
     ensures { Writes W.taken W.failed (as_write result) sink.old sink.new
         (node_text front.now command.now) }
@@ -67,7 +66,6 @@ fn write_arguments<W: Sink>(
     Ok(())
 }
 
-#[tactic(auto, unfolding(crate::specs::Script::argument_text))]
 fn write_argument<W: Sink>(
     sink: &mut W,
     front: &str,
@@ -83,7 +81,6 @@ fn write_argument<W: Sink>(
     put_piece(sink, "\n")
 }
 
-#[tactic(auto, unfolding(crate::specs::Script::names_text))]
 fn write_names<W: Sink>(sink: &mut W, argument: &Arg) -> Result<(), ErrorKind>
     ensures { Writes W.taken W.failed (as_write result) sink.old sink.new
         (names_text argument.now) }
@@ -109,8 +106,7 @@ fn write_short<W: Sink>(sink: &mut W, short: char) -> Result<(), ErrorKind>
     ensures { Writes W.taken W.failed (as_write result) sink.old sink.new (short_text short) }
 {
     let mut buffer = [0; 4];
-    put_piece(sink, " -s ")?;
-    put_piece(sink, short.encode_utf8(&mut buffer))
+    put_pieces(sink, &[" -s ", short.encode_utf8(&mut buffer)])
 }
 
 #[tactic(auto, using(cc_base::proofs::WrittenTexts::in_steps))]
@@ -197,7 +193,6 @@ fn write_child<W: Sink>(
     Ok(())
 }
 
-#[tactic(auto, unfolding(crate::specs::Script::child_text))]
 fn write_name<W: Sink>(
     sink: &mut W,
     front: &str,
@@ -208,9 +203,8 @@ fn write_name<W: Sink>(
     ensures { Writes W.taken W.failed (as_write result) sink.old sink.new
         (child_text front.now no_files (option_copied about.entry) name.now) }
 {
-    put_piece(sink, front)?;
-    put_piece(sink, no_files_mark(no_files))?;
-    put_around(sink, " -a \"", name, "\"")?;
+    put_around(sink, front, no_files_mark(no_files), " -a \"")?;
+    put_pieces(sink, &[name, "\""])?;
     write_help(sink, about)?;
     put_piece(sink, "\n")
 }

@@ -10,6 +10,7 @@ ghost use Rattle.cc_gather.specs.Finished.{finish, first_of_ids, group, is_shown
 ghost use Rattle.cc_gather.specs.Ranked.{with_ranks, ranked_cmp};
 ghost use Rattle.cc_gather.specs.Seen.{ascend_from, is_seen, select};
 
+use crate::joined::push_candidate;
 use cc_base::TextRef;
 use cc_candidates::CompletionCandidate;
 use std::alloc::{AllocError, Global};
@@ -95,7 +96,12 @@ fn shown_or_all(candidates: Vec<CompletionCandidate>) -> Vec<CompletionCandidate
 fn has_shown(candidates: &[CompletionCandidate]) -> bool
     ensures { result ≡ list_any is_shown candidates.now }
 {
-    candidates.iter().any(|candidate| !candidate.is_hide_set())
+    for candidate in candidates {
+        if !candidate.is_hide_set() {
+            return true;
+        }
+    }
+    false
 }
 
 fn only_shown(mut candidates: Vec<CompletionCandidate>) -> Vec<CompletionCandidate>
@@ -139,7 +145,10 @@ fn have_ascending_ids(candidates: &[CompletionCandidate]) -> bool
 fn id_of<'a>(candidate: &'a CompletionCandidate) -> Option<TextRef<'a>>
     ensures { result ≡ candidate.now.id }
 {
-    candidate.get_id().map(TextRef::new)
+    match candidate.get_id() {
+        Some(id) => Some(TextRef::new(id)),
+        None => None,
+    }
 }
 
 // Marks each candidate whose id no earlier one has.
@@ -182,9 +191,11 @@ fn select(
     let mut kept = Vec::with_capacity(alloc, candidates.len())?;
     for (mark, candidate) in marks.into_iter().zip(candidates) {
         if !mark {
+            // One call here, instead of a drop of each field.
+            drop(candidate);
             continue;
         }
-        kept.push(candidate)?;
+        push_candidate(&mut kept, candidate)?;
     }
     Ok(kept)
 }
@@ -257,7 +268,10 @@ fn rank_for<'a>(
 fn tag_of<'a>(candidate: &'a CompletionCandidate) -> Option<TextRef<'a>>
     ensures { result ≡ candidate.now.tag }
 {
-    candidate.get_tag().map(TextRef::new)
+    match candidate.get_tag() {
+        Some(tag) => Some(TextRef::new(tag)),
+        None => None,
+    }
 }
 
 // Pairs each candidate with its rank.
@@ -280,7 +294,7 @@ fn candidates_of(alloc: Global, all: Vec<Ranked>) -> Result<Vec<CompletionCandid
 {
     let mut candidates = Vec::with_capacity(alloc, all.len())?;
     for one in all {
-        candidates.push(one.candidate)?;
+        push_candidate(&mut candidates, one.candidate)?;
     }
     Ok(candidates)
 }

@@ -14,6 +14,7 @@
 #![tactic(auto)]
 
 mod finishing;
+mod joined;
 mod negative_numbers;
 mod option_names;
 mod options;

@@ -23,7 +23,10 @@ pub(crate) fn is_number(text: &str) -> bool
 fn begins_with_digit(bytes: &[u8]) -> bool
     ensures { result ≡ begins_with_digit bytes.now }
 {
-    bytes.first().is_some_and(|byte| byte.is_ascii_digit())
+    match bytes.first() {
+        Some(byte) => byte.is_ascii_digit(),
+        None => false,
+    }
 }
 
 fn is_of_numbers(byte: u8) -> bool
@@ -35,19 +38,36 @@ fn is_of_numbers(byte: u8) -> bool
 fn are_of_numbers(bytes: &[u8]) -> bool
     ensures { result ≡ list_all is_of_numbers bytes.now }
 {
-    bytes.iter().all(|byte| is_of_numbers(*byte))
+    for byte in bytes {
+        if !is_of_numbers(*byte) {
+            return false;
+        }
+    }
+    true
 }
 
 fn has_at_most_one(bytes: &[u8], wanted: u8) -> bool
     ensures { result ≡ nat_le (count_by (λ byte. byte == wanted) bytes.now) 1 }
 {
-    bytes.iter().filter(|byte| **byte == wanted).count() <= 1
+    let mut count: usize = 0;
+    for byte in bytes {
+        if *byte != wanted {
+            continue;
+        }
+        count += 1;
+    }
+    count <= 1
 }
 
 fn has_point(bytes: &[u8]) -> bool
     ensures { result ≡ list_any is_point bytes.now }
 {
-    bytes.iter().any(|byte| *byte == b'.')
+    for byte in bytes {
+        if *byte == b'.' {
+            return true;
+        }
+    }
+    false
 }
 
 // Returns the text after the first `e`, or an empty text if no `e` occurs.

@@ -10,6 +10,7 @@ ghost use Rattle.cc_gather.specs.Options.{hidden_beginning, long_candidate, long
 ghost use Rattle.cc_gather.specs.Options.{option_candidate, short_candidate, short_candidates};
 ghost use Rattle.cc_gather.specs.Options.{short_help, shorts};
 
+use crate::joined::{concat, push_candidate};
 use cc_arg::Arg;
 use cc_base::Text;
 use cc_candidates::{CompletionCandidate, begins_with, copy_of_some};
@@ -131,8 +132,7 @@ fn push_name(
     if !begins_with(name, long) {
         return Ok(());
     }
-    found.push(long_candidate(alloc, argument, name, hidden)?)?;
-    Ok(())
+    push_candidate(found, long_candidate(alloc, argument, name, hidden)?)
 }
 
 fn long_candidate(
@@ -143,8 +143,7 @@ fn long_candidate(
 ) -> Result<CompletionCandidate, AllocError>
     ensures { IfOk result (λ candidate. candidate ≡ long_candidate argument.now hidden name.now) }
 {
-    let mut value = String::from_str(alloc, "--")?;
-    value.push_str(name)?;
+    let value = concat(alloc, "--", name)?;
     let help = copy_of_some(alloc, argument.get_help())?;
     option_candidate(alloc, argument, value, help, hidden)
 }
@@ -164,7 +163,8 @@ pub(crate) fn shorts(
     Ok(found)
 }
 
-fn push_shorts(
+// Adds those candidates.
+pub(crate) fn push_shorts(
     found: &mut Vec<CompletionCandidate>,
     alloc: Global,
     arguments: &[Arg],
@@ -191,7 +191,7 @@ fn push_own_shorts(
     let Some(short) = argument.get_short() else {
         return Ok(());
     };
-    found.push(short_candidate(alloc, argument, prefix, short)?)?;
+    push_candidate(found, short_candidate(alloc, argument, prefix, short)?)?;
     push_short_names(
         found,
         alloc,
@@ -212,7 +212,7 @@ fn push_short_names(
         ++ map (short_candidate prefix.now argument.now) names.now) }
 {
     for name in names {
-        found.push(short_candidate(alloc, argument, prefix, *name)?)?;
+        push_candidate(found, short_candidate(alloc, argument, prefix, *name)?)?;
     }
     Ok(())
 }
@@ -241,9 +241,7 @@ fn short_help(alloc: Global, argument: &Arg) -> Result<Option<String>, AllocErro
     let Some(long) = argument.get_long() else {
         return Ok(None);
     };
-    let mut help = String::from_str(alloc, "--")?;
-    help.push_str(long)?;
-    Ok(Some(help))
+    Ok(Some(concat(alloc, "--", long)?))
 }
 
 // Creates a candidate with this value and help text. Its other fields come from the argument.
@@ -257,8 +255,7 @@ pub(crate) fn option_candidate(
     ensures { IfOk result (λ candidate. candidate ≡ option_candidate argument.now
         (option_map string_bytes help) hidden (string_bytes value)) }
 {
-    let mut id = String::from_str(alloc, "arg::")?;
-    id.push_str(argument.get_id())?;
+    let id = concat(alloc, "arg::", argument.get_id())?;
     let tag = String::from_str(alloc, argument.get_help_heading().unwrap_or("Options"))?;
     Ok(
         CompletionCandidate::new(value)
@@ -274,7 +271,10 @@ pub(crate) fn option_candidate(
 pub(crate) fn with_own_long<'a>(arguments: &'a [Arg], flag: &str) -> Option<&'a Arg>
     ensures { option_copied result ≡ find (has_own_long flag.now) arguments.now }
 {
-    arguments
-        .iter()
-        .find(|argument| argument.get_long() == Some(flag))
+    for argument in arguments {
+        if argument.get_long() == Some(flag) {
+            return Some(argument);
+        }
+    }
+    None
 }

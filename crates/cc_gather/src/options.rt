@@ -7,8 +7,9 @@ ghost use Rattle.cc_gather.specs.Options.{longs, shorts};
 ghost use Rattle.cc_gather.specs.OptionMatches.{after_equals, value_query_after, flag_match, long_match, with_prefix, match_of, short_match, without_end};
 ghost use Rattle.cc_walk.specs.Words.{EndsWith};
 
+use crate::joined::{concat, push_candidate};
 use crate::negative_numbers::is_number;
-use crate::option_names::{longs, longs_beginning, shorts, with_own_long};
+use crate::option_names::{longs, longs_beginning, push_shorts, shorts, with_own_long};
 use cc_arg::Arg;
 use cc_base::{Items, Text, TextRef};
 use cc_candidates::CompletionCandidate;
@@ -77,7 +78,7 @@ pub fn all_with_prefix(
 {
     let mut found = Vec::new(alloc);
     for candidate in candidates {
-        found.push(candidate.with_prefix(alloc, before)?)?;
+        push_candidate(&mut found, candidate.with_prefix(alloc, before)?)?;
     }
     Ok(found)
 }
@@ -97,6 +98,7 @@ fn without_dash(
     Ok(Vec::new(alloc))
 }
 
+#[tactic(auto, unfolding(crate::specs::Options::shorts))]
 fn longs_then_shorts(
     alloc: Global,
     arguments: &[Arg],
@@ -105,7 +107,7 @@ fn longs_then_shorts(
         ++ shorts (codes "-") arguments.now) }
 {
     let mut found = longs(alloc, arguments)?;
-    found.append(&mut shorts(alloc, arguments, "-")?)?;
+    push_shorts(&mut found, alloc, arguments, "-")?;
     Ok(found)
 }
 
@@ -159,8 +161,7 @@ fn flag_values<'a>(
 fn flag_before(alloc: Global, flag: &str) -> Result<Text, AllocError>
     ensures { IfOk result (λ before. before ≡ codes "--" ++ flag.now ++ codes "=") }
 {
-    let mut before = String::from_str(alloc, "--")?;
-    before.push_str(flag)?;
+    let mut before = concat(alloc, "--", flag)?;
     before.push_str("=")?;
     Ok(Text::from(before))
 }

@@ -4,6 +4,7 @@ ghost use Rattle.std.specs.Prelude.{◌≡◌, filter, map, IfOk, IfErr};
 ghost use Rattle.cc_candidates.specs.Beginning.{begins};
 ghost use Rattle.cc_gather.specs.Values.{value_candidate};
 
+use crate::joined::push_candidate;
 use cc_arg::PossibleValue;
 use cc_base::Error;
 use cc_candidates::{CompletionCandidate, begins_with, copy_of_some};
@@ -50,7 +51,7 @@ fn candidates_of(
 {
     let mut found = Vec::new(alloc);
     for value in values {
-        found.push(candidate_of(alloc, value)?)?;
+        push_candidate(&mut found, candidate_of(alloc, value)?)?;
     }
     Ok(found)
 }
@@ -70,7 +71,7 @@ pub(crate) fn candidates_beginning(
         if !begins_with(value.get_name(), text) {
             continue;
         }
-        found.push(candidate_of(alloc, value)?)?;
+        push_candidate(&mut found, candidate_of(alloc, value)?)?;
     }
     Ok(found)
 }

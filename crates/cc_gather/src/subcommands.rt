@@ -5,6 +5,7 @@ ghost use Rattle.cc_candidates.specs.Beginning.{begins};
 ghost use Rattle.cc_command.specs.Tree.{forest_of};
 ghost use Rattle.cc_gather.specs.Children.{child_candidate, child_candidates, children_candidates, external, in_candidates_order, subcommand_candidates};
 
+use crate::joined::{concat, push_candidate};
 use cc_base::Text;
 use cc_candidates::{
     CompletionCandidate, begins_with, copy_of_some, retain_beginning_with, sort_candidates,
@@ -115,12 +116,11 @@ fn push_child(
     };
     push_name(found, alloc, &names, child.get_name(), word)?;
     push_names(found, alloc, &names, child.get_visible_aliases(), word)?;
-    push_names(found, alloc, &aliases, child.get_aliases(), word)?;
-    Ok(())
+    push_names(found, alloc, &aliases, child.get_aliases(), word)
 }
 
 // What the candidates for some names of a child have in common.
-#[derive(Drop)]
+#[derive(Clone, Copy)]
 struct Names<'a> {
     parent: &'a Command,
     child: &'a Command,
@@ -160,8 +160,7 @@ fn push_name(
     if !begins_with(name, word) {
         return Ok(());
     }
-    found.push(child_candidate(alloc, of, name)?)?;
-    Ok(())
+    push_candidate(found, child_candidate(alloc, of, name)?)
 }
 
 // Creates the candidate for a name.
@@ -177,12 +176,12 @@ fn child_candidate(
         .parent
         .get_subcommand_help_heading()
         .unwrap_or("Commands");
+    let value = String::from_str(alloc, name)?;
     let tag = String::from_str(alloc, heading)?;
-    let mut id = String::from_str(alloc, "command::")?;
-    id.push_str(of.child.get_name())?;
+    let id = concat(alloc, "command::", of.child.get_name())?;
     let help = copy_of_some(alloc, of.child.get_about())?;
     Ok(
-        CompletionCandidate::new(String::from_str(alloc, name)?)
+        CompletionCandidate::new(value)
             .help(help)
             .id(Some(id))
             .tag(Some(tag))

@@ -144,8 +144,14 @@ fn as_value(
     if candidate.get_tag().is_some() {
         return Ok(candidate);
     }
-    let tag = String::from_str(alloc, form)?;
-    Ok(candidate.tag(Some(tag)))
+    match String::from_str(alloc, form) {
+        Ok(tag) => Ok(candidate.tag(Some(tag))),
+        Err(error) => {
+            // One call here, instead of a drop of each field.
+            drop(candidate);
+            Err(error)
+        }
+    }
 }
 
 // Puts the earlier values of the word in front of the candidate. Usually there are none, and then

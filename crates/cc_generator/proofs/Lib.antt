@@ -10,7 +10,6 @@ mod PreorderExamples
 pub mod ReadInTurn
 pub mod SameVisits
 pub mod StepStack
-pub mod Stopped
 pub mod TableStack
 pub mod Trees
 pub mod VisitExamples

@@ -82,12 +82,9 @@ impl<R: Files + Input, D: Folder> SystemLines<'_, R, D> {
     // Returns the names of the hosts in the files of the system and of the user.
     fn hosts(&self, alloc: Global) -> Result<Vec<u8>, AllocError> {
         let table = self.contents(alloc, "/etc/hosts")?;
-        let mut hosts = hosts_of_table(alloc, table.as_slice())?;
         let known = self.lines_of_file(alloc, "~/.ssh/known_hosts")?;
-        hosts.append(&mut hosts_known(alloc, known.as_slice())?)?;
         let config = self.lines_of_file(alloc, "~/.ssh/config")?;
-        hosts.append(&mut hosts_of_config(alloc, config.as_slice())?)?;
-        Ok(hosts)
+        hosts_of_files(alloc, table.as_slice(), known.as_slice(), config.as_slice())
     }
 
     // Returns the names of the executable files in the directories of `PATH`, in their order.
@@ -96,7 +93,7 @@ impl<R: Files + Input, D: Folder> SystemLines<'_, R, D> {
         let path = self.env.get("PATH").unwrap_or("");
         for folder in path_folders(alloc, path)? {
             let names = self.executables(alloc, folder)?;
-            commands.append(&mut command_names(alloc, names.as_slice())?)?;
+            push_lines(&mut commands, command_names(alloc, names.as_slice()))?;
         }
         Ok(commands)
     }
@@ -134,6 +131,25 @@ impl<R: Files + Input, D: Folder> SystemLines<'_, R, D> {
             Err(_) => Ok(Vec::new(alloc)),
         }
     }
+}
+
+// Returns the names of the hosts in the table of the system, those that ssh knows, and those in its
+// configuration.
+fn hosts_of_files(
+    alloc: Global,
+    table: &[u8],
+    known: &[u8],
+    config: &[u8],
+) -> Result<Vec<u8>, AllocError> {
+    let mut hosts = hosts_of_table(alloc, table)?;
+    push_lines(&mut hosts, hosts_known(alloc, known))?;
+    push_lines(&mut hosts, hosts_of_config(alloc, config))?;
+    Ok(hosts)
+}
+
+// Adds more lines, if they could be made.
+fn push_lines(lines: &mut Vec<u8>, more: Result<Vec<u8>, AllocError>) -> Result<(), AllocError> {
+    lines.append(&mut more?)
 }
 
 // Returns the lines of a source, up to the limit. After an error, what was read before it counts.

@@ -10,6 +10,7 @@ ghost use Rattle.cc_parser.specs.Arguments.{parser_action, parser_range, reads_s
 use bumpalo::Bump;
 use cc_arg::{Arg, ArgAction, PossibleValue, ValueRange, conflicting_ids, possible_values};
 use cc_base::Text;
+use clap::builder::ValueParser;
 use std::alloc::{AllocError, Global};
 
 /// Converts the argument for `clap`. It is global there if `global` is true. Its lists are kept in
@@ -28,15 +29,16 @@ pub(crate) fn argument<'a>(
         (record argument.now { global = global }) (rule_of arg)) }
     ensures global { IfOk result (λ arg. arg.global ≡ global) }
 {
+    let names = stored_names(alloc, store, argument.get_value_names())?;
+    let parser = parser_of_values(alloc, store, possible_values(argument))?;
     let arg = with_settings(clap::Arg::new(alloc, argument.get_id()), argument, global);
     let arg = with_use(arg, argument);
     let arg = with_default(arg, argument.get_default_value());
     let arg = with_texts(arg, argument);
+    let arg = with_parser(arg.value_names(names), parser);
     let arg = with_shorts(arg, argument)?;
     let arg = with_longs(arg, argument)?;
-    let arg = with_conflicts(arg, conflicting_ids(argument))?;
-    let arg = with_value_names(arg, alloc, store, argument.get_value_names())?;
-    with_possible_values(arg, alloc, store, possible_values(argument))
+    with_conflicts(arg, conflicting_ids(argument))
 }
 
 // Adds the settings that change how words are read.
@@ -307,44 +309,45 @@ fn with_conflicts<'a>(arg: clap::Arg<'a>, ids: &'a [Text]) -> Result<clap::Arg<'
     Ok(arg)
 }
 
-fn with_value_names<'a>(
-    arg: clap::Arg<'a>,
+// Returns the names as a list in `store`.
+fn stored_names<'a>(
     alloc: Global,
     store: &'a Bump,
     names: &'a [Text],
-) -> Result<clap::Arg<'a>, AllocError>
-    ensures rule { IfOk result (λ arg_with. rule_of arg_with
-        ≡ record (rule_of arg.entry) { value_names = length names.now }) }
-    ensures global { IfOk result (λ arg_with. arg_with.global ≡ arg.entry.global) }
+) -> Result<&'a [&'a str], AllocError>
+    ensures { IfOk result (λ stored. length stored.now ≡ length names.now) }
 {
     let mut texts: Vec<&'a str> = Vec::new(alloc);
     for name in names {
         texts.push(name.as_str())?;
     }
-    Ok(arg.value_names(store.try_alloc_slice_copy(texts.as_slice())?))
+    Ok(store.try_alloc_slice_copy(texts.as_slice())?)
 }
 
-fn with_possible_values<'a>(
-    arg: clap::Arg<'a>,
+// Returns the parser that accepts the possible values, if there are any. They are in `store`.
+fn parser_of_values<'a>(
     alloc: Global,
     store: &'a Bump,
     possible: Option<&'a [PossibleValue]>,
-) -> Result<clap::Arg<'a>, AllocError>
-    requires { (rule_of arg).parser ≡ None }
-    ensures rule { IfOk result (λ arg_with. rule_of arg_with
-        ≡ record (rule_of arg.entry) { parser = (rule_of arg_with).parser }) }
-    ensures values { IfOk result (λ arg_with.
-        TakesPossible (option_copied possible.entry) (rule_of arg_with).parser) }
-    ensures global { IfOk result (λ arg_with. arg_with.global ≡ arg.entry.global) }
+) -> Result<Option<ValueParser<'a>>, AllocError>
+    ensures { IfOk result (λ parser. TakesPossible (option_copied possible.entry) parser) }
 {
     let Some(possible) = possible else {
-        return Ok(arg);
+        return Ok(None);
     };
     let values = values(alloc, possible)?;
-    let values: &'a [clap::builder::PossibleValue<'a>] = store.try_alloc_slice_copy(
-        values.as_slice(),
-    )?;
-    Ok(arg.value_parser(clap::builder::ValueParser::Values(values)))
+    Ok(Some(ValueParser::Values(store.try_alloc_slice_copy(values.as_slice())?)))
+}
+
+fn with_parser<'a>(arg: clap::Arg<'a>, parser: Option<ValueParser<'a>>) -> clap::Arg<'a>
+    requires { (rule_of arg).parser ≡ None }
+    ensures rule { rule_of result ≡ record (rule_of arg.entry) { parser = parser.entry } }
+    ensures global { result.global ≡ arg.entry.global }
+{
+    match parser {
+        Some(parser) => arg.value_parser(parser),
+        None => arg,
+    }
 }
 
 fn values<'a>(

@@ -10,10 +10,11 @@ ghost use Rattle.cc_command.specs.Tree.{forest_of};
 ghost use Rattle.cc_parser.specs.Local.{local_argument, local_arguments, local_forest, local_node, local_tree};
 ghost use Rattle.cc_parser.specs.Taken.{TakesOffered, fits_parser};
 ghost use Rattle.cc_parser.specs.Parsers.{AddsArguments, AddsChildren, IsAppOf, IsLeaf, any_global};
-ghost use Rattle.cc_parser.specs.Parsers.{globals_below, has_generated, has_globals, is_disabled_below};
+ghost use Rattle.cc_parser.specs.Parsers.{globals_below, has_generated, has_globals};
 ghost use Rattle.cc_parser.specs.Parsers.{is_left_out, named_app};
 
 use crate::argument::argument;
+use crate::globals::is_disabled_below;
 use bumpalo::Bump;
 use cc_arg::Arg;
 use cc_base::Text;
@@ -151,13 +152,6 @@ fn is_left_out(command: &Command, above: bool) -> bool
     command.is_generated() && !above
 }
 
-// Returns whether `clap`'s own `help` is disabled below a command with these children.
-fn is_disabled_below(above: bool, children: &[Command]) -> bool
-    ensures { result ≡ is_disabled_below above (forest_of children.now) }
-{
-    above || !has_generated(children)
-}
-
 /// Returns whether `build` added one of the children.
 pub(crate) fn has_generated(children: &[Command]) -> bool
     ensures { result ≡ has_generated (forest_of children.now) }
@@ -284,7 +278,14 @@ fn with_arguments<'a>(
     let mut parser = parser;
     for given in arguments {
         let global = is_global(given, local);
-        parser = parser.arg(argument(alloc, store, given, global)?)?;
+        match argument(alloc, store, given, global) {
+            Ok(arg) => parser = parser.arg(arg)?,
+            Err(error) => {
+                // One call here, instead of a drop of each field at each return.
+                drop(parser);
+                return Err(error);
+            }
+        }
     }
     Ok(parser)
 }
@@ -320,15 +321,27 @@ fn with_children<'a>(
         ≡ ((out-Command parser.entry).has_globals
         || globals_below above (local_forest local (forest_of children.now)))) }
 {
-    let here = is_disabled_below(above, children);
+    let here = is_disabled_below(children, above);
     let mut parser = parser;
     for child in children {
         if is_left_out(child, above) {
             continue;
         }
-        let made = alone(alloc, store, child, local)?;
-        let made = with_children(made, alloc, store, child.get_subcommands(), here, local)?;
-        parser = parser.subcommand(made)?;
+        match alone(alloc, store, child, local) {
+            Ok(made) => {
+                match with_children(made, alloc, store, child.get_subcommands(), here, local) {
+                    Ok(made) => parser = parser.subcommand(made)?,
+                    Err(error) => {
+                        drop(parser);
+                        return Err(error);
+                    }
+                }
+            }
+            Err(error) => {
+                drop(parser);
+                return Err(error);
+            }
+        }
     }
     Ok(parser)
 }

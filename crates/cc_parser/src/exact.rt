@@ -90,7 +90,12 @@ fn is_read_simply(command: &Command) -> bool
 fn read_simply(arguments: &[Arg]) -> bool
     ensures { result ≡ list_all reads_simply arguments.now }
 {
-    arguments.iter().all(reads_simply)
+    for argument in arguments {
+        if !reads_simply(argument) {
+            return false;
+        }
+    }
+    true
 }
 
 // Returns whether the argument has none of the settings that change how words are read.

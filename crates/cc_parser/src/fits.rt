@@ -29,7 +29,12 @@ pub fn fits_parser(command: &Command) -> bool
 pub(crate) fn have_index_or_name(arguments: &[Arg]) -> bool
     ensures { result ≡ list_all has_index_or_name arguments.now }
 {
-    arguments.iter().all(has_index_or_name)
+    for argument in arguments {
+        if !has_index_or_name(argument) {
+            return false;
+        }
+    }
+    true
 }
 
 fn has_index_or_name(argument: &Arg) -> bool

@@ -2,9 +2,10 @@
 
 ghost use Rattle.std.specs.Prelude.{◌≡◌, ◌||◌, not};
 ghost use Rattle.cc_command.specs.Tree.{forest_of};
-ghost use Rattle.cc_parser.specs.Parsers.{any_global, globals_below, has_generated, has_globals};
+ghost use Rattle.cc_parser.specs.Parsers.{any_global, globals_below, has_globals};
 ghost use Rattle.cc_parser.specs.Parsers.{is_disabled_below};
 
+use crate::command::has_generated;
 use cc_arg::Arg;
 use cc_command::Command;
 
@@ -41,7 +42,12 @@ fn has_globals_below(children: &[Command], above: bool) -> bool
 fn any_global(arguments: &[Arg]) -> bool
     ensures { result ≡ any_global arguments.now }
 {
-    arguments.iter().any(Arg::is_global_set)
+    for argument in arguments {
+        if argument.is_global_set() {
+            return true;
+        }
+    }
+    false
 }
 
 /// Returns whether `clap`'s own `help` is disabled below a command with these children.
@@ -49,16 +55,4 @@ pub(crate) fn is_disabled_below(children: &[Command], above: bool) -> bool
     ensures { result ≡ is_disabled_below above (forest_of children.now) }
 {
     above || !has_generated(children)
-}
-
-// Returns whether `build` added one of the children.
-fn has_generated(children: &[Command]) -> bool
-    ensures { result ≡ has_generated (forest_of children.now) }
-{
-    for child in children {
-        if child.is_generated() {
-            return true;
-        }
-    }
-    false
 }

@@ -7,10 +7,11 @@ ghost use Rattle.std.specs.String.{string_bytes};
 use crate::folder::{Folder, FolderError};
 use cc_base::Text;
 use std::alloc::Global;
+use std::fs::{self, DirEntry, ReadDir};
+use std::io;
 use std::os::unix::fs::PermissionsExt;
 use std::path::Path;
 use std::rt::Files;
-use std::{fs, io};
 
 // The bits of a file's mode that let the owner, the group or others execute it.
 const EXECUTE_BITS: u32 = 0o111;
@@ -61,18 +62,10 @@ impl<R: Files + Drop> Folder for RealFolder<R> {
     } };
 
     fn names(&self, alloc: Global, path: &str) -> Result<Vec<String>, FolderError> {
-        let entries = fs::read_dir(&(&self.files, alloc), path).map_err(|error| reason(&error))?;
-        let mut names = Vec::new(alloc);
-        for entry in entries {
-            match entry {
-                Ok(entry) => names.push(String::from_str(alloc, entry.file_name())?)?,
-                Err(error) if error.kind() == io::ErrorKind::OutOfMemory => {
-                    return Err(FolderError::Memory);
-                }
-                Err(_) => {}
-            }
+        match fs::read_dir(&(&self.files, alloc), path) {
+            Ok(entries) => names_of(alloc, entries),
+            Err(error) => Err(reason(&error)),
         }
-        Ok(names)
     }
 
     fn is_dir(&self, path: &str) -> bool {
@@ -95,6 +88,38 @@ impl<R: Files + Drop> Folder for RealFolder<R> {
 
     fn home(&self) -> Option<&str> {
         self.home.as_ref().map(|home| home.as_str())
+    }
+}
+
+// Returns the names of the entries that can be read.
+fn names_of<F: Files + Clone + Drop>(
+    alloc: Global,
+    entries: ReadDir<F>,
+) -> Result<Vec<String>, FolderError> {
+    let mut names = Vec::new(alloc);
+    for entry in entries {
+        push_name(&mut names, alloc, entry)?;
+    }
+    Ok(names)
+}
+
+// Adds the name of an entry, unless the entry cannot be read.
+fn push_name<F: Files + Drop>(
+    names: &mut Vec<String>,
+    alloc: Global,
+    entry: io::Result<DirEntry<F>>,
+) -> Result<(), FolderError> {
+    match entry {
+        Ok(entry) => {
+            let name = String::from_str(alloc, entry.file_name());
+            // One call here, instead of a drop of each field at each return.
+            drop(entry);
+            Ok(names.push(name?)?)
+        }
+        Err(error) => match reason(&error) {
+            FolderError::Memory => Err(FolderError::Memory),
+            FolderError::Unreadable => Ok(()),
+        },
     }
 }
 

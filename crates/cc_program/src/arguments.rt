@@ -19,10 +19,13 @@ pub fn arg(alloc: Global, described: &ArgDescription<'_>) -> Result<Arg, Error>
     ensures ok { IfOk result (λ arg. arg ≡ arg_of described.now) }
     ensures memory { IfErr result (λ error. error ≡ Error.Memory) }
 {
+    let long = Text::copy_of_some(alloc, described.long)?;
+    let names = value_names(alloc, described.value_name)?;
+    let values = some_values(alloc, described.values)?;
     let mut parts = said_parts(alloc, described)?;
-    parts.long = Text::copy_of_some(alloc, described.long)?;
-    parts.value_names = value_names(alloc, described.value_name)?;
-    parts.possible_values = some_values(alloc, described.values)?;
+    parts.long = long;
+    parts.value_names = names;
+    parts.possible_values = values;
     Ok(Arg::from(parts))
 }
 
@@ -31,8 +34,10 @@ fn said_parts(alloc: Global, described: &ArgDescription<'_>) -> Result<ArgParts,
     ensures ok { IfOk result (λ parts. parts ≡ said_parts described.now) }
     ensures memory { IfErr result (λ error. error ≡ Error.Memory) }
 {
-    let mut parts = ArgParts::new(alloc, Text::copy_of(alloc, described.id)?);
-    parts.help = Some(Text::copy_of(alloc, described.help)?);
+    let id = Text::copy_of(alloc, described.id)?;
+    let help = Text::copy_of(alloc, described.help)?;
+    let mut parts = ArgParts::new(alloc, id);
+    parts.help = Some(help);
     parts.short = described.short;
     parts.action = described.action;
     parts.num_args = described.num_args;

@@ -63,9 +63,28 @@ fn with_args(alloc: Global, command: Command, args: &[ArgDescription<'_>]) -> Re
 {
     let mut command = command;
     for described in args {
-        command = command.arg(arg(alloc, described)?)?;
+        command = with_described(alloc, command, described)?;
     }
     Ok(command)
+}
+
+fn with_described(
+    alloc: Global,
+    command: Command,
+    described: &ArgDescription<'_>,
+) -> Result<Command, Error>
+    ensures ok { IfOk result (λ made. made
+        ≡ record command { node = with_argument command.node (arg_of described.now) }) }
+    ensures memory { IfErr result (λ error. error ≡ Error.Memory) }
+{
+    match arg(alloc, described) {
+        Ok(arg) => command.arg(arg),
+        Err(error) => {
+            // One call here, instead of a drop of each field at each return.
+            drop(command);
+            Err(error)
+        }
+    }
 }
 
 /// Returns the command with `alias` as a further visible name.
@@ -81,7 +100,13 @@ pub fn with_alias(
     ensures { MadeWith (with_visible_alias alias.now) command result }
 {
     let command = command?;
-    command.visible_alias(String::from_str(alloc, alias)?)
+    match String::from_str(alloc, alias) {
+        Ok(alias) => command.visible_alias(alias),
+        Err(_) => {
+            drop(command);
+            Err(Error::Memory)
+        }
+    }
 }
 
 /// Returns the command with a further argument, as `Command::arg` adds it.
@@ -96,7 +121,19 @@ pub fn with_arg(
     ensures { MadeOf (λ tree arg. record tree { node = with_argument tree.node arg })
         command argument result }
 {
-    command?.arg(argument?)
+    match command {
+        Ok(command) => match argument {
+            Ok(argument) => command.arg(argument),
+            Err(error) => {
+                drop(command);
+                Err(error)
+            }
+        },
+        Err(error) => {
+            drop(argument);
+            Err(error)
+        }
+    }
 }
 
 /// Returns the command with a further child, as `Command::subcommand` adds it.
@@ -110,5 +147,17 @@ pub fn with_child(
 ) -> Result<Command, Error>
     ensures { MadeOf with_child command child result }
 {
-    command?.subcommand(child?)
+    match command {
+        Ok(command) => match child {
+            Ok(child) => command.subcommand(child),
+            Err(error) => {
+                drop(command);
+                Err(error)
+            }
+        },
+        Err(error) => {
+            drop(child);
+            Err(error)
+        }
+    }
 }

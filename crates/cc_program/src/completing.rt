@@ -70,7 +70,12 @@ where
         completers,
     };
     let completion = CompleteEnv::safe(factory);
-    answers_in(rt, rt.alloc(), &completion, &called, &sources, out)
+    let ended = answers_in(rt, rt.alloc(), &completion, &called, &sources, out);
+    // One call each, instead of a drop of each field at the end.
+    drop(completion);
+    drop(folder);
+    drop(current);
+    ended
 }
 
 // Writes the answer to a request, with lines of the system, and returns the exit status.

@@ -89,10 +89,23 @@ where
         carry_out,
     } = program;
     let out = &mut streams.out;
-    let ended = try_complete_asking(alloc, &completion, called, sources, lines, out)?;
+    let ended = match try_complete_asking(alloc, &completion, called, sources, lines, out) {
+        Ok(ended) => ended,
+        Err(error) => {
+            drop(completion);
+            return Err(Failure::Library(error));
+        }
+    };
     match ended {
-        Some(status) => Ok(ExitCode::from(status)),
-        None => parse_made(alloc, &completion, &parser, called.args, carry_out, streams),
+        Some(status) => {
+            drop(completion);
+            Ok(ExitCode::from(status))
+        }
+        None => {
+            let ended = parse_made(alloc, &completion, &parser, called.args, carry_out, streams);
+            drop(completion);
+            ended
+        }
     }
 }
 
@@ -122,6 +135,16 @@ where
         streams.old streams.new result }
 {
     let mut tree = completion.command(alloc)?;
-    tree.build(alloc)?;
-    parse_tree(alloc, parser, &tree, words, carry_out, streams)
+    match tree.build(alloc) {
+        Ok(()) => {
+            let ended = parse_tree(alloc, parser, &tree, words, carry_out, streams);
+            // One call here, instead of a drop of each field at each return.
+            drop(tree);
+            ended
+        }
+        Err(error) => {
+            drop(tree);
+            Err(Failure::Library(error))
+        }
+    }
 }

@@ -89,7 +89,11 @@ where
         parser: ClapParser,
         carry_out,
     };
-    run_here(rt, rt.alloc(), program, &called, &sources)
+    let ended = run_here(rt, rt.alloc(), program, &called, &sources);
+    // One call each, instead of a drop of each field at the end.
+    drop(folder);
+    drop(current);
+    ended
 }
 
 // Runs a program with the lines, the standard output and the standard error of the system.

@@ -1,7 +1,8 @@
 //! Escapes that work in runs: characters that need no escape are passed on unchanged, up to the
 //! next one that does.
 
-ghost use Rattle.std.specs.Prelude.{◌≡◌, ◌<◌, ◌++◌, ℕ, List, Bool, IfOk, IsSome, OnOk, MatchOption};
+ghost use Rattle.std.specs.Prelude.{◌≡◌, ◌<◌, ◌++◌, ℕ, List, Bool, codes};
+ghost use Rattle.std.specs.Prelude.{IfOk, IsSome, OnOk, MatchOption};
 ghost use Rattle.std.specs.Option.{option_copied};
 ghost use Rattle.std.specs.String.{string_bytes};
 ghost use Rattle.cc_base.specs.Writes.{Writes, as_write};
@@ -111,8 +112,26 @@ pub fn put_escaped<E: Escape, S: Sink>(
         put_piece(sink, replacement)?;
         rest = next;
     }
-    put_piece(sink, rest)?;
-    Ok(())
+    put_piece(sink, rest)
+}
+
+/// Puts the escaped `text` between two `'`.
+///
+/// # Errors
+///
+/// The kind of the put that failed.
+#[tactic(auto, using(cc_base::proofs::WrittenTexts::after_bytes))]
+pub fn put_in_quotes<E: Escape, S: Sink>(
+    sink: &mut S,
+    escape: &E,
+    text: &str,
+) -> Result<(), ErrorKind>
+    ensures { Writes S.taken S.failed (as_write result) sink.old sink.new
+        (codes "'" ++ E.escaped escape.now text.now ++ codes "'") }
+{
+    put_piece(sink, "'")?;
+    put_escaped(sink, escape, text)?;
+    put_piece(sink, "'")
 }
 
 /// Appends the escaped `text` to `made`.
@@ -131,6 +150,25 @@ pub fn push_escaped<E: Escape>(escape: &E, text: &str, made: &mut String) -> Res
         rest = next;
     }
     made.push_str(rest)
+}
+
+/// Returns the escaped `text` between two `'`.
+///
+/// # Errors
+///
+/// `AllocError` if an allocation fails.
+pub(crate) fn quote_text<E: Escape>(
+    alloc: Global,
+    escape: &E,
+    text: &str,
+) -> Result<String, AllocError>
+    ensures { IfOk result (λ quoted.
+        string_bytes quoted ≡ codes "'" ++ E.escaped escape.now text.now ++ codes "'") }
+{
+    let mut quoted = String::from_str(alloc, "'")?;
+    push_escaped(escape, text, &mut quoted)?;
+    quoted.push_str("'")?;
+    Ok(quoted)
 }
 
 /// Returns the escaped `text`.

@@ -14,7 +14,7 @@ ghost use Rattle.cc_quote.specs.FishQuote.{fish_quoted_for_eval, fish_word_of, i
 ghost use Rattle.cc_quote.specs.FishQuote.{is_fish_safe_word, is_single_marked, ReadsTwice};
 ghost use Rattle.cc_quote.specs.QuotedWord.{line_feeds_as_spaces};
 
-use crate::escape::{ByteEscape, Escape, escape_text, push_escaped, put_escaped};
+use crate::escape::{ByteEscape, escape_text, put_in_quotes, quote_text};
 use cc_base::{Error, Sink, put_piece};
 use memchr::{memchr2, memchr3};
 use std::alloc::{AllocError, Global};
@@ -150,10 +150,7 @@ fn quote_word(alloc: Global, text: &str) -> Result<String, AllocError>
     if is_safe_word(text) {
         return String::from_str(alloc, text);
     }
-    let mut quoted = String::from_str(alloc, "'")?;
-    push_escaped(&SingleEscape, text, &mut quoted)?;
-    quoted.push_str("'")?;
-    Ok(quoted)
+    quote_text(alloc, &SingleEscape, text)
 }
 
 /// Quotes `text` as one word of a text that stands between two `"` and is read a second time. A
@@ -182,10 +179,7 @@ fn quote_for_eval(alloc: Global, text: &str) -> Result<String, AllocError>
     if is_safe_word(text) {
         return String::from_str(alloc, text);
     }
-    let mut quoted = String::from_str(alloc, "'")?;
-    push_escaped(&EvalEscape, text, &mut quoted)?;
-    quoted.push_str("'")?;
-    Ok(quoted)
+    quote_text(alloc, &EvalEscape, text)
 }
 
 /// Quotes `help` as one word of a text that stands between two `"` and is read a second time. The
@@ -212,10 +206,7 @@ pub fn fish_help_for_eval(alloc: Global, help: &str) -> Result<String, Error>
 fn quoted_help(alloc: Global, help: &str) -> Result<String, AllocError>
     ensures { IfOk result (λ quoted. string_bytes quoted ≡ fish_help_for_eval_of help.now) }
 {
-    let mut quoted = String::from_str(alloc, "'")?;
-    push_escaped(&HelpEscape, help, &mut quoted)?;
-    quoted.push_str("'")?;
-    Ok(quoted)
+    quote_text(alloc, &HelpEscape, help)
 }
 
 /// Escapes `text` so that it can be put between two `'` in fish: `\` as `\\`, `'` as `\'`, and each
@@ -264,15 +255,4 @@ pub fn put_fish_help_for_eval<W: Sink>(sink: &mut W, help: &str) -> Result<(), E
         (fish_help_for_eval_of help.now) }
 {
     put_in_quotes(sink, &HelpEscape, help)
-}
-
-// Puts an escaped text between two `'`.
-#[tactic(auto, using(cc_base::proofs::WrittenTexts::after_bytes))]
-fn put_in_quotes<E: Escape, W: Sink>(sink: &mut W, escape: &E, text: &str) -> Result<(), ErrorKind>
-    ensures { Writes W.taken W.failed (as_write result) sink.old sink.new
-        (codes "'" ++ E.escaped escape.now text.now ++ codes "'") }
-{
-    put_piece(sink, "'")?;
-    put_escaped(sink, escape, text)?;
-    put_piece(sink, "'")
 }

@@ -34,7 +34,9 @@ mod zsh_reply;
 
 pub use crate::bash::{BashDouble, bash_double, bash_double_word};
 pub use crate::elvish::{ElvishEscape, elvish_escape, elvish_word};
-pub use crate::escape::{ByteEscape, Escape, Replace, escape_text, push_escaped, put_escaped};
+pub use crate::escape::{
+    ByteEscape, Escape, Replace, escape_text, push_escaped, put_escaped, put_in_quotes,
+};
 pub use crate::fish::{
     FishEscape, fish_escape, fish_help_for_eval, fish_quote, fish_quote_for_eval,
     put_fish_help_for_eval, put_fish_quoted_for_eval,

@@ -13,7 +13,7 @@ ghost use Rattle.cc_quote.specs.PosixTokenWords.{ReadsFirstToken};
 ghost use Rattle.cc_quote.specs.PosixSigns.{sign};
 ghost use Rattle.cc_quote.specs.QuotedWord.{contents};
 
-use crate::escape::{Replace, push_escaped};
+use crate::escape::{Replace, quote_text};
 use crate::word_state::{WordState, read_word};
 use cc_base::Error;
 use std::alloc::{AllocError, Global};
@@ -45,14 +45,11 @@ fn in_quotes(alloc: Global, text: &str) -> Result<String, AllocError>
     ensures { IfOk result
         (λ quoted. string_bytes quoted ≡ codes "'" ++ posix_escaped text.now ++ codes "'") }
 {
-    let mut quoted = String::from_str(alloc, "'")?;
     let escape = Replace {
         byte: b'\'',
         by: "'\\''",
     };
-    push_escaped(&escape, text, &mut quoted)?;
-    quoted.push_str("'")?;
-    Ok(quoted)
+    quote_text(alloc, &escape, text)
 }
 
 // Returns whether a text is not empty and consists of bytes that need no quotes.

@@ -7,7 +7,7 @@ ghost use Rattle.cc_registrations.specs.BashRegistration.{plain_call, registrati
 ghost use Rattle.cc_registrations.specs.BashRegistration.{registration_tail, sorted_call};
 
 use crate::names::put_underscored;
-use cc_base::{Error, Sink, put_piece};
+use cc_base::{Error, Sink, put_piece, put_pieces};
 use cc_quote::{BashDouble, put_escaped};
 use std::io::ErrorKind;
 
@@ -106,9 +106,7 @@ fn write_front<W: Sink>(sink: &mut W, variable: &str, name: &str) -> Result<(), 
 {
     put_piece(sink, FUNCTION_BEGINS)?;
     put_underscored(sink, name)?;
-    put_piece(sink, FUNCTION_HEAD)?;
-    put_piece(sink, variable)?;
-    put_piece(sink, CALL_BEGINS)
+    put_pieces(sink, &[FUNCTION_HEAD, variable, CALL_BEGINS])
 }
 
 // Writes the text from the completer on.
@@ -129,9 +127,7 @@ fn write_sorted_call<W: Sink>(sink: &mut W, name: &str, bin: &str) -> Result<(),
 {
     put_piece(sink, call_ends())?;
     put_underscored(sink, name)?;
-    put_piece(sink, NAME_ENDS)?;
-    put_piece(sink, bin)?;
-    put_piece(sink, OTHERWISE)
+    put_pieces(sink, &[NAME_ENDS, bin, OTHERWISE])
 }
 
 // Returns the text after the completer.
@@ -149,7 +145,5 @@ fn write_plain_call<W: Sink>(sink: &mut W, name: &str, bin: &str) -> Result<(), 
         (plain_call name.now bin.now) }
 {
     put_underscored(sink, name)?;
-    put_piece(sink, NAME_ENDS)?;
-    put_piece(sink, bin)?;
-    put_piece(sink, REGISTRATION_ENDS)
+    put_pieces(sink, &[NAME_ENDS, bin, REGISTRATION_ENDS])
 }

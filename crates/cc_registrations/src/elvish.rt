@@ -5,7 +5,7 @@ ghost use Rattle.cc_registrations.specs.ElvishRegistration.{ElvishReads, elvish_
 ghost use Rattle.cc_registrations.specs.ElvishRegistration.{registration_front};
 
 use crate::words::put_posix_quoted;
-use cc_base::{Error, Sink, put_piece};
+use cc_base::{Error, Sink, put_text, put_texts};
 use std::alloc::Global;
 
 const REGISTRATION_BEGINS: &str = "
@@ -58,7 +58,7 @@ fn write_text<W: Sink>(
 {
     write_front(alloc, sink, variable, bin)?;
     put_posix_quoted(alloc, sink, completer)?;
-    Ok(put_piece(sink, REGISTRATION_ENDS)?)
+    put_text(sink, REGISTRATION_ENDS)
 }
 
 // Writes the text before the completer.
@@ -67,9 +67,7 @@ fn write_front<W: Sink>(alloc: Global, sink: &mut W, variable: &str, bin: &str) 
     ensures { Writes W.taken W.failed result sink.old sink.new
         (registration_front variable.now bin.now) }
 {
-    put_piece(sink, REGISTRATION_BEGINS)?;
+    put_text(sink, REGISTRATION_BEGINS)?;
     put_posix_quoted(alloc, sink, bin)?;
-    put_piece(sink, FUNCTION_HEAD)?;
-    put_piece(sink, variable)?;
-    Ok(put_piece(sink, SHELL_SET)?)
+    put_texts(sink, &[FUNCTION_HEAD, variable, SHELL_SET])
 }

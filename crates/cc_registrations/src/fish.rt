@@ -5,7 +5,7 @@ ghost use Rattle.cc_registrations.specs.FishRegistration.{FishReads, fish_regist
 ghost use Rattle.cc_registrations.specs.FishRegistration.{registration_front};
 
 use crate::words::put_fish_quoted;
-use cc_base::{Error, Sink, put_piece};
+use cc_base::{Error, Sink, put_text, put_texts};
 use cc_quote::put_fish_quoted_for_eval;
 use std::alloc::Global;
 
@@ -53,7 +53,7 @@ fn write_text<W: Sink>(
 {
     write_front(alloc, sink, variable, bin)?;
     put_fish_quoted_for_eval(sink, completer)?;
-    Ok(put_piece(sink, REGISTRATION_ENDS)?)
+    put_text(sink, REGISTRATION_ENDS)
 }
 
 // Writes the text before the completer.
@@ -62,9 +62,7 @@ fn write_front<W: Sink>(alloc: Global, sink: &mut W, variable: &str, bin: &str) 
     ensures { Writes W.taken W.failed result sink.old sink.new
         (registration_front variable.now bin.now) }
 {
-    put_piece(sink, REGISTRATION_BEGINS)?;
+    put_text(sink, REGISTRATION_BEGINS)?;
     put_fish_quoted(alloc, sink, bin)?;
-    put_piece(sink, ARGUMENTS_BEGIN)?;
-    put_piece(sink, variable)?;
-    Ok(put_piece(sink, SHELL_SET)?)
+    put_texts(sink, &[ARGUMENTS_BEGIN, variable, SHELL_SET])
 }

@@ -1,10 +1,10 @@
 //! Names in a registration.
 
-ghost use Rattle.std.specs.Prelude.{◌≡◌};
+ghost use Rattle.std.specs.Prelude.{◌≡◌, ◌++◌};
 ghost use Rattle.cc_base.specs.Writes.{Writes, as_write};
 ghost use Rattle.cc_registrations.specs.Names.{identifier, identifier_byte, underscored};
 
-use cc_base::{Error, Sink, put_all};
+use cc_base::{Error, Sink, put_all, put_text};
 use cc_quote::{Replace, put_escaped};
 use std::io::ErrorKind;
 
@@ -29,6 +29,18 @@ pub(crate) fn put_identifier<W: Sink>(sink: &mut W, text: &str) -> Result<(), Er
         put_all(sink, &[identifier_byte(*byte)])?;
     }
     Ok(())
+}
+
+/// Writes `before`, then `text` as an identifier.
+pub(crate) fn put_identifier_after<W: Sink>(
+    sink: &mut W,
+    before: &str,
+    text: &str,
+) -> Result<(), Error>
+    ensures { Writes W.taken W.failed result sink.old sink.new (before.now ++ identifier text.now) }
+{
+    put_text(sink, before)?;
+    put_identifier(sink, text)
 }
 
 // Returns the byte, or `_` if it may not occur in an identifier.

@@ -4,7 +4,7 @@ ghost use Rattle.cc_base.specs.Writes.{Writes, as_write};
 ghost use Rattle.cc_registrations.specs.PowershellRegistration.{PowershellReads, call, powershell_registration, registration_head, registration_tail};
 
 use crate::words::put_posix_quoted;
-use cc_base::{Error, Sink, put_piece, put_pieces};
+use cc_base::{Error, Sink, put_pieces, put_text, put_texts};
 use std::alloc::Global;
 use std::io::ErrorKind;
 
@@ -105,10 +105,9 @@ fn write_text<W: Sink>(
 fn write_head<W: Sink>(alloc: Global, sink: &mut W, bin: &str) -> Result<(), Error>
     ensures { Writes W.taken W.failed result sink.old sink.new (registration_head bin.now) }
 {
-    put_piece(sink, REGISTRATION_BEGINS)?;
+    put_text(sink, REGISTRATION_BEGINS)?;
     put_posix_quoted(alloc, sink, bin)?;
-    put_piece(sink, SCRIPT_HEAD)?;
-    Ok(put_piece(sink, ENVIRONMENT)?)
+    put_texts(sink, &[SCRIPT_HEAD, ENVIRONMENT])
 }
 
 // Writes the text after that, before the completer.

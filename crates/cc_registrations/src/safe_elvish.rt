@@ -5,9 +5,9 @@ ghost use Rattle.cc_base.specs.Writes.{Writes};
 ghost use Rattle.cc_registrations.specs.SafeElvish.{SafeElvishReads, registration_front};
 ghost use Rattle.cc_registrations.specs.SafeElvish.{safe_elvish};
 
-use crate::names::put_identifier;
+use crate::names::put_identifier_after;
 use crate::words::{Quoting, put_names, put_quoted};
-use cc_base::{Error, Sink, put_piece};
+use cc_base::{Error, Sink, put_text};
 use std::alloc::Global;
 
 const NAMES_BEGIN: &str = "for complgen-name [";
@@ -76,7 +76,7 @@ fn write_text<W: Sink>(
 {
     write_front(alloc, sink, variable, bins)?;
     put_quoted(alloc, sink, Quoting::Elvish, completer)?;
-    Ok(put_piece(sink, CALL_ENDS)?)
+    put_text(sink, CALL_ENDS)
 }
 
 // Writes the text before the completer.
@@ -90,9 +90,8 @@ fn write_front<W: Sink>(
     ensures { Writes W.taken W.failed result sink.old sink.new
         (registration_front variable.now (map (λ bin. bin.now) bins.now)) }
 {
-    put_piece(sink, NAMES_BEGIN)?;
+    put_text(sink, NAMES_BEGIN)?;
     put_names(alloc, sink, Quoting::Elvish, " ", bins)?;
-    put_piece(sink, FUNCTION_HEAD)?;
-    put_identifier(sink, variable)?;
-    Ok(put_piece(sink, CALL_BEGINS)?)
+    put_identifier_after(sink, FUNCTION_HEAD, variable)?;
+    put_text(sink, CALL_BEGINS)
 }

@@ -6,9 +6,9 @@ ghost use Rattle.cc_registrations.specs.SafePowershell.{SafePowershellReads, cal
 ghost use Rattle.cc_registrations.specs.SafePowershell.{registration_head, registration_tail};
 ghost use Rattle.cc_registrations.specs.SafePowershell.{safe_powershell};
 
-use crate::names::put_identifier;
+use crate::names::{put_identifier, put_identifier_after};
 use crate::words::{Quoting, put_names, put_quoted};
-use cc_base::{Error, Sink, put_piece};
+use cc_base::{Error, Sink, put_text};
 use std::alloc::Global;
 
 const NAMES_BEGIN: &str = "Register-ArgumentCompleter -Native -CommandName ";
@@ -121,9 +121,9 @@ fn write_head<W: Sink>(alloc: Global, sink: &mut W, bins: &[&str]) -> Result<(),
     ensures { Writes W.taken W.failed result sink.old sink.new
         (registration_head (map (λ bin. bin.now) bins.now)) }
 {
-    put_piece(sink, NAMES_BEGIN)?;
+    put_text(sink, NAMES_BEGIN)?;
     put_names(alloc, sink, Quoting::Powershell, ", ", bins)?;
-    Ok(put_piece(sink, SCRIPT_HEAD)?)
+    put_text(sink, SCRIPT_HEAD)
 }
 
 // Writes the text after that, before the completer.
@@ -132,9 +132,8 @@ fn write_call<W: Sink>(sink: &mut W, variable: &str) -> Result<(), Error>
     ensures { Writes W.taken W.failed result sink.old sink.new (call variable.now) }
 {
     put_identifier(sink, variable)?;
-    put_piece(sink, VARIABLE_KEPT)?;
-    put_identifier(sink, variable)?;
-    Ok(put_piece(sink, CALL_BEGINS)?)
+    put_identifier_after(sink, VARIABLE_KEPT, variable)?;
+    put_text(sink, CALL_BEGINS)
 }
 
 // Writes the text after the completer.
@@ -143,7 +142,6 @@ fn write_tail<W: Sink>(sink: &mut W, variable: &str) -> Result<(), Error>
     ensures { Writes W.taken W.failed result sink.old sink.new
         (registration_tail variable.now) }
 {
-    put_piece(sink, CALL_ENDS)?;
-    put_identifier(sink, variable)?;
-    Ok(put_piece(sink, SCRIPT_ENDS)?)
+    put_identifier_after(sink, CALL_ENDS, variable)?;
+    put_text(sink, SCRIPT_ENDS)
 }

@@ -6,9 +6,9 @@ ghost use Rattle.cc_base.specs.Writes.{Writes};
 ghost use Rattle.cc_registrations.specs.SafeText.{function_front, function_text, names_line};
 ghost use Rattle.cc_registrations.specs.SafeText.{safe_text};
 
-use crate::names::put_identifier;
+use crate::names::put_identifier_after;
 use crate::words::{Quoting, put_names, put_quoted};
-use cc_base::{Error, Sink, TextRef, put_piece};
+use cc_base::{Error, Sink, TextRef, put_text};
 use std::alloc::Global;
 
 /// The parts that differ between shells: the fixed texts, and the quoting of words.
@@ -91,9 +91,8 @@ fn write_names_line<W: Sink>(
     ensures { Writes W.taken W.failed result sink.old sink.new
         (names_line frame.now name.now (map (λ bin. bin.now) bins.now)) }
 {
-    put_piece(sink, frame.names_begin.as_str())?;
-    put_identifier(sink, name)?;
-    put_piece(sink, frame.names_follow.as_str())?;
+    put_identifier_after(sink, frame.names_begin.as_str(), name)?;
+    put_text(sink, frame.names_follow.as_str())?;
     put_names(
         alloc,
         sink,
@@ -101,7 +100,7 @@ fn write_names_line<W: Sink>(
         frame.names_between.as_str(),
         bins,
     )?;
-    Ok(put_piece(sink, "\n")?)
+    put_text(sink, "\n")
 }
 
 // Writes the function.
@@ -117,7 +116,7 @@ fn write_function<W: Sink>(
 {
     write_front(sink, frame, names)?;
     put_quoted(alloc, sink, frame.quoting, names.completer.as_str())?;
-    Ok(put_piece(sink, frame.call_ends.as_str())?)
+    put_text(sink, frame.call_ends.as_str())
 }
 
 // Writes the function up to the completer.
@@ -130,9 +129,7 @@ fn write_front<W: Sink>(
     ensures { Writes W.taken W.failed result sink.old sink.new
         (function_front frame.now names.now.variable names.now.name) }
 {
-    put_piece(sink, frame.function_begins.as_str())?;
-    put_identifier(sink, names.name.as_str())?;
-    put_piece(sink, frame.function_head.as_str())?;
-    put_identifier(sink, names.variable.as_str())?;
-    Ok(put_piece(sink, frame.call_begins.as_str())?)
+    put_identifier_after(sink, frame.function_begins.as_str(), names.name.as_str())?;
+    put_identifier_after(sink, frame.function_head.as_str(), names.variable.as_str())?;
+    put_text(sink, frame.call_begins.as_str())
 }

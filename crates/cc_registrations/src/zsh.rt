@@ -8,7 +8,7 @@ ghost use Rattle.cc_registrations.specs.ZshRegistration.{call_ends, zsh_registra
 
 use crate::names::put_underscored;
 use crate::words::put_posix_quoted;
-use cc_base::{Error, Sink, put_piece};
+use cc_base::{Error, Sink, put_text, put_texts};
 use std::alloc::Global;
 
 const REGISTRATION_BEGINS: &str = "#compdef ";
@@ -99,9 +99,7 @@ fn write_front<W: Sink>(
 {
     write_head(alloc, sink, bin)?;
     put_underscored(sink, name)?;
-    put_piece(sink, FUNCTION_HEAD)?;
-    put_piece(sink, variable)?;
-    Ok(put_piece(sink, CALL_BEGINS)?)
+    put_texts(sink, &[FUNCTION_HEAD, variable, CALL_BEGINS])
 }
 
 // Writes the text before the name.
@@ -109,9 +107,9 @@ fn write_front<W: Sink>(
 fn write_head<W: Sink>(alloc: Global, sink: &mut W, bin: &str) -> Result<(), Error>
     ensures { Writes W.taken W.failed result sink.old sink.new (registration_head bin.now) }
 {
-    put_piece(sink, REGISTRATION_BEGINS)?;
+    put_text(sink, REGISTRATION_BEGINS)?;
     put_posix_quoted(alloc, sink, bin)?;
-    Ok(put_piece(sink, FUNCTION_BEGINS)?)
+    put_text(sink, FUNCTION_BEGINS)
 }
 
 // Writes the text after the completer.
@@ -120,11 +118,11 @@ fn write_tail<W: Sink>(alloc: Global, sink: &mut W, name: &str, bin: &str) -> Re
     ensures { Writes W.taken W.failed result sink.old sink.new
         (registration_tail name.now bin.now) }
 {
-    put_piece(sink, call_ends())?;
+    put_text(sink, call_ends())?;
     put_underscored(sink, name)?;
-    put_piece(sink, NAME_ENDS)?;
+    put_text(sink, NAME_ENDS)?;
     put_posix_quoted(alloc, sink, bin)?;
-    Ok(put_piece(sink, REGISTRATION_ENDS)?)
+    put_text(sink, REGISTRATION_ENDS)
 }
 
 // Returns the text after the completer.

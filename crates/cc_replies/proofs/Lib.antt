@@ -18,4 +18,5 @@ pub mod PowershellReadings
 pub mod ReplyReadings
 mod SafeExamples
 pub mod SafeReadings
+pub mod StoppedLoops
 pub mod Widths

@@ -1,7 +1,7 @@
 //! The list that bash shows when it inserts nothing: words, with descriptions in a column behind
 //! them.
 
-ghost use Rattle.std.specs.Prelude.{◌≡◌, ◌-◌, IfErr, bytes_eq, not, replicate};
+ghost use Rattle.std.specs.Prelude.{◌≡◌, ◌-◌, ◌++◌, IfErr, bytes_eq, not, replicate};
 ghost use Rattle.std.specs.Fmt.{char_count};
 ghost use Rattle.std.specs.Option.{option_copied};
 ghost use Rattle.cc_base.specs.Writes.{IsWrite, Writes, as_write};
@@ -219,11 +219,20 @@ impl BashList<'_> {
             (described_text (closed_word self.now.cursor.now value.now) self.now.longest
             (cut_description self.now.room description.now)) }
     {
-        self.cursor.put_closed(sink, value)?;
-        put_spaces(sink, self.cursor.left_beside(self.longest, value))?;
+        self.put_padded(sink, value)?;
         put_piece(sink, "  (")?;
         put_cut(sink, self.room, description)?;
         put_piece(sink, ")")
+    }
+
+    // Writes the word of a value, and spaces up to the common column.
+    fn put_padded<W: Sink>(&self, sink: &mut W, value: &str) -> Result<(), ErrorKind>
+        ensures { Writes W.taken W.failed (as_write result) sink.old sink.new
+            (closed_word self.now.cursor.now value.now ++ replicate (self.now.longest
+            - char_count (closed_word self.now.cursor.now value.now)) space) }
+    {
+        self.cursor.put_closed(sink, value)?;
+        put_spaces(sink, self.cursor.left_beside(self.longest, value))
     }
 }
 

@@ -11,7 +11,7 @@ ghost use Rattle.cc_replies.specs.BashWords.{bare_text, bash_text, start_text};
 
 use crate::bash_words::{BashBare, rest_after};
 use crate::cursor::OpenQuote;
-use cc_base::{Sink, put_piece};
+use cc_base::{Sink, put_piece, put_pieces};
 use cc_quote::{BashDouble, ByteEscape};
 use std::io::ErrorKind;
 
@@ -100,8 +100,8 @@ pub(crate) fn put_cut<W: Sink>(sink: &mut W, room: usize, text: &str) -> Result<
     if end_of(text, room) == text.len() {
         return put_piece(sink, text);
     }
-    put_piece(sink, &text[..end_of(text, room.saturating_sub(2))])?;
-    put_piece(sink, "..")
+    let cut = &text[..end_of(text, room.saturating_sub(2))];
+    put_pieces(sink, &[cut, ".."])
 }
 
 // Returns the index where the first `count` characters of the text end.

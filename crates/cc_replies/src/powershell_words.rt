@@ -17,7 +17,7 @@ use crate::safe::is_safe_text;
 use crate::safe_replies::put_safe_line;
 use cc_base::{Error, Sink, put_piece};
 use cc_candidates::CompletionCandidate;
-use cc_quote::{PowershellEscape, put_escaped};
+use cc_quote::{PowershellEscape, put_in_quotes};
 use std::io::ErrorKind;
 
 /// Writes a line for each value that PowerShell can insert: the word to insert, a tab and the
@@ -88,14 +88,11 @@ fn put_powershell_word<W: Sink>(sink: &mut W, value: &str) -> Result<(), ErrorKi
 }
 
 // Writes a value between two `'`.
-#[tactic(auto, using(cc_base::proofs::WrittenTexts::after_bytes))]
 fn put_quoted<W: Sink>(sink: &mut W, value: &str) -> Result<(), ErrorKind>
     ensures { Writes W.taken W.failed (as_write result) sink.old sink.new
         (codes "'" ++ powershell_escaped value.now ++ codes "'") }
 {
-    put_piece(sink, "'")?;
-    put_escaped(sink, &PowershellEscape, value)?;
-    put_piece(sink, "'")
+    put_in_quotes(sink, &PowershellEscape, value)
 }
 
 // Returns whether programs receive the value as it is.

@@ -8,7 +8,7 @@ ghost use Rattle.cc_replies.specs.Reply.{LinesRead, ValuesRead, ZshReplyRead, co
 ghost use Rattle.cc_replies.specs.Reply.{first_line, lines_reply, shown_line, tab_help};
 ghost use Rattle.cc_replies.specs.Reply.{values_reply, without_return, zsh_item, zsh_reply};
 
-use cc_base::{Error, Sink, put_piece, put_separator};
+use cc_base::{Error, Sink, put_piece, put_pieces, put_separator};
 use cc_candidates::CompletionCandidate;
 use cc_quote::{ZshReplyHelp, ZshReplyValue, put_escaped};
 use std::io::ErrorKind;
@@ -166,8 +166,7 @@ fn put_tab_help<W: Sink>(sink: &mut W, help: Option<&str>) -> Result<(), ErrorKi
     let Some(help) = help else {
         return Ok(());
     };
-    put_piece(sink, "\t")?;
-    put_piece(sink, help)
+    put_pieces(sink, &["\t", help])
 }
 
 // Returns the first line of the help text.

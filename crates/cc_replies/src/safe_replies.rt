@@ -12,7 +12,7 @@ ghost use Rattle.cc_replies.specs.SafeValues.{is_found};
 use crate::reply::{put_shown_line, put_zsh_item};
 use crate::reply_lines::{ReplyLines, put_each};
 use crate::safe::{is_in_locale, is_safe_text, safe_help};
-use cc_base::{Error, Sink, put_piece};
+use cc_base::{Error, Sink, put_piece, put_pieces};
 use cc_candidates::CompletionCandidate;
 use std::io::ErrorKind;
 
@@ -103,8 +103,7 @@ impl ReplyLines for SafeValues {
         sink: &mut W,
         candidate: &CompletionCandidate,
     ) -> Result<(), ErrorKind> {
-        put_piece(sink, candidate.get_value())?;
-        put_piece(sink, "\n")
+        put_pieces(sink, &[candidate.get_value(), "\n"])
     }
 }
 

@@ -11,3 +11,4 @@ pub mod PowershellFreeScripts
 pub mod PowershellFreeTexts
 pub mod PowershellReadsBack
 pub mod ScriptReadsBack
+pub mod TextLoops

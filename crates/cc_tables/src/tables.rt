@@ -4,7 +4,7 @@ ghost use Rattle.std.specs.Prelude.{◌++◌, flat_map};
 ghost use Rattle.cc_base.specs.Writes.{Writes, as_write};
 ghost use Rattle.cc_tables.specs.Script.{head_text, named_text, node_text, tree_script};
 
-use cc_base::{Error, Sink, Text, TextRef, put_around, put_piece};
+use cc_base::{Error, Sink, Text, TextRef, put_around, put_piece, put_text};
 use cc_command::{Command, full_name};
 use cc_generator::{Flat, Joined, KeyScheme, TableVisits};
 use std::alloc::{AllocError, Global};
@@ -111,7 +111,7 @@ fn write_frame<R: TableRows, W: Sink>(
 {
     write_head(sink, frame, bin_name)?;
     write_visits(alloc, sink, visits, frame, rows)?;
-    Ok(put_piece(sink, frame.tail.as_str())?)
+    put_text(sink, frame.tail.as_str())
 }
 
 // Writes the frame up to the tables.
@@ -120,7 +120,7 @@ fn write_head<W: Sink>(sink: &mut W, frame: &Frame<'_>, bin_name: &str) -> Resul
     ensures { Writes W.taken W.failed result sink.old sink.new
         (head_text frame.now bin_name.now) }
 {
-    put_piece(sink, frame.head.as_str())?;
+    put_text(sink, frame.head.as_str())?;
     match &frame.named {
         Some(named) => write_named(sink, named, bin_name),
         None => Ok(()),
@@ -134,7 +134,7 @@ fn write_named<W: Sink>(sink: &mut W, named: &Named<'_>, bin_name: &str) -> Resu
 {
     let between = named.between.as_str();
     put_around(sink, bin_name, between, bin_name)?;
-    Ok(put_piece(sink, named.completions.as_str())?)
+    put_text(sink, named.completions.as_str())
 }
 
 // Writes a table for each remaining visit.

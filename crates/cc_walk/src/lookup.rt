@@ -14,7 +14,12 @@ use cc_command::contains_name;
 fn contains_char(characters: &[char], character: char) -> bool
     ensures { result ≡ list_any (λ c. c == character) characters.now }
 {
-    characters.iter().any(|c| *c == character)
+    for one in characters {
+        if *one == character {
+            return true;
+        }
+    }
+    false
 }
 
 /// Returns whether `flag` is the long of `argument` or a visible alias of it. An argument without a
@@ -22,9 +27,10 @@ fn contains_char(characters: &[char], character: char) -> bool
 pub fn has_long(argument: &Arg, flag: &str) -> bool
     ensures { result ≡ has_long flag.now argument.now }
 {
-    argument.get_long().is_some_and(|long| {
-        long == flag || contains_name(argument.get_visible_aliases(), flag)
-    })
+    match argument.get_long() {
+        Some(long) => long == flag || contains_name(argument.get_visible_aliases(), flag),
+        None => false,
+    }
 }
 
 /// Returns whether `character` is the short of `argument` or a visible alias of it. An argument
@@ -32,9 +38,12 @@ pub fn has_long(argument: &Arg, flag: &str) -> bool
 pub fn has_short(argument: &Arg, character: char) -> bool
     ensures { result ≡ has_short character argument.now }
 {
-    argument.get_short().is_some_and(|short| {
-        short == character || contains_char(argument.get_visible_short_aliases(), character)
-    })
+    match argument.get_short() {
+        Some(short) => {
+            short == character || contains_char(argument.get_visible_short_aliases(), character)
+        }
+        None => false,
+    }
 }
 
 fn is_at(argument: &Arg, position: usize) -> bool
@@ -47,15 +56,23 @@ fn is_at(argument: &Arg, position: usize) -> bool
 pub fn with_long<'a>(arguments: &'a [Arg], flag: &str) -> Option<&'a Arg>
     ensures { option_copied result ≡ find (has_long flag.now) arguments.now }
 {
-    arguments.iter().find(|argument| has_long(argument, flag))
+    for argument in arguments {
+        if has_long(argument, flag) {
+            return Some(argument);
+        }
+    }
+    None
 }
 
 fn with_short(arguments: &[Arg], character: char) -> Option<&Arg>
     ensures { option_copied result ≡ find (has_short character) arguments.now }
 {
-    arguments
-        .iter()
-        .find(|argument| has_short(argument, character))
+    for argument in arguments {
+        if has_short(argument, character) {
+            return Some(argument);
+        }
+    }
+    None
 }
 
 /// Returns the first argument with this short or a visible alias of it, if that argument takes
@@ -63,7 +80,10 @@ fn with_short(arguments: &[Arg], character: char) -> Option<&Arg>
 pub(crate) fn value_argument(arguments: &[Arg], character: char) -> Option<&Arg>
     ensures { option_copied result ≡ value_argument arguments.now character }
 {
-    with_short(arguments, character).filter(|argument| argument.takes_values())
+    match with_short(arguments, character) {
+        Some(argument) if argument.takes_values() => Some(argument),
+        _ => None,
+    }
 }
 
 /// Returns the maximum number of values in one use of the argument.
@@ -78,7 +98,12 @@ pub(crate) fn max_values(argument: &Arg) -> usize
 pub fn positional_at(arguments: &[Arg], position: usize) -> Option<&Arg>
     ensures { option_copied result ≡ positional_at arguments.now position }
 {
-    arguments.iter().find(|argument| is_at(argument, position))
+    for argument in arguments {
+        if is_at(argument, position) {
+            return Some(argument);
+        }
+    }
+    None
 }
 
 /// Returns the greatest number of values of the positional at `position`, but at least 1. Returns 1
@@ -88,7 +113,10 @@ pub(crate) fn capacity_at(arguments: &[Arg], position: usize) -> usize
     ensures value { result ≡ capacity_at arguments.now position }
     ensures some { 0 < result }
 {
-    positional_at(arguments, position).map_or(1, |argument| max_values(argument).max(1))
+    match positional_at(arguments, position) {
+        Some(argument) => max_values(argument).max(1),
+        None => 1,
+    }
 }
 
 /// Returns whether the positional at the position accepts words that begin with a hyphen.
@@ -96,5 +124,8 @@ pub(crate) fn capacity_at(arguments: &[Arg], position: usize) -> usize
 pub(crate) fn allows_hyphens_at(arguments: &[Arg], position: usize) -> bool
     ensures { result ≡ allows_hyphens_at arguments.now position }
 {
-    positional_at(arguments, position).is_some_and(|argument| argument.is_allow_hyphen_values_set())
+    match positional_at(arguments, position) {
+        Some(argument) => argument.is_allow_hyphen_values_set(),
+        None => false,
+    }
 }

@@ -17,4 +17,5 @@ pub mod PositionalsRead
 pub mod PreorderFunctions
 mod ReadExamples
 pub mod ReadsBack
+pub mod TextLoops
 pub mod WholeRead

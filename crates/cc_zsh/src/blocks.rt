@@ -11,14 +11,14 @@ ghost use Rattle.cc_generator.specs.Meaning.{step_of, visit_of};
 ghost use Rattle.cc_zsh.specs.Nested.{arm_begins, arms_text, below_text, block_text, case_text, children_text, index_text, nested_begins, nested_ends, root_text};
 ghost use Rattle.cc_zsh.specs.Steps.{enter_text, leave_text, step_text};
 
-use crate::names::{write_dashed, write_label};
+use crate::names::{write_dashed, write_label_between};
 use crate::options::write_arguments;
 use crate::positionals::write_positionals;
 use crate::texts::{
     ARM_ENDS, BLOCK_BEGINS, BLOCK_ENDS, CASE_LINE, CASE_LINE_IN, CASE_STATE, COMMAND_BEGINS,
     CONTEXT_COMMAND, EXTERNAL_TEXT, NESTED_ENDS, SET_CONTEXT, SET_WORDS, STATE_BEGINS, STATE_ENDS,
 };
-use cc_base::{Error, Sink, Text, put_around, put_piece, put_pieces};
+use cc_base::{Error, Sink, Text, put_around, put_piece, put_pieces, put_text};
 use cc_command::{Command, full_name};
 use cc_generator::{Flat, KeyScheme, PathStep, PathSteps, Visit};
 use std::alloc::{AllocError, Global};
@@ -81,7 +81,10 @@ fn write_steps<W: Sink>(
         (flat_map step_text steps.entry) }
 {
     while let Some(step) = steps.next(alloc)? {
-        write_step(alloc, sink, &step)?;
+        let written = write_step(alloc, sink, &step);
+        // One call here, instead of a drop of each variant at each exit.
+        drop(step);
+        written?;
     }
     Ok(())
 }
@@ -104,7 +107,7 @@ fn write_enter<W: Sink>(alloc: Global, sink: &mut W, visit: &Visit<'_>) -> Resul
     if !visit.command.has_subcommands() {
         return Ok(());
     }
-    put_piece(sink, "\n")?;
+    put_text(sink, "\n")?;
     write_nested_begins(alloc, sink, visit.command)
 }
 
@@ -127,7 +130,6 @@ fn write_leave<W: Sink>(sink: &mut W, command: &Command) -> Result<(), ErrorKind
     put_pieces(sink, &[NESTED_ENDS, ARM_ENDS])
 }
 
-#[tactic(auto, using(crate::proofs::FixedParts::in_blocks), unfolding(crate::specs::Nested::block_text, crate::specs::Options::options_text, crate::specs::Options::flags_text))]
 fn write_block<W: Sink>(sink: &mut W, above: &Command, command: &Command) -> Result<(), ErrorKind>
     ensures { Writes W.taken W.failed (as_write result) sink.old sink.new
         (block_text above.now.node command.now) }
@@ -158,12 +160,8 @@ fn write_children<W: Sink>(sink: &mut W, command: &Command) -> Result<(), ErrorK
     ensures { Writes W.taken W.failed (as_write result) sink.old sink.new
         (children_text command.now.node) }
 {
-    put_piece(sink, COMMAND_BEGINS)?;
-    write_label(sink, full_name(command))?;
-    put_piece(sink, STATE_BEGINS)?;
-    put_piece(sink, command.get_name())?;
-    put_piece(sink, STATE_ENDS)?;
-    Ok(())
+    write_label_between(sink, COMMAND_BEGINS, full_name(command), STATE_BEGINS)?;
+    put_pieces(sink, &[command.get_name(), STATE_ENDS])
 }
 
 fn write_nested_begins<W: Sink>(alloc: Global, sink: &mut W, command: &Command) -> Result<(), Error>

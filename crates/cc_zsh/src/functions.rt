@@ -16,14 +16,15 @@ ghost use Rattle.cc_zsh.specs.Named.{function_named};
 ghost use Rattle.cc_zsh.specs.Nested.{function_label};
 ghost use Rattle.cc_zsh.specs.Script.{functions_text};
 
-use crate::names::write_label;
+use crate::escaped::put_escaped_between;
+use crate::names::{write_label, write_label_between};
 use crate::texts::{
     COMMANDS_BEGIN, DESCRIBE_BEGINS, DESCRIBE_ENDS, ENTRIES_END, FUNCTION_BEGINS, UNLESS_DEFINED,
 };
-use cc_base::{Error, Sink, put_around, put_piece, put_pieces};
+use cc_base::{Error, Sink, put_piece, put_pieces};
 use cc_command::{Command, full_name};
 use cc_generator::Flat;
-use cc_quote::{ZshHelpEscape, put_escaped};
+use cc_quote::ZshHelpEscape;
 use std::alloc::{AllocError, Global};
 use std::cmp::Ordering;
 use std::io::ErrorKind;
@@ -150,9 +151,7 @@ fn write_function_begins<W: Sink>(sink: &mut W, name: &str) -> Result<(), ErrorK
         (unless_defined ++ function_label name.now ++ function_begins ++ function_label name.now
         ++ commands_begin) }
 {
-    put_piece(sink, UNLESS_DEFINED)?;
-    write_label(sink, name)?;
-    put_piece(sink, FUNCTION_BEGINS)?;
+    write_label_between(sink, UNLESS_DEFINED, name, FUNCTION_BEGINS)?;
     write_label(sink, name)?;
     put_piece(sink, COMMANDS_BEGIN)
 }
@@ -197,7 +196,7 @@ fn write_entry<W: Sink>(sink: &mut W, name: &str, child: &Command) -> Result<(),
     ensures { Writes W.taken W.failed (as_write result) sink.old sink.new
         (entry_text (entry child.now.node name.now)) }
 {
-    put_around(sink, "\n'", name, ":")?;
-    put_escaped(sink, &ZshHelpEscape, child.get_about().unwrap_or(""))?;
-    put_piece(sink, "' \\")
+    let about = child.get_about().unwrap_or("");
+    put_pieces(sink, &["\n'", name])?;
+    put_escaped_between(sink, ":", &ZshHelpEscape, about, "' \\")
 }

@@ -19,6 +19,7 @@
 
 mod blocks;
 mod conflicts;
+mod escaped;
 mod functions;
 mod names;
 mod options;

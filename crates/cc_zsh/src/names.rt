@@ -1,6 +1,6 @@
 //! Names of arguments as a user types them, and names of commands without spaces.
 
-ghost use Rattle.std.specs.Prelude.{codes};
+ghost use Rattle.std.specs.Prelude.{◌++◌, codes};
 ghost use Rattle.cc_base.specs.Bytes.{space};
 ghost use Rattle.cc_base.specs.Writes.{Writes, as_write};
 ghost use Rattle.cc_quote.specs.Escapes.{replace_byte};
@@ -38,6 +38,21 @@ pub(crate) fn write_label<W: Sink>(sink: &mut W, name: &str) -> Result<(), Error
     };
     put_escaped(sink, &escape, name)?;
     put_piece(sink, "_commands")
+}
+
+/// Writes the name of a function as [`write_label`] does, between two texts.
+pub(crate) fn write_label_between<W: Sink>(
+    sink: &mut W,
+    before: &str,
+    name: &str,
+    after: &str,
+) -> Result<(), ErrorKind>
+    ensures { Writes W.taken W.failed (as_write result) sink.old sink.new
+        (before.now ++ function_label name.now ++ after.now) }
+{
+    put_piece(sink, before)?;
+    write_label(sink, name)?;
+    put_piece(sink, after)
 }
 
 pub(crate) fn write_dashed<W: Sink>(sink: &mut W, name: &str) -> Result<(), ErrorKind>

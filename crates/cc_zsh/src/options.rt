@@ -6,13 +6,14 @@ ghost use Rattle.cc_command.specs.Iterators.{arguments_left};
 ghost use Rattle.cc_zsh.specs.Options.{argument_line, argument_text, help_text, repeated_text, value_sign};
 
 use crate::conflicts::write_conflicts;
+use crate::escaped::put_escaped_between;
 use crate::names::write_name;
 use crate::texts::LINE_END;
 use crate::values::write_values;
 use cc_arg::{Arg, ArgAction, ShownName, shown_names};
 use cc_base::{Sink, put_piece};
 use cc_command::{Arguments, Command};
-use cc_quote::{ZshHelpEscape, put_escaped};
+use cc_quote::ZshHelpEscape;
 use std::io::ErrorKind;
 
 #[tactic(auto, using(cc_base::proofs::WrittenTexts::in_steps))]
@@ -49,7 +50,6 @@ fn write_argument<W: Sink>(
     Ok(())
 }
 
-#[tactic(auto, using(cc_base::proofs::WrittenTexts::after_bytes), unfolding(crate::specs::Options::argument_line, crate::specs::Script::fixed_texts))]
 fn write_line<W: Sink>(
     sink: &mut W,
     above: &Command,
@@ -99,7 +99,6 @@ fn write_help<W: Sink>(sink: &mut W, argument: &Arg) -> Result<(), ErrorKind>
     ensures { Writes W.taken W.failed (as_write result) sink.old sink.new
         (help_text argument.now) }
 {
-    put_piece(sink, "[")?;
-    put_escaped(sink, &ZshHelpEscape, argument.get_help().unwrap_or(""))?;
-    put_piece(sink, "]")
+    let help = argument.get_help().unwrap_or("");
+    put_escaped_between(sink, "[", &ZshHelpEscape, help, "]")
 }

@@ -7,6 +7,7 @@ ghost use Rattle.cc_command.specs.ArgumentLists.{positionals};
 ghost use Rattle.cc_quote.specs.ZshQuote.{zsh_replacement};
 ghost use Rattle.cc_zsh.specs.Positionals.{count_text, is_left_out, is_positional_escaped, positional_escaped, positional_help, positional_text, positionals_text, rest_text, takes_all, takes_rest, takes_several};
 
+use crate::escaped::put_escaped_between;
 use crate::texts::LINE_END;
 use crate::values::{range, write_value};
 use cc_arg::Arg;
@@ -61,7 +62,6 @@ fn takes_all(has_children: bool, argument: &Arg) -> bool
     takes_rest(has_children, argument) && !argument.get_value_terminator().is_some()
 }
 
-#[tactic(auto, using(cc_base::proofs::WrittenTexts::after_bytes), unfolding(crate::specs::Positionals::positional_text, crate::specs::Script::fixed_texts))]
 fn write_positional<W: Sink>(
     sink: &mut W,
     has_children: bool,
@@ -101,9 +101,7 @@ fn write_rest<W: Sink>(sink: &mut W, terminator: Option<&str>) -> Result<(), Err
     let Some(terminator) = terminator else {
         return put_piece(sink, "*:");
     };
-    put_piece(sink, "*")?;
-    put_escaped(sink, &ZshValueEscape, terminator)?;
-    put_piece(sink, ":")
+    put_escaped_between(sink, "*", &ZshValueEscape, terminator, ":")
 }
 
 #[tactic(auto, using(cc_base::proofs::WrittenTexts::after_bytes), unfolding(crate::specs::Positionals::positional_escaped))]

@@ -6,6 +6,7 @@ ghost use Rattle.cc_base.specs.Joined.{separator};
 ghost use Rattle.cc_base.specs.Writes.{Writes, as_write};
 ghost use Rattle.cc_zsh.specs.Values.{first_name, hint_text, is_described, item_help, item_separator, item_text, items_text, list_text, one_value, range, times, value_text, values_text};
 
+use crate::escaped::put_escaped_between;
 use cc_arg::{Arg, PossibleValue, ValueHint, ValueRange, possible_values};
 use cc_base::{Sink, Text, put_around, put_piece, put_separator};
 use cc_quote::{ZshHelpEscape, ZshValueEscape, put_escaped};
@@ -90,13 +91,25 @@ fn write_list<W: Sink>(sink: &mut W, values: &[PossibleValue]) -> Result<(), Err
     ensures { Writes W.taken W.failed (as_write result) sink.old sink.new (list_text values.now) }
 {
     if is_any_described(values) {
-        put_piece(sink, "((")?;
-        write_items(sink, Form::Helps, values)?;
-        return put_piece(sink, "))");
+        return write_bracketed(sink, "((", Form::Helps, values, "))");
     }
-    put_piece(sink, "(")?;
-    write_items(sink, Form::Names, values)?;
-    put_piece(sink, ")")
+    write_bracketed(sink, "(", Form::Names, values, ")")
+}
+
+// Writes a list between its brackets.
+fn write_bracketed<W: Sink>(
+    sink: &mut W,
+    opening: &str,
+    form: Form,
+    values: &[PossibleValue],
+    closing: &str,
+) -> Result<(), ErrorKind>
+    ensures { Writes W.taken W.failed (as_write result) sink.old sink.new
+        (opening.now ++ items_text form values.now ++ closing.now) }
+{
+    put_piece(sink, opening)?;
+    write_items(sink, form, values)?;
+    put_piece(sink, closing)
 }
 
 // Returns whether a value is not hidden and has a help text.
@@ -156,9 +169,7 @@ fn item_separator(form: Form) -> &'static str
 fn write_help<W: Sink>(sink: &mut W, help: &str) -> Result<(), ErrorKind>
     ensures { Writes W.taken W.failed (as_write result) sink.old sink.new (item_help help.now) }
 {
-    put_piece(sink, "\\:\"")?;
-    put_escaped(sink, &ZshHelpEscape, help)?;
-    put_piece(sink, "\"")
+    put_escaped_between(sink, "\\:\"", &ZshHelpEscape, help, "\"")
 }
 
 #[tactic(auto, unfolding(crate::specs::Values::hint_text))]

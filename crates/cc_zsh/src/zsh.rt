@@ -11,7 +11,7 @@ use crate::functions::write_functions;
 use crate::texts::{
     AUTOLOADS, BODY_BEGINS, BODY_ENDS, COMPDEF_BEGINS, ELSE_DEFINE, IF_CALLED, IF_ENDS, THEN_CALL,
 };
-use cc_base::{Error, Sink, put_piece, put_pieces};
+use cc_base::{Error, Sink, put_pieces, put_text};
 use cc_command::{Command, full_name};
 use cc_generator::{Flat, Generator};
 use std::alloc::Global;
@@ -43,7 +43,6 @@ impl Generator for Zsh {
     }
 }
 
-#[tactic(auto, unfolding(crate::specs::Script::script_text, crate::specs::Script::fixed_texts))]
 fn write_script<W: Sink>(alloc: Global, sink: &mut W, flat: &Flat<'_>) -> Result<(), Error>
     requires { 0 < length flat.now }
     ensures { Writes W.taken W.failed result sink.old sink.new (zsh_script (tree_at flat.now 0)) }
@@ -51,7 +50,7 @@ fn write_script<W: Sink>(alloc: Global, sink: &mut W, flat: &Flat<'_>) -> Result
     let bin_name = full_name(flat.command(0));
     write_begin(sink, bin_name)?;
     write_root(alloc, sink, flat)?;
-    put_piece(sink, BODY_ENDS)?;
+    put_text(sink, BODY_ENDS)?;
     write_functions(alloc, sink, flat)?;
     Ok(write_end(sink, bin_name)?)
 }

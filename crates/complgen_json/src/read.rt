@@ -40,9 +40,11 @@ pub fn read_value<'t>(
     };
     let value = first(alloc, &mut reader)?;
     if reader.next().is_some() {
+        drop(value);
         return Err(JsonError::NotJson);
     }
     if !has_range(&value) {
+        drop(value);
         return Err(JsonError::NotJson);
     }
     Ok(value)

@@ -57,14 +57,23 @@ impl Found {
     pub(crate) fn note(&mut self, spot: Spot, key: Key, item: Option<usize>, kind: Kind) -> Added
         ensures { OnOk result (self.new ≡ self.old ++ finding spot key item kind ∷ []) }
     {
-        let place = Place {
-            command: spot_path(self.alloc, spot)?,
-            argument: spot_argument(spot),
-            key: Some(key),
-            item,
-        };
-        self.list.push(Warning { place, kind })?;
-        Ok(())
+        match spot_path(self.alloc, spot) {
+            Ok(command) => {
+                let place = Place {
+                    command,
+                    argument: spot_argument(spot),
+                    key: Some(key),
+                    item,
+                };
+                self.list.push(Warning { place, kind })?;
+                Ok(())
+            }
+            Err(error) => {
+                // One call here, instead of a drop of each variant.
+                drop(kind);
+                Err(error)
+            }
+        }
     }
 
     /// Adds a warning about `key` if `wrong` is true. Inlined, so that nothing is made if it is not.
@@ -73,6 +82,7 @@ impl Found {
         ensures { OnOk result (self.new ≡ self.old ++ when wrong (finding spot key None kind)) }
     {
         if !wrong {
+            drop(kind);
             return Ok(());
         }
         self.note(spot, key, None, kind)

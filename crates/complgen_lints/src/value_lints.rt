@@ -73,8 +73,7 @@ fn push_word(shown: &mut String, word: &str) -> Result<(), AllocError>
 {
     shown.push_str(" `")?;
     shown.push_str(word)?;
-    shown.push_str("`")?;
-    Ok(())
+    shown.push_str("`")
 }
 
 // Adds a warning if the program may run its arguments as code.

@@ -91,9 +91,17 @@ fn place_all(warnings: &mut Vec<Warning>, at: At<'_>, found: Found) -> Added
 fn placed(at: At<'_>, mut warning: Warning) -> Result<Warning, AllocError>
     ensures { IfOk result (λ there. there ≡ placed at.entry.path.now warning) }
 {
-    let path = path_below(at, warning.place.command.as_slice())?;
-    warning.place.command = Items::from(path);
-    Ok(warning)
+    match path_below(at, warning.place.command.as_slice()) {
+        Ok(path) => {
+            warning.place.command = Items::from(path);
+            Ok(warning)
+        }
+        Err(error) => {
+            // One call here, instead of a drop of each field and variant.
+            drop(warning);
+            Err(error)
+        }
+    }
 }
 
 // Returns the path of the command to which the steps `below` lead from the one at `at`.

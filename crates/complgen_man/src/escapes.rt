@@ -6,7 +6,7 @@ ghost use Rattle.cc_base.specs.Writes.{Writes, as_write};
 ghost use Rattle.complgen_man.specs.Page.{bold_text, further_bold, paragraph_text, request_text};
 ghost use Rattle.complgen_man.specs.Roff.{escaped_prose, escaped_word, is_control};
 
-use cc_base::{Sink, put_piece};
+use cc_base::{Sink, put_piece, put_pieces};
 use cc_quote::{ByteEscape, put_escaped};
 use std::io::ErrorKind;
 
@@ -82,8 +82,7 @@ fn put_prose<W: Sink>(sink: &mut W, text: &str) -> Result<(), ErrorKind>
 pub(crate) fn put_request<W: Sink>(sink: &mut W, text: &str) -> Result<(), ErrorKind>
     ensures { Writes W.taken W.failed (as_write result) sink.old sink.new (request_text text.now) }
 {
-    put_piece(sink, ".")?;
-    put_piece(sink, text)
+    put_pieces(sink, &[".", text])
 }
 
 /// Puts a name, or another text that is shown on one line, between two texts.

@@ -10,7 +10,7 @@ ghost use Rattle.complgen_man.specs.Page.{value_text, values_text, where_true};
 
 use crate::escapes::put_word_between;
 use cc_arg::{Arg, ArgAction, ShownName, counted_range, shown_names};
-use cc_base::{Sink, Text, put_piece, put_separator};
+use cc_base::{Sink, Text, put_piece, put_pieces, put_separator};
 use std::io::ErrorKind;
 
 /// Writes the values of a positional, or the names of an option or a flag and its values if it
@@ -92,8 +92,8 @@ fn write_values<W: Sink>(sink: &mut W, argument: &Arg) -> Result<(), ErrorKind>
     let optional = may_be_left_out(argument);
     put_piece(sink, where_true(optional, "["))?;
     write_value_names(sink, argument.get_id(), argument.get_value_names())?;
-    put_piece(sink, where_true(may_take_more(argument), "..."))?;
-    put_piece(sink, where_true(optional, "]"))
+    let more = where_true(may_take_more(argument), "...");
+    put_pieces(sink, &[more, where_true(optional, "]")])
 }
 
 // Returns the text if the test holds, and an empty one otherwise.

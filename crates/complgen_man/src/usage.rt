@@ -15,7 +15,7 @@ use crate::arguments::{is_shown_option, is_shown_positional};
 use crate::escapes::{put_request, write_bold, write_further_bold, write_paragraph};
 use crate::labels::write_spaced_values;
 use cc_arg::Arg;
-use cc_base::{Sink, Text, put_piece};
+use cc_base::{Sink, Text, put_piece, put_pieces};
 use cc_command::{Command, full_name};
 use std::io::ErrorKind;
 
@@ -37,8 +37,7 @@ fn write_synopsis<W: Sink>(sink: &mut W, command: &Command) -> Result<(), ErrorK
     write_bold(sink, full_name(command))?;
     put_piece(sink, options_mark(command.get_arguments()))?;
     write_positionals(sink, command.get_arguments())?;
-    put_piece(sink, command_mark(command))?;
-    put_piece(sink, "\n")
+    put_pieces(sink, &[command_mark(command), "\n"])
 }
 
 // Returns what represents the options and flags that are not hidden, if there are any.

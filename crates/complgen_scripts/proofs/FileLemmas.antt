@@ -11,7 +11,8 @@ use Rattle.cc_base.specs.declared.error.Error.TheVariants.{Memory, Write}
 use Rattle.cc_base.specs.declared.failures.Failures.{Failures}
 use Rattle.cc_command.specs.Built.{built_under}
 use Rattle.cc_command.specs.Tree.{Tree}
-use Rattle.cc_generator.proofs.Stopped.{part_first, part_later}
+use Rattle.cc_base.proofs.Stopped.{part_first}
+use Rattle.cc_base.proofs.WrittenTexts.{part_later}
 use Rattle.cc_shell.specs.Files.{EndsFile as EndsGenerated}
 use Rattle.cc_command.proofs.PlainBuilt.{plain_built_under}
 use Rattle.cc_command.specs.Plain.{is_plain_tree}

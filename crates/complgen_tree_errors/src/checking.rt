@@ -74,12 +74,25 @@ fn check_text<'t>(
 fn check_value<'t>(alloc: Global, mut source: Source<'t>) -> Result<Checked<'t>, AllocError>
     ensures { IfOk result (λ checked. ChecksValue (value_view source.entry.value) checked) }
 {
-    match command_or_faults(alloc, &source.value)? {
-        Ok(command) => {
-            let doubles = hidden_members(alloc, &mut source)?;
-            Ok(Checked::Tree(command, doubles, source))
+    match command_or_faults(alloc, &source.value) {
+        Ok(Ok(command)) => match hidden_members(alloc, &mut source) {
+            Ok(doubles) => Ok(Checked::Tree(command, doubles, source)),
+            Err(error) => {
+                // One call here, instead of a drop of each field.
+                drop(command);
+                drop(source);
+                Err(error)
+            }
+        },
+        Ok(Err(faults)) => {
+            let errors = placed(alloc, &mut source, faults);
+            drop(source);
+            Ok(Checked::Errors(errors?))
         }
-        Err(faults) => Ok(Checked::Errors(placed(alloc, &mut source, faults)?)),
+        Err(error) => {
+            drop(source);
+            Err(error)
+        }
     }
 }
 
@@ -98,7 +111,10 @@ pub(crate) fn placed_errors(
     ensures errors { IfOk result (λ errors. All IsError (map shown errors.items)) }
 {
     match command_or_faults(alloc, &source.value)? {
-        Ok(_) => Ok(Vec::new(alloc)),
+        Ok(command) => {
+            drop(command);
+            Ok(Vec::new(alloc))
+        }
         Err(faults) => placed(alloc, source, faults),
     }
 }

@@ -82,13 +82,17 @@ fn after_value(
 {
     let offset = reader.offset().min(source.text.len());
     if reader.next().is_some() {
+        // One call here, instead of a drop of each field.
+        drop(source);
         return one_error(
             alloc,
             offset,
             "not JSON: there is more text after the value",
         );
     }
-    range_error(alloc, &mut source)
+    let errors = range_error(alloc, &mut source);
+    drop(source);
+    errors
 }
 
 // Finds the first number out of range, unless the value has other errors. If it has none, the

@@ -119,8 +119,7 @@ fn push_step(
         }
         Step::Item(index) => {
             let part = format!(in alloc; "[{index}]")?;
-            shown.push_str(part.as_str())?;
-            Ok(())
+            shown.push_str(part.as_str())
         }
     }
 }

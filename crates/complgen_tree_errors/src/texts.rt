@@ -76,20 +76,26 @@ fn value_at<'v, 't>(whole: &'v Value<'t>, path: &[Step<'_>]) -> Option<&'v Value
 // Returns a value in words.
 fn found_text(alloc: Global, value: Option<&Value<'_>>) -> Result<String, AllocError> {
     let mut found = String::new(alloc);
-    match value {
-        Some(Value::String(text)) => {
-            found.push_str("\"")?;
-            push_shown(&mut found, *text)?;
-            found.push_str("\"")?;
-        }
-        Some(Value::Number(text)) => push_shown(&mut found, *text)?,
-        Some(Value::Bool(true)) => found.push_str("true")?,
-        Some(Value::Bool(false)) => found.push_str("false")?,
-        Some(Value::Array(_)) => found.push_str("a list")?,
-        Some(Value::Object(_)) => found.push_str("an object")?,
-        Some(Value::Null) | None => found.push_str("null")?,
-    }
+    push_found(&mut found, value)?;
     Ok(found)
+}
+
+fn push_found(found: &mut String, value: Option<&Value<'_>>) -> Result<(), AllocError> {
+    match value {
+        Some(Value::String(text)) => push_quoted(found, *text),
+        Some(Value::Number(text)) => push_shown(found, *text),
+        Some(Value::Bool(true)) => found.push_str("true"),
+        Some(Value::Bool(false)) => found.push_str("false"),
+        Some(Value::Array(_)) => found.push_str("a list"),
+        Some(Value::Object(_)) => found.push_str("an object"),
+        Some(Value::Null) | None => found.push_str("null"),
+    }
+}
+
+fn push_quoted(found: &mut String, text: &str) -> Result<(), AllocError> {
+    found.push_str("\"")?;
+    push_shown(found, text)?;
+    found.push_str("\"")
 }
 
 // Returns the message about a value at `key` that is not of `kind`.
@@ -258,13 +264,17 @@ fn push_suggestion(
     key: &str,
 ) -> Result<(), AllocError> {
     if let Some((here, hint)) = key_here(keys, key) {
-        text.push_str("; write ")?;
-        text.push_str(here)?;
-        text.push_str(hint)?;
-    } else if let Some(index) = nearest(alloc, key, keys)? {
-        text.push_str("; did you mean `")?;
-        text.push_str(keys[index])?;
-        text.push_str("`?")?;
+        return push_each(text, &["; write ", here, hint]);
+    }
+    match nearest(alloc, key, keys)? {
+        Some(index) => push_each(text, &["; did you mean `", keys[index], "`?"]),
+        None => Ok(()),
+    }
+}
+
+fn push_each(text: &mut String, parts: &[&str]) -> Result<(), AllocError> {
+    for part in parts {
+        text.push_str(*part)?;
     }
     Ok(())
 }

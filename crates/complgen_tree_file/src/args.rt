@@ -76,8 +76,14 @@ pub fn arg<'t>(faults: &mut Faults<'t>, tree: &Value<'t>) -> Result<Arg, AllocEr
     let has_only_keys = find_values(&mut slots, tree);
     let id = read_id(faults, tree, &slots, has_only_keys)?;
     let mut parts = ArgParts::new(faults.allocator(), id);
-    set_rest(&mut parts, faults, tree, &slots)?;
-    Ok(Arg::from(parts))
+    match set_rest(&mut parts, faults, tree, &slots) {
+        Ok(()) => Ok(Arg::from(parts)),
+        Err(error) => {
+            // One call here, instead of a drop of each field.
+            drop(parts);
+            Err(error)
+        }
+    }
 }
 
 // Puts the values at the keys of an argument into their slots. Returns whether `tree` is an object

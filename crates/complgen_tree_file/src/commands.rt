@@ -73,10 +73,14 @@ pub fn read_command<'t>(faults: &mut Faults<'t>, tree: &Value<'t>) -> Result<Com
     let Some(value) = children(tree, &slots) else {
         return Ok(command);
     };
-    let before = faults.count();
-    add_children(&mut command, faults, value)?;
-    faults.put_before(before, Step::Key("subcommands"))?;
-    Ok(command)
+    match add_children(&mut command, faults, value) {
+        Ok(()) => Ok(command),
+        Err(error) => {
+            // One call here, instead of a drop of each field.
+            drop(command);
+            Err(error)
+        }
+    }
 }
 
 // Returns the value that describes the children.
@@ -90,7 +94,7 @@ fn children<'v, 't>(
     slots[19]
 }
 
-// Adds the children that a list describes, each as it is read.
+// Adds the children that the list at `subcommands` describes, each as it is read.
 #[cycle(commands)]
 fn add_children<'t>(
     parent: &mut Command,
@@ -101,8 +105,10 @@ fn add_children<'t>(
         (fold with_child parent.old (form.commands_in (view value.now)))
         (form.commands_fit (view value.now)) parent.new faults.old faults.new) }
 {
+    let before_all = faults.count();
     let Some(items) = complgen_json::items(value) else {
-        return faults.note(FaultKind::NoList(ValueKind::Object(ObjectKind::Command)));
+        let kind = FaultKind::NoList(ValueKind::Object(ObjectKind::Command));
+        return faults.note_at(Step::Key("subcommands"), kind);
     };
     // Building may add the child `help`.
     reserve_children(parent, items.len().saturating_add(1))?;
@@ -111,7 +117,7 @@ fn add_children<'t>(
         add_child(parent, read_command(faults, item)?)?;
         faults.put_before(before, Step::Item(index))?;
     }
-    Ok(())
+    faults.put_before(before_all, Step::Key("subcommands"))
 }
 
 // Puts the values at the keys of a command into their slots. Returns whether `tree` is an object
@@ -140,8 +146,13 @@ fn own<'t>(
 {
     let name = needed_text(faults, tree, slots[0], has_only_keys, ObjectKind::Command)?;
     let mut node = Node::new(faults.allocator(), name);
-    set_rest(&mut node, faults, tree, slots)?;
-    Ok(node)
+    match set_rest(&mut node, faults, tree, slots) {
+        Ok(()) => Ok(node),
+        Err(error) => {
+            drop(node);
+            Err(error)
+        }
+    }
 }
 
 // Sets the fields of the keys other than the name and the children.

@@ -47,9 +47,15 @@ fn read_text(alloc: Global, text: &str) -> Result<Command, TreeError>
 {
     let mut scratch = Scratch::new(alloc);
     let tree = value(alloc, text, &mut scratch)?;
-    match command_or_faults(alloc, &tree)? {
+    let found = command_or_faults(alloc, &tree);
+    // One call here, instead of a drop of each field at each return.
+    drop(tree);
+    match found? {
         Ok(command) => Ok(command),
-        Err(_) => Err(TreeError::BadForm),
+        Err(faults) => {
+            drop(faults);
+            Err(TreeError::BadForm)
+        }
     }
 }
 
@@ -70,6 +76,7 @@ pub fn command_or_faults<'t>(
     if faults.is_empty() {
         Ok(Ok(command))
     } else {
+        drop(command);
         Ok(Err(faults))
     }
 }

@@ -31,6 +31,8 @@ impl FromValue for PossibleValue {
         if own.is_empty() {
             return Ok(Some(found));
         }
+        // One call here, instead of a drop of each field.
+        drop(found);
         faults.append(own)?;
         Ok(None)
     }
@@ -82,9 +84,13 @@ fn with_help<'t>(
         (λ before. before && fits_at (codes "help") as_str (view tree.now)) shown
         faults.old faults.new) }
 {
-    match at::<Text>(faults, tree, "help")? {
-        Some(help) => Ok(value.help(help.into_string())),
-        None => Ok(value),
+    match at::<Text>(faults, tree, "help") {
+        Ok(Some(help)) => Ok(value.help(help.into_string())),
+        Ok(None) => Ok(value),
+        Err(error) => {
+            drop(value);
+            Err(error)
+        }
     }
 }
 
@@ -97,8 +103,12 @@ fn with_hide<'t>(
         (λ before. before && fits_at (codes "hide") as_bool (view tree.now)) shown
         faults.old faults.new) }
 {
-    match at::<bool>(faults, tree, "hide")? {
-        Some(hide) => Ok(value.hide(hide)),
-        None => Ok(value),
+    match at::<bool>(faults, tree, "hide") {
+        Ok(Some(hide)) => Ok(value.hide(hide)),
+        Ok(None) => Ok(value),
+        Err(error) => {
+            drop(value);
+            Err(error)
+        }
     }
 }

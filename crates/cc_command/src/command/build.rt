@@ -85,8 +85,7 @@ impl Command {
         let name = Text::copy_of(alloc, self.full_name_with(&addition))?;
         let globals = self.globals_with(alloc, &addition)?;
         additions.push(addition)?;
-        push_additions_to(&self.children, additions, alloc, &globals, name.as_str())?;
-        Ok(())
+        push_additions_to(&self.children, additions, alloc, &globals, name.as_str())
     }
 
     // Returns the full name of the command under its new bin name.

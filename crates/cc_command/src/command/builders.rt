@@ -1,6 +1,7 @@
 //! The builders that add an argument or a child to a command.
 
-ghost use Rattle.std.specs.Prelude.{◌≡◌, ◌++◌, ◌∷◌, [], fold, IfOk, IfErr, OnOk, OnErr, false};
+ghost use Rattle.std.specs.Prelude.{◌≡◌, ◌++◌, ◌∷◌, [], fold, IfOk, IfErr, OnOk, OnErr};
+ghost use Rattle.std.specs.Prelude.{false, is_ok};
 ghost use Rattle.cc_command.specs.Made.{ordered_node, with_argument, with_child};
 ghost use Rattle.cc_command.specs.Made.{order_after, order_after_child};
 ghost use Rattle.cc_command.specs.Made.{ordered_arguments, ordered_children};
@@ -25,7 +26,7 @@ impl Command {
         ensures memory { IfErr result (λ error. error ≡ Error.Memory) }
     {
         let added = add_argument(&mut self.node, argument);
-        Ok(added.map(|()| self)?)
+        if_added(added, self)
     }
 
     /// Adds a child. It advances the counter of display orders of the command, and gets its number
@@ -39,14 +40,33 @@ impl Command {
         ensures memory { IfErr result (λ error. error ≡ Error.Memory) }
     {
         let added = add_child(&mut self, child);
-        Ok(added.map(|()| self)?)
+        if_added(added, self)
     }
 
     // Sets the display order if none is set. A built command stays built.
     fn fill_display_order(&mut self, order: usize)
         ensures { self.new ≡ record self.old { node = ordered_node order self.old.node } }
     {
-        self.node.display_order = Some(self.node.display_order.unwrap_or(order));
+        let filled = match self.node.display_order {
+            Some(given) => given,
+            None => order,
+        };
+        self.node.display_order = Some(filled);
+    }
+}
+
+// Returns the command if the addition to one of its lists succeeded. Otherwise drops it.
+pub(super) fn if_added<E: Drop>(added: Result<(), E>, command: Command) -> Result<Command, Error>
+    ensures same { is_ok result ≡ is_ok added }
+    ensures ok { IfOk result (λ kept. kept ≡ command) }
+    ensures memory { IfErr result (λ error. error ≡ Error.Memory) }
+{
+    match added {
+        Ok(()) => Ok(command),
+        Err(_) => {
+            drop(command);
+            Err(Error::Memory)
+        }
     }
 }
 
@@ -166,8 +186,12 @@ fn push_child(children: &mut Vec<Command>, child: Command) -> Result<(), AllocEr
     ensures ok { OnOk result (children.new.items ≡ children.old.items ++ child ∷ []) }
     ensures err { OnErr result (children.new.items ≡ children.old.items) }
 {
-    if children.is_empty() {
-        children.reserve_exact(1)?;
+    if children.is_empty()
+        && let Err(error) = children.reserve_exact(1)
+    {
+        // One call here, instead of a drop of each field.
+        drop(child);
+        return Err(error);
     }
     children.push(child)?;
     Ok(())

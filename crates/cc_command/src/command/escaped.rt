@@ -48,7 +48,12 @@ fn is_escaped_forest(siblings: &[Command]) -> bool
 fn are_escaped_arguments(arguments: &[Arg]) -> bool
     ensures { result ≡ list_all is_escaped_argument arguments.now }
 {
-    arguments.iter().all(is_escaped_argument)
+    for argument in arguments {
+        if !is_escaped_argument(argument) {
+            return false;
+        }
+    }
+    true
 }
 
 fn is_escaped_argument(argument: &Arg) -> bool

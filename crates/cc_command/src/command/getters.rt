@@ -101,5 +101,10 @@ pub fn full_name(command: &Command) -> &str
 pub fn contains_name(names: &[Text], word: &str) -> bool
     ensures { result ≡ contains_name names.now word.now }
 {
-    names.iter().any(|name| name.as_str() == word)
+    for name in names {
+        if name.as_str() == word {
+            return true;
+        }
+    }
+    false
 }

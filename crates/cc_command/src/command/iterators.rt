@@ -64,7 +64,7 @@ impl<'a> Iterator for Arguments<'a> {
     ghost remaining = { item_count arguments_left };
 
     fn next(&mut self) -> Option<&'a Arg> {
-        while let Some((first, others)) = self.arguments.split_first() {
+        while let [first, others @ ..] = self.arguments {
             self.arguments = others;
             if is_of_kind(self.kind, first) {
                 return Some(first);
@@ -110,7 +110,9 @@ impl<'a> Iterator for NameAndVisibleAliases<'a> {
         if let Some(name) = self.name.take() {
             return Some(name);
         }
-        let (first, others) = self.visible_aliases.split_first()?;
+        let [first, others @ ..] = self.visible_aliases else {
+            return None;
+        };
         self.visible_aliases = others;
         Some(first.as_str())
     }

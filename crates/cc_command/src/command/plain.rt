@@ -93,7 +93,12 @@ fn none_has_name(siblings: &[Command], names: &[Text]) -> bool
     ensures { result
         ≡ list_all (λ name. not (has_child (forest_of siblings.now) name)) names.now }
 {
-    names.iter().all(|name| !has_child(siblings, name.as_str()))
+    for name in names {
+        if has_child(siblings, name.as_str()) {
+            return false;
+        }
+    }
+    true
 }
 
 fn all_differ(names: &[Text]) -> bool
@@ -117,9 +122,12 @@ fn all_differ_together(names: &[Text], others: &[Text]) -> bool
 fn is_apart(names: &[Text], others: &[Text]) -> bool
     ensures { result ≡ list_all (λ name. not (contains_name others.now name)) names.now }
 {
-    names
-        .iter()
-        .all(|name| !contains_name(others, name.as_str()))
+    for name in names {
+        if contains_name(others, name.as_str()) {
+            return false;
+        }
+    }
+    true
 }
 
 fn is_plain_node(node: &Node) -> bool
@@ -134,7 +142,12 @@ fn is_plain_node(node: &Node) -> bool
 fn are_plain_arguments(arguments: &[Arg]) -> bool
     ensures { result ≡ list_all is_plain_argument arguments.now }
 {
-    arguments.iter().all(is_plain_argument)
+    for argument in arguments {
+        if !is_plain_argument(argument) {
+            return false;
+        }
+    }
+    true
 }
 
 fn is_plain_argument(argument: &Arg) -> bool
@@ -153,35 +166,63 @@ fn has_plain_shorts(argument: &Arg) -> bool
         && (list_all is_ascii_alphanumeric argument.now.visible_short_aliases
         && list_all is_ascii_alphanumeric argument.now.short_aliases)) }
 {
-    let short = argument.get_short();
-    short.is_none_or(|short| short.is_ascii_alphanumeric())
+    is_alphanumeric_if_some(argument.get_short())
         && are_alphanumeric(argument.get_visible_short_aliases())
         && are_alphanumeric(argument.get_short_aliases())
+}
+
+fn is_alphanumeric_if_some(short: Option<char>) -> bool
+    ensures { result ≡ passes_if_some is_ascii_alphanumeric short }
+{
+    match short {
+        Some(short) => short.is_ascii_alphanumeric(),
+        None => true,
+    }
 }
 
 fn are_alphanumeric(shorts: &[char]) -> bool
     ensures { result ≡ list_all is_ascii_alphanumeric shorts.now }
 {
-    shorts.iter().all(|short| short.is_ascii_alphanumeric())
+    for short in shorts {
+        if !short.is_ascii_alphanumeric() {
+            return false;
+        }
+    }
+    true
 }
 
 /// Returns whether `text` holds no `'`.
 pub fn has_no_quote(text: &str) -> bool
     ensures { result ≡ has_no_quote text.now }
 {
-    text.as_bytes().iter().all(|byte| *byte != b'\'')
+    for byte in text.as_bytes() {
+        if *byte == b'\'' {
+            return false;
+        }
+    }
+    true
 }
 
 fn have_no_quote(texts: &[Text]) -> bool
     ensures { result ≡ list_all has_no_quote texts.now }
 {
-    texts.iter().all(|text| has_no_quote(text.as_str()))
+    for text in texts {
+        if !has_no_quote(text.as_str()) {
+            return false;
+        }
+    }
+    true
 }
 
 fn are_plain_names(names: &[Text]) -> bool
     ensures { result ≡ list_all is_plain_name names.now }
 {
-    names.iter().all(|name| is_plain_name(name.as_str()))
+    for name in names {
+        if !is_plain_name(name.as_str()) {
+            return false;
+        }
+    }
+    true
 }
 
 fn is_plain_if_some(name: Option<&str>) -> bool

@@ -41,7 +41,12 @@ fn is_quiet_forest(siblings: &[Command]) -> bool
 fn is_quiet_node(node: &Node) -> bool
     ensures { result ≡ is_quiet_node node.now }
 {
-    node.arguments.as_slice().iter().all(is_quiet_argument)
+    for argument in node.arguments.as_slice() {
+        if !is_quiet_argument(argument) {
+            return false;
+        }
+    }
+    true
 }
 
 fn is_quiet_argument(argument: &Arg) -> bool
@@ -56,7 +61,12 @@ fn is_quiet_argument(argument: &Arg) -> bool
 fn are_quiet_values(values: &[PossibleValue]) -> bool
     ensures { result ≡ list_all (λ value. is_quiet_value value.name) values.now }
 {
-    values.iter().all(|value| is_quiet_value(value.get_name()))
+    for value in values {
+        if !is_quiet_value(value.get_name()) {
+            return false;
+        }
+    }
+    true
 }
 
 /// Returns whether a possible value of this name is quiet: it is not empty, and consists of ASCII
@@ -71,7 +81,12 @@ pub fn is_quiet_value(name: &str) -> bool
 fn are_quiet_bytes(bytes: &[u8]) -> bool
     ensures { result ≡ list_all is_quiet_byte bytes.now }
 {
-    bytes.iter().all(|byte| is_quiet_byte(*byte))
+    for byte in bytes {
+        if !is_quiet_byte(*byte) {
+            return false;
+        }
+    }
+    true
 }
 
 fn is_quiet_byte(byte: u8) -> bool

@@ -6,6 +6,7 @@ ghost use Rattle.std.specs.String.{string_bytes};
 ghost use Rattle.cc_command.specs.Made.{with_root};
 
 use crate::command::Command;
+use crate::command::builders::if_added;
 use cc_base::{Error, SubcommandCandidates, Text};
 
 impl Command {
@@ -24,7 +25,7 @@ impl Command {
             ≡ with_root (λ node. record node { bin_name = Some (string_bytes name) }) self.old }
     {
         self.node.built = false;
-        self.node.bin_name = Some(Text::from(name));
+        set_text(&mut self.node.bin_name, name);
     }
 
     /// Returns the bin name, by which users call the program. In a built command, the bin name of
@@ -32,7 +33,7 @@ impl Command {
     pub fn get_bin_name(&self) -> Option<&str>
         ensures { option_copied result ≡ self.now.node.bin_name }
     {
-        self.node.bin_name.as_ref().map(|name| name.as_str())
+        text_of(&self.node.bin_name)
     }
 
     /// Sets the description.
@@ -41,7 +42,7 @@ impl Command {
             ≡ with_root (λ node. record node { about = Some (string_bytes about) }) self }
     {
         self.node.built = false;
-        self.node.about = Some(Text::from(about));
+        set_text(&mut self.node.about, about);
         self
     }
 
@@ -49,7 +50,7 @@ impl Command {
     pub fn get_about(&self) -> Option<&str>
         ensures { option_copied result ≡ self.now.node.about }
     {
-        self.node.about.as_ref().map(|about| about.as_str())
+        text_of(&self.node.about)
     }
 
     /// Sets the description in a parser's long help, instead of `about`. Scripts and candidates do
@@ -59,7 +60,7 @@ impl Command {
             ≡ with_root (λ node. record node { long_about = Some (string_bytes about) }) self }
     {
         self.node.built = false;
-        self.node.long_about = Some(Text::from(about));
+        set_text(&mut self.node.long_about, about);
         self
     }
 
@@ -67,7 +68,7 @@ impl Command {
     pub fn get_long_about(&self) -> Option<&str>
         ensures { option_copied result ≡ self.now.node.long_about }
     {
-        self.node.long_about.as_ref().map(|about| about.as_str())
+        text_of(&self.node.long_about)
     }
 
     /// Sets the text at the end of a parser's help. Scripts and candidates do not change.
@@ -76,7 +77,7 @@ impl Command {
             ≡ with_root (λ node. record node { after_help = Some (string_bytes text) }) self }
     {
         self.node.built = false;
-        self.node.after_help = Some(Text::from(text));
+        set_text(&mut self.node.after_help, text);
         self
     }
 
@@ -84,7 +85,7 @@ impl Command {
     pub fn get_after_help(&self) -> Option<&str>
         ensures { option_copied result ≡ self.now.node.after_help }
     {
-        self.node.after_help.as_ref().map(|text| text.as_str())
+        text_of(&self.node.after_help)
     }
 
     /// Sets the version, which the flag `--version` shows.
@@ -93,7 +94,7 @@ impl Command {
             ≡ with_root (λ node. record node { version = Some (string_bytes version) }) self }
     {
         self.node.built = false;
-        self.node.version = Some(Text::from(version));
+        set_text(&mut self.node.version, version);
         self
     }
 
@@ -101,7 +102,7 @@ impl Command {
     pub fn get_version(&self) -> Option<&str>
         ensures { option_copied result ≡ self.now.node.version }
     {
-        self.node.version.as_ref().map(|version| version.as_str())
+        text_of(&self.node.version)
     }
 
     /// Adds a visible alias.
@@ -117,7 +118,7 @@ impl Command {
     {
         self.node.built = false;
         let added = self.node.visible_aliases.push(Text::from(alias));
-        Ok(added.map(|()| self)?)
+        if_added(added, self)
     }
 
     /// Returns the visible aliases.
@@ -139,7 +140,7 @@ impl Command {
     {
         self.node.built = false;
         let added = self.node.aliases.push(Text::from(alias));
-        Ok(added.map(|()| self)?)
+        if_added(added, self)
     }
 
     /// Returns the hidden aliases, which a parser accepts.
@@ -155,7 +156,7 @@ impl Command {
             (λ node. record node { subcommand_help_heading = Some (string_bytes heading) }) self }
     {
         self.node.built = false;
-        self.node.subcommand_help_heading = Some(Text::from(heading));
+        set_text(&mut self.node.subcommand_help_heading, heading);
         self
     }
 
@@ -163,10 +164,7 @@ impl Command {
     pub fn get_subcommand_help_heading(&self) -> Option<&str>
         ensures { option_copied result ≡ self.now.node.subcommand_help_heading }
     {
-        self.node
-            .subcommand_help_heading
-            .as_ref()
-            .map(|heading| heading.as_str())
+        text_of(&self.node.subcommand_help_heading)
     }
 
     /// Sets the display order among siblings, which sorts the candidates of live completion.
@@ -315,4 +313,18 @@ impl Command {
     {
         self.node.candidates
     }
+}
+
+// Sets the text of a field.
+fn set_text(field: &mut Option<Text>, text: String)
+    ensures { field.new ≡ Some (string_bytes text) }
+{
+    *field = Some(Text::from(text));
+}
+
+// Returns the text of a field, if it is set.
+fn text_of(field: &Option<Text>) -> Option<&str>
+    ensures { option_copied result ≡ field.now }
+{
+    field.as_ref().map(Text::as_str)
 }

@@ -13,14 +13,12 @@ pub returns-in_default : goal.returns-in_default
 returns-in_default g c =
     unrequested _ _ _ _ _ c.in_ok-answer.field-0 c.in_ok-answer.ensures c.in_default.not-Some refl
 
-pub returns-in_err-write_answer : goal.returns-in_err-write_answer
-returns-in_err-write_answer g c =
-    let p = err_from_is_err_and c.from_residual-in_err-write_answer.result c.from_residual-in_err-write_answer.ensures.1 in
-    rw (p.1, p.2) (unwritten _ _ _ _ _ c.in_ok-answer.field-0 c.in_ok-answer.ensures
-    c.in-Some.answer _ c.in-Some.is c.in_err-write_answer.ensures.written
-    c.in_err-write_answer.ensures.write_only)
+pub returns-in-Err : goal.returns-in-Err
+returns-in-Err g c =
+    unwritten _ _ _ _ _ c.in_ok-answer.field-0 c.in_ok-answer.ensures
+    c.in-Some.answer _ c.in-Some.is c.in-Err.ensures.written c.in-Err.ensures.write_only
 
-pub returns : goal.returns
-returns g c =
+pub returns-in-Ok : goal.returns-in-Ok
+returns-in-Ok g c =
     written_whole _ _ _ _ _ c.in_ok-answer.field-0 c.in_ok-answer.ensures c.in-Some.answer _ _
-    c.in-Some.is c.status.ensures c.in_ok-write_answer.ensures.written
+    c.in-Some.is c.status-status.ensures c.in-Ok.ensures.written

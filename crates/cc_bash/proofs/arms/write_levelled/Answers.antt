@@ -3,7 +3,7 @@ use Rattle.cc_arg.specs.declared.parts.ArgParts.{ArgParts as Arg}
 use Rattle.cc_base.proofs.WrittenTexts.{writes_same, writes_then}
 use Rattle.cc_command.specs.ArgumentLists.{options}
 use Rattle.cc_command.specs.Iterators.{arguments_left}
-use Rattle.cc_generator.proofs.Stopped.{put_stopped, stops_before}
+use Rattle.cc_base.proofs.Stopped.{put_stopped, stops_before}
 use Rattle.cc_bash.specs.Texts.{arm_begins, arm_details, arm_level, arm_words, fixed_texts}
 use Rattle.cc_bash.specs.declared.texts.TheConstants.{ARM_BEGINS, ARM_DETAILS, ARM_LEVEL, ARM_WORDS}
 use Rattle.cc_bash.proofs.ArmTexts.{arm_parts}

@@ -1,6 +1,6 @@
 use Rattle.std.proofs.Common.{◌≡◌, ◌++◌, ℕ, List, refl}
 use Rattle.cc_base.proofs.WrittenTexts.{writes_same, writes_then}
-use Rattle.cc_generator.proofs.Stopped.{put_stopped, stops_before}
+use Rattle.cc_base.proofs.Stopped.{put_stopped, stops_before}
 use Rattle.cc_bash.specs.Script.{detail_text}
 use Rattle.cc_bash.specs.Texts.{detail_begins, detail_word_ends, fixed_texts}
 use Rattle.cc_bash.specs.declared.texts.TheConstants.{DETAIL_BEGINS, DETAIL_WORD_ENDS}

@@ -1,6 +1,6 @@
 use Rattle.std.proofs.Common.{◌≡◌, ◌+◌, drop, flat_map, map, refl, string_bytes}
 use Rattle.cc_base.proofs.WrittenTexts.{writes_same}
-use Rattle.cc_generator.proofs.Stopped.{as_stopped, stops_at}
+use Rattle.cc_base.proofs.Stopped.{as_stopped, stops_at}
 use Rattle.cc_caller.specs.WordList.{line}
 use Rattle.cc_caller.proofs.word_list.write_lines.Goals as goal
 

@@ -1,5 +1,6 @@
-use Rattle.std.proofs.Common.{◌≡◌, ◌+◌, List, [], ◌∷◌, ◌++◌, Some, length, take, ap, ◌∙◌, subst, sym, arith, rules}
+use Rattle.std.proofs.Common.{◌≡◌, ◌+◌, OnOk, List, [], ◌∷◌, ◌++◌, Some, length, take, ap, ◌∙◌, subst, sym, arith, rules}
 use Rattle.std.proofs.lemmas.List.{take_more, take_all}
+use Rattle.std.proofs.lemmas.Result.{on_ok_weaker}
 use Rattle.cc_command.specs.Tree.{Tree, forest_of, none}
 use Rattle.cc_command.specs.Names.{full_name, joined_name}
 use Rattle.cc_command.specs.Built.{globals}
@@ -21,10 +22,12 @@ Command::push_additions-returns t c =
     let own : IsAddition c.args.inherited.now c.args.bin_name tree.node tree.children c.in_ok-addition.addition = search rules in
     let passes : c.in_ok-globals.globals.items ≡ globals (tree.node.arguments ++ c.in_ok-addition.addition.arguments.items) = search rules in
     let named : c.in_ok-name.name ≡ full_name (record tree.node { bin_name = c.in_ok-addition.addition.bin_name }) = search rules in
-    let below : AreAfter c.in_ok-globals.globals.items c.in_ok-name.name tree.children c.push-2.new.self.items c.push_additions_to.new.additions.items = search rules in
+    let below : OnOk c.push_additions_to.result (AreAfter c.in_ok-globals.globals.items c.in_ok-name.name tree.children c.push-2.new.self.items c.push_additions_to.new.additions.items) = search rules in
     record {
-      ok = AreOfTreeAfter-of c.args.inherited.now c.args.bin_name tree c.in_ok-addition.addition c.args.additions.now.items c.push-2.new.self.items c.push_additions_to.new.additions.items
-          c.in_ok-globals.globals.items c.in_ok-name.name own passes named c.in_ok-push-2.ensures.items below;
+      ok = on_ok_weaker c.push_additions_to.result
+          (AreOfTreeAfter-of c.args.inherited.now c.args.bin_name tree c.in_ok-addition.addition c.args.additions.now.items c.push-2.new.self.items c.push_additions_to.new.additions.items
+          c.in_ok-globals.globals.items c.in_ok-name.name own passes named c.in_ok-push-2.ensures.items)
+          below;
     }
 
 pub build::push_additions_to-loop-sibling-init : goal.build::push_additions_to-loop-sibling-init

@@ -65,8 +65,7 @@ fn missing_children(
     if !needs_help_child(node, children) {
         return Ok(Vec::new(alloc));
     }
-    let help = help_command(children, alloc, name)?;
     let mut added = Vec::with_capacity(alloc, children.len() + 1)?;
-    added.push(help)?;
+    added.push(help_command(children, alloc, name)?)?;
     Ok(added)
 }

@@ -152,7 +152,12 @@ fn push_copy_if_missing(
 pub fn has_id(arguments: &[Arg], id: &str) -> bool
     ensures { result ≡ has_id arguments.now id.now }
 {
-    arguments.iter().any(|argument| argument.get_id() == id)
+    for argument in arguments {
+        if argument.get_id() == id {
+            return true;
+        }
+    }
+    false
 }
 
 // Sets the range and the action of each argument, and the index of each positional that has none.

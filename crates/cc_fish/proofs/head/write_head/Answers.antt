@@ -1,7 +1,7 @@
 use Rattle.std.proofs.Common.{◌≡◌, ◌++◌, ℕ, List, refl, true, rules}
 use Rattle.cc_base.proofs.WrittenTexts.{writes_same, writes_then}
 use Rattle.cc_command.specs.Tree.{has_nodes}
-use Rattle.cc_generator.proofs.Stopped.{put_stopped, stops_before}
+use Rattle.cc_base.proofs.Stopped.{put_stopped, stops_before}
 use Rattle.cc_fish.specs.declared.texts.TheConstants.{OPTSPECS_BEGIN, OPTSPECS_JOIN}
 use Rattle.cc_fish.specs.Script.{optspecs_begin, optspecs_join}
 use Rattle.cc_fish.proofs.HeadRead.{head_parts}

@@ -1,6 +1,6 @@
 use Rattle.std.proofs.Common.{◌≡◌, refl}
 use Rattle.cc_base.proofs.WrittenTexts.{writes_same, writes_then}
-use Rattle.cc_generator.proofs.Stopped.{put_stopped, stops_before}
+use Rattle.cc_base.proofs.Stopped.{put_stopped, stops_before}
 use Rattle.cc_fish.specs.Script.{list_begin, listed_text}
 use Rattle.cc_fish.specs.declared.texts.TheConstants.{LIST_BEGIN}
 use Rattle.cc_fish.proofs.values.write_listed.Goals as goal

@@ -45,22 +45,22 @@ loop-child-preserved t c =
     ∙ local_forest-join local (forest_of seen) (more given.node given.children none) in
     let below : globals_below c.is_disabled_below-here.result (local_forest local (forest_of c.get_subcommands.result.now)) ≡ globals_below here child.children =
     ap₂ (λ (b : Bool) (f : Forest). globals_below b (local_forest local f)) is_here c.get_subcommands.ensures in
-    let globals = c.in_ok-made-2.ensures.globals ∙ ap₂ (λ (a b : Bool). a || b) c.in_ok-made.ensures.globals below in
+    let globals = c.in-Ok-with_children.ensures.globals ∙ ap₂ (λ (a b : Bool). a || b) c.in-Ok.ensures.globals below in
     let counted = globals_in-kept above here before child kept_one in
     let has : Bool = (out-Command c.args.parser).has_globals in (
-      subst (λ (f : Forest). globals_in above here f ≡ false → IsLeaf first → AddsShapes above here f first (app_of c.in_ok-parser.parser)) (sym longer) (λ clear leaf.
+      subst (λ (f : Forest). globals_in above here f ≡ false → IsLeaf first → AddsShapes above here f first (app_of c.in_ok-parser-in-Ok-with_children.parser)) (sym longer) (λ clear leaf.
           let parts = or_parts (globals_in above here before) (has_globals_under here child) (sym counted ∙ clear) in
           let mine = or_parts (any_global child.node.arguments) (globals_below here child.children) parts.1 in
-          let args = c.in_ok-made.ensures.app mine.0 in
-          let added = subst (λ (b : Bool). AddsChildren b child.children (app_of c.in_ok-made.made) (app_of c.in_ok-made-2.made)) is_here
-          (subst (λ (f : Forest). AddsChildren c.is_disabled_below-here.result (local_forest local f) (app_of c.in_ok-made.made) (app_of c.in_ok-made-2.made)) c.get_subcommands.ensures
-          (c.in_ok-made-2.ensures.app (below ∙ mine.1) (is_leaf child.node.arguments child.node child.children (app_of c.in_ok-made.made) args))) in
-          let shape = app_made here child (named_app child.node child.children) (app_of c.in_ok-made.made) (app_of c.in_ok-made-2.made) refl args added in
+          let args = c.in-Ok.ensures.app mine.0 in
+          let added = subst (λ (b : Bool). AddsChildren b child.children (app_of c.in-Ok.made) (app_of c.in-Ok-with_children.made)) is_here
+          (subst (λ (f : Forest). AddsChildren c.is_disabled_below-here.result (local_forest local f) (app_of c.in-Ok.made) (app_of c.in-Ok-with_children.made)) c.get_subcommands.ensures
+          (c.in-Ok-with_children.ensures.app (below ∙ mine.1) (is_leaf child.node.arguments child.node child.children (app_of c.in-Ok.made) args))) in
+          let shape = app_made here child (named_app child.node child.children) (app_of c.in-Ok.made) (app_of c.in-Ok-with_children.made) refl args added in
           subst (λ (a : App). AddsShapes above here (join before (more child.node child.children none)) first a)
-          (sym (c.in_ok-parser.ensures.shape (globals ∙ parts.1)))
-          (more_children above here before child first (app_of c.loop-child.parser) (app_of c.in_ok-made-2.made).top kept_one
+          (sym (c.in_ok-parser-in-Ok-with_children.ensures.shape (globals ∙ parts.1)))
+          (more_children above here before child first (app_of c.loop-child.parser) (app_of c.in-Ok-with_children.made).top kept_one
           (c.loop-child.invariant.0 parts.0 leaf) shape)),
-      c.in_ok-parser.ensures.globals ∙ ap₂ (λ (a b : Bool). a || b) c.loop-child.invariant.1 globals
+      c.in_ok-parser-in-Ok-with_children.ensures.globals ∙ ap₂ (λ (a b : Bool). a || b) c.loop-child.invariant.1 globals
           ∙ or_assoc has (globals_in above here before) (has_globals_under here child)
           ∙ ap (λ b. has || b) (sym counted) ∙ ap (λ f. has || globals_in above here f) (sym longer),
     )

@@ -17,4 +17,4 @@ returns-in_err-found g c =
 pub returns : goal.returns
 returns g c =
     tries_some _ _ _ _ _ _ _ _ c.with_modes-folder.result.home _ _ _ _ _ c.safe-completion.ensures.factory c.safe-completion.ensures.variable
-    c.safe-completion.ensures.names.0 c.safe-completion.ensures.names.1 c.safe-completion.ensures.shells c.answers_in.ensures
+    c.safe-completion.ensures.names.0 c.safe-completion.ensures.names.1 c.safe-completion.ensures.shells c.answers_in-ended.ensures

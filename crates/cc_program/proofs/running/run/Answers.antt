@@ -22,9 +22,9 @@ returns-in_err-found g c =
 pub returns : goal.returns
 returns g c =
     let set = c.release-completion.ensures in
-    runs_some _ _ _ _ _ _ _ c.with_modes-folder.result.home _ _ _ _ _ c.run_here.ensures.0
+    runs_some _ _ _ _ _ _ _ c.with_modes-folder.result.home _ _ _ _ _ c.run_here-ended.ensures.0
     (ap (λ env. env.factory) set ∙ c.safe.ensures.factory)
     (ap (λ env. env.variable.now) set ∙ c.safe.ensures.variable)
     (ap (λ env. env.bin) set ∙ c.safe.ensures.names.0)
     (ap (λ env. env.completer) set ∙ c.safe.ensures.names.1)
-    (ap (λ env. env.shells.0.now) set ∙ c.safe.ensures.shells) c.run_here.ensures.1
+    (ap (λ env. env.shells.0.now) set ∙ c.safe.ensures.shells) c.run_here-ended.ensures.1

@@ -2,7 +2,7 @@ use Rattle.std.proofs.Common.{◌+◌, drop, flat_map}
 use Rattle.std.proofs.lemmas.List.Concat.{flat_map-append}
 use Rattle.std.proofs.lemmas.Result.{err_from_is_err_and}
 use Rattle.cc_command.specs.Tree.{forest_of}
-use Rattle.cc_generator.proofs.Stopped.{stops_at}
+use Rattle.cc_base.proofs.Stopped.{stops_at}
 use Rattle.cc_tables.specs.Offers.{child_offers, children_offers}
 use Rattle.cc_tables.proofs.offers.write_children.Goals as goal
 

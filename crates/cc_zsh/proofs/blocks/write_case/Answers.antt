@@ -2,7 +2,7 @@ use Rattle.std.proofs.Common.{◌≡◌, ◌++◌, ℕ, List, ap, append_assoc, 
 use Rattle.cc_base.specs.Bytes.{space}
 use Rattle.cc_base.proofs.WrittenTexts.{writes_same, writes_then}
 use Rattle.cc_command.specs.declared.node.Node.{Node}
-use Rattle.cc_generator.proofs.Stopped.{put_stopped, stops_before}
+use Rattle.cc_base.proofs.Stopped.{put_stopped, stops_before}
 use Rattle.cc_quote.specs.Escapes.{replace_byte}
 use Rattle.cc_zsh.specs.Nested.{case_line, case_line_in, case_state, case_text, context_command, context_text, set_context, set_words}
 use Rattle.cc_zsh.specs.Script.{fixed_texts}

@@ -6,7 +6,7 @@ use Rattle.cc_base.proofs.JoinedTexts.{joined_step}
 use Rattle.cc_base.proofs.Lists.{one_more}
 use Rattle.cc_base.specs.Joined.{joined_after}
 use Rattle.cc_command.specs.ArgumentLists.{first_with_id}
-use Rattle.cc_generator.proofs.Stopped.{stops_joined}
+use Rattle.cc_base.proofs.Stopped.{stops_joined}
 use Rattle.cc_zsh.specs.Conflicts.{conflict_words, own_words, with_ids}
 use Rattle.cc_zsh.proofs.conflicts.write_words.Goals as goal
 

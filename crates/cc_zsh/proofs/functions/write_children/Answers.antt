@@ -2,7 +2,7 @@ use Rattle.std.proofs.Common.{◌+◌, drop, flat_map, map}
 use Rattle.std.proofs.lemmas.List.Concat.{flat_map-append}
 use Rattle.cc_command.specs.Names.{visible_names}
 use Rattle.cc_command.specs.Tree.{forest_of}
-use Rattle.cc_generator.proofs.Stopped.{put_stopped, stops_at}
+use Rattle.cc_base.proofs.Stopped.{put_stopped, stops_at}
 use Rattle.cc_zsh.specs.Functions.{entries_of, entry, entry_text}
 use Rattle.cc_zsh.proofs.functions.write_children.Goals as goal
 

@@ -1,6 +1,6 @@
 use Rattle.std.proofs.Common.{◌≡◌, ◌++◌, ℕ, List, append_assoc}
 use Rattle.cc_base.proofs.WrittenTexts.{writes_same, writes_then}
-use Rattle.cc_generator.proofs.Stopped.{put_stopped, stops_before}
+use Rattle.cc_base.proofs.Stopped.{put_stopped, stops_before}
 use Rattle.cc_zsh.specs.Functions.{commands_begin, describe_begins, describe_ends, entries_text, function_begins, function_text, unless_defined}
 use Rattle.cc_zsh.specs.Named.{function_named}
 use Rattle.cc_zsh.specs.Nested.{function_label}

@@ -1,6 +1,6 @@
 use Rattle.std.proofs.Common.{◌≡◌, ◌++◌, ◌∙◌, ℕ, List, ap, append_assoc, codes, sym}
 use Rattle.cc_base.proofs.WrittenTexts.{writes_same, writes_then}
-use Rattle.cc_generator.proofs.Stopped.{put_stopped, stops_before}
+use Rattle.cc_base.proofs.Stopped.{put_stopped, stops_before}
 use Rattle.cc_zsh.specs.Options.{line_end}
 use Rattle.cc_zsh.specs.Positionals.{count_text, positional_help, positional_text}
 use Rattle.cc_zsh.specs.Values.{value_text}
@@ -9,6 +9,14 @@ use Rattle.cc_zsh.proofs.positionals.write_positional.Goals as goal
 colon : (count : List ℕ) {id other : List ℕ} → other ≡ id →
     (codes "'" ++ count) ++ (codes ":" ++ other) ≡ codes "'" ++ count ++ codes ":" ++ id
 colon count {id} {other} is = sym (append_assoc (codes "'" ++ count) (codes ":") other) ∙ ap (λ (t : List ℕ). codes "'" ++ count ++ codes ":" ++ t) is
+
+pub returns-in_err-put_piece : goal.returns-in_err-put_piece
+unfolding positional_text
+returns-in_err-put_piece g c = put_stopped _ c.from_residual.ensures.1 (stops_before _ line_end (stops_before _ (value_text c.args.argument.now) (stops_before _ (codes ":") (stops_before _ (positional_help c.args.argument.now.help) (stops_before _ c.args.argument.now.id (stops_before _ (codes ":") (stops_before _ (count_text c.args.has_children c.args.argument.now) c.in_err-put_piece.ensures.written)))))))
+
+pub returns-in_err-write_count : goal.returns-in_err-write_count
+unfolding positional_text
+returns-in_err-write_count g c = put_stopped _ c.from_residual-in_err-write_count.ensures.1 (stops_before _ line_end (stops_before _ (value_text c.args.argument.now) (stops_before _ (codes ":") (stops_before _ (positional_help c.args.argument.now.help) (stops_before _ c.args.argument.now.id (stops_before _ (codes ":") (writes_then _ _ c.in_ok-put_piece.ensures.written c.in_err-write_count.ensures)))))))
 
 pub returns-in_err-put_pieces : goal.returns-in_err-put_pieces
 unfolding positional_text

@@ -1,6 +1,6 @@
 use Rattle.std.proofs.Common.{◌≡◌, ◌++◌, ◌-◌, ℕ, suc, ap, length, length-append, sym, ◌∙◌, append_assoc, rules, arith}
 use Rattle.std.proofs.lemmas.Result.{err_from_is_err_and}
-use Rattle.cc_generator.proofs.Stopped.{stops_within}
+use Rattle.cc_base.proofs.Stopped.{stops_within}
 use Rattle.cc_zsh.specs.Values.{one_value, times}
 use Rattle.cc_zsh.proofs.values.write_times.Goals as goal
 

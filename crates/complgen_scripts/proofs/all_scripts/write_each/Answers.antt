@@ -6,7 +6,7 @@ use Rattle.std.specs.List.{AllByRecursion}
 use Rattle.cc_command.specs.Built.{built_under}
 use Rattle.cc_command.specs.Plain.{is_plain_tree}
 use Rattle.cc_command.specs.Tree.{Tree}
-use Rattle.cc_generator.proofs.Stopped.{part_within}
+use Rattle.cc_base.proofs.Stopped.{part_within}
 use Rattle.cc_shell.specs.Shells.{shell_spec}
 use Rattle.cc_shell.specs.declared.shell.Shell.TheVariants.{Bash}
 use Rattle.complgen_scripts.specs.AllScripts.{HasNoLabels, ReadsBack, path_line, path_lines}

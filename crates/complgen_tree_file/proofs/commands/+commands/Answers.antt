@@ -47,19 +47,19 @@ read_command-returns-in_default t c =
           ∙ sym (command_fits_with_children d before);
     }
 
-pub read_command-returns : goal.read_command-returns
-read_command-returns t c =
+pub read_command-returns-in-Ok : goal.read_command-returns-in-Ok
+read_command-returns-in-Ok t c =
     let d = view c.args.tree.now in
     let before = has_none c.args.faults.now in
     let list = view c.in-Some.value.now in
     let there : get (codes "subcommands") d ≡ Some list = search rules in
     record {
-      same = c.in_ok-add_children.ensures.same
+      same = c.in-Ok.ensures.same
           ∙ ap (λ parent. fold with_child parent (commands_in list))
           (c.from_node-command.ensures ∙ ap of_node c.in_ok-node.ensures.same)
           ∙ ap (λ o. fold with_child (of_node (own_in d)) (option_map_or commands_in o [])) (sym there)
           ∙ sym (command_with_children d);
-      faults = c.in_ok-put_before.ensures ∙ c.in_ok-add_children.ensures.faults
+      faults = c.in-Ok.ensures.faults
           ∙ ap (commands_fit list) c.in_ok-node.ensures.faults
           ∙ ap (λ o. option_map_or (λ list. commands_fit list (own_fits d before)) o (own_fits d before)) (sym there)
           ∙ sym (command_fits_with_children d before);

@@ -1,10 +1,7 @@
-use Rattle.std.proofs.Common.{◌≡◌, [], ◌∷◌, map, Some, None, sym, ◌∙◌, ap, rules}
-use Rattle.std.specs.Prelude.{codes, string_bytes}
-use Rattle.cc_generator.specs.Flat.{tree_at}
+use Rattle.std.proofs.Common.{◌≡◌, [], ◌∷◌, map, Some, None, sym, ◌∙◌, refl, rules}
+use Rattle.std.specs.Prelude.{string_bytes}
 use Rattle.cc_command.specs.Tree.{Tree}
 use Rattle.cc_bash.specs.Labels.{first_again, root_label}
-use Rattle.cc_base.specs.Bytes.{dash}
-use Rattle.cc_quote.specs.Escapes.{replace_byte}
 use Rattle.cc_bash.proofs.WholeScript.{clash_is, generates_clash, generates_script, nodes_are}
 use Rattle.cc_bash.proofs.bash.BashGenerator.generate.Goals as goal
 
@@ -12,8 +9,8 @@ pub returns-in-Some : goal.returns-in-Some
 returns-in-Some g c =
     let tree : Tree = c.args.command.now in
     let nodes = c.in_ok-nodes.nodes.items in
-    let root : string_bytes c.in_ok-root.root ≡ root_label tree = c.in_ok-root.ensures ∙ ap (replace_byte dash (codes "__")) c.full_name.ensures in
-    let are = nodes_are tree (tree_at c.in_ok-flat.flat 0) c.as_str.result.now nodes (search rules) (c.as_str.ensures.value ∙ root) (search rules) in
+    let root : string_bytes c.in_ok-root.root ≡ root_label tree = c.in_ok-root.ensures in
+    let are = nodes_are tree tree c.as_str.result.now nodes refl (c.as_str.ensures.value ∙ root) c.in_ok-nodes.ensures in
     let found : Some c.in-Some.label ≡ first_again [] (c.as_str-2.result.now ∷ map (λ n. n.label) nodes) = search rules in
     generates_clash tree c.in-Some.label c.args.sink.now
     (sym (found ∙ clash_is tree c.as_str-2.result.now nodes (c.as_str-2.ensures.value ∙ root) are))
@@ -22,8 +19,8 @@ pub returns : goal.returns
 returns g c =
     let tree : Tree = c.args.command.now in
     let nodes = c.in_ok-nodes.nodes.items in
-    let root : string_bytes c.in_ok-root.root ≡ root_label tree = c.in_ok-root.ensures ∙ ap (replace_byte dash (codes "__")) c.full_name.ensures in
-    let are = nodes_are tree (tree_at c.in_ok-flat.flat 0) c.as_str.result.now nodes (search rules) (c.as_str.ensures.value ∙ root) (search rules) in
+    let root : string_bytes c.in_ok-root.root ≡ root_label tree = c.in_ok-root.ensures in
+    let are = nodes_are tree tree c.as_str.result.now nodes refl (c.as_str.ensures.value ∙ root) c.in_ok-nodes.ensures in
     let found : None ≡ first_again [] (c.as_str-2.result.now ∷ map (λ n. n.label) nodes) = search rules in
     generates_script tree c.write_script.result c.args.sink.now c.write_script.new.sink c.as_str-3.result.now nodes (c.as_str-3.ensures.value ∙ root) are
     (sym (found ∙ clash_is tree c.as_str-2.result.now nodes (c.as_str-2.ensures.value ∙ root) are))

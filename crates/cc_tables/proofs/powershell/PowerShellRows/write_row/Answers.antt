@@ -1,7 +1,7 @@
 use Rattle.std.proofs.Common.{◌≡◌, ◌++◌, List, ℕ, ap, append_assoc, codes}
 use Rattle.std.proofs.lemmas.Result.{err_from_is_err_and}
 use Rattle.cc_base.proofs.WrittenTexts.{writes_same, writes_then}
-use Rattle.cc_generator.proofs.Stopped.{stops_before}
+use Rattle.cc_base.proofs.Stopped.{stops_before}
 use Rattle.cc_quote.specs.PowershellQuote.{powershell_escaped}
 use Rattle.cc_tables.specs.Offers.{word}
 use Rattle.cc_tables.specs.PowershellScript.{capital_space, details_text, kind_begin, kind_text, list_begin, offer_row, offer_text, result_kind, row_begin, row_end, row_text, text_begin, words_text}
