@@ -1,4 +1,5 @@
 mod CommandLineLemmas
 mod Examples
 mod GivenValues
+mod Lines
 mod Untaken

@@ -1,6 +1,8 @@
 //! The command line: the words that `complgen` accepts.
 
 ghost use Rattle.std.specs.Prelude.{◌≡◌, IfOk, codes, false};
+ghost use Rattle.std.specs.Result.{IsOkAnd};
+ghost use Rattle.clap.specs.Built.{AddsArg, AddsSubcommand};
 ghost use Rattle.clap.specs.Words.{app_of};
 ghost use Rattle.clap.specs.declared.builder.command.Command.TheViews.{out-Command};
 ghost use Rattle.complgen_command_line.specs.CommandLine.{asking_line, candidates_line, check_line, checking_line};
@@ -14,8 +16,59 @@ use crate::texts::{
     REGISTER_SHELL_HELP, SCRIPT_ABOUT, SCRIPT_FILES, SCRIPT_SHELL_HELP, SCRIPTS_ABOUT,
     SCRIPTS_FILES, VALUES_HELP, VERSION, WANTED_ABOUT,
 };
-use clap::Command;
+use clap::{Arg, Command};
 use std::alloc::{AllocError, Global};
+
+// Adds an argument, if there is a command. Few values are then alive where a call may fail.
+fn with_arg<'a>(
+    command: Result<Command<'a>, AllocError>,
+    arg: Arg<'a>,
+) -> Result<Command<'a>, AllocError>
+    ensures { IfOk result (λ whole. IsOkAnd command.entry (λ command.
+        AddsArg command arg.entry whole)) }
+{
+    match command {
+        Ok(command) => command.arg(arg),
+        Err(failed) => {
+            drop(arg);
+            Err(failed)
+        }
+    }
+}
+
+// Adds a subcommand, if there are both.
+fn with_subcommand<'a>(
+    line: Result<Command<'a>, AllocError>,
+    subcommand: Result<Command<'a>, AllocError>,
+) -> Result<Command<'a>, AllocError>
+    ensures { IfOk result (λ whole. IsOkAnd line.entry (λ line.
+        IsOkAnd subcommand.entry (λ command. AddsSubcommand line command whole))) }
+{
+    match line {
+        Ok(line) => with_made(line, subcommand),
+        Err(failed) => {
+            drop(subcommand);
+            Err(failed)
+        }
+    }
+}
+
+// Adds a subcommand, if there is one.
+fn with_made<'a>(
+    line: Command<'a>,
+    subcommand: Result<Command<'a>, AllocError>,
+) -> Result<Command<'a>, AllocError>
+    ensures { IfOk result (λ whole. IsOkAnd subcommand.entry (λ command.
+        AddsSubcommand line.entry command whole)) }
+{
+    match subcommand {
+        Ok(command) => line.subcommand(command),
+        Err(failed) => {
+            drop(line);
+            Err(failed)
+        }
+    }
+}
 
 // Returns the subcommand `name`: `NAME --shell S --bin N TREE`.
 fn for_shell<'a>(
@@ -27,11 +80,10 @@ fn for_shell<'a>(
     ensures shape { IfOk result (λ command. app_of command ≡ shell_line name.entry.now) }
     ensures local { IfOk result (λ command. (out-Command command).has_globals ≡ false) }
 {
-    Command::new(alloc, name)
-        .about(about)
-        .arg(option(alloc, "shell", "SHELL", shells))?
-        .arg(option(alloc, "bin", "NAME", BIN_HELP))?
-        .arg(tree(alloc))
+    let command = Command::new(alloc, name).about(about);
+    let command = command.arg(option(alloc, "shell", "SHELL", shells));
+    let command = with_arg(command, option(alloc, "bin", "NAME", BIN_HELP));
+    with_arg(command, tree(alloc))
 }
 
 // Returns the subcommand `script --shell S --bin N TREE`.
@@ -39,8 +91,10 @@ fn script<'a>(alloc: Global) -> Result<Command<'a>, AllocError>
     ensures shape { IfOk result (λ command. app_of command ≡ shell_line (codes "script")) }
     ensures local { IfOk result (λ command. (out-Command command).has_globals ≡ false) }
 {
-    let command = for_shell(alloc, "script", SCRIPT_ABOUT, SCRIPT_SHELL_HELP)?;
-    Ok(command.after_long_help(SCRIPT_FILES))
+    match for_shell(alloc, "script", SCRIPT_ABOUT, SCRIPT_SHELL_HELP) {
+        Ok(command) => Ok(command.after_long_help(SCRIPT_FILES)),
+        Err(failed) => Err(failed),
+    }
 }
 
 // Returns the subcommand `scripts --bin N --out-dir DIR TREE`.
@@ -48,12 +102,12 @@ fn scripts<'a>(alloc: Global) -> Result<Command<'a>, AllocError>
     ensures shape { IfOk result (λ command. app_of command ≡ scripts_line) }
     ensures local { IfOk result (λ command. (out-Command command).has_globals ≡ false) }
 {
-    Command::new(alloc, "scripts")
+    let command = Command::new(alloc, "scripts")
         .about(SCRIPTS_ABOUT)
-        .after_help(SCRIPTS_FILES)
-        .arg(option(alloc, "bin", "NAME", BIN_HELP))?
-        .arg(option(alloc, "out-dir", "DIR", OUT_DIR_HELP))?
-        .arg(tree(alloc))
+        .after_help(SCRIPTS_FILES);
+    let command = command.arg(option(alloc, "bin", "NAME", BIN_HELP));
+    let command = with_arg(command, option(alloc, "out-dir", "DIR", OUT_DIR_HELP));
+    with_arg(command, tree(alloc))
 }
 
 // Returns the subcommand `candidates --index I [--values FILE] TREE WORDS..`.
@@ -61,12 +115,11 @@ fn candidates<'a>(alloc: Global) -> Result<Command<'a>, AllocError>
     ensures shape { IfOk result (λ command. app_of command ≡ candidates_line) }
     ensures local { IfOk result (λ command. (out-Command command).has_globals ≡ false) }
 {
-    Command::new(alloc, "candidates")
-        .about(CANDIDATES_ABOUT)
-        .arg(option(alloc, "index", "INDEX", INDEX_HELP))?
-        .arg(optional(alloc, "values", "FILE", VALUES_HELP))?
-        .arg(tree(alloc))?
-        .arg(words(alloc))
+    let command = Command::new(alloc, "candidates").about(CANDIDATES_ABOUT);
+    let command = command.arg(option(alloc, "index", "INDEX", INDEX_HELP));
+    let command = with_arg(command, optional(alloc, "values", "FILE", VALUES_HELP));
+    let command = with_arg(command, tree(alloc));
+    with_arg(command, words(alloc))
 }
 
 // Returns the subcommand `wanted --index I TREE WORDS..`.
@@ -74,11 +127,10 @@ fn wanted<'a>(alloc: Global) -> Result<Command<'a>, AllocError>
     ensures shape { IfOk result (λ command. app_of command ≡ wanted_line) }
     ensures local { IfOk result (λ command. (out-Command command).has_globals ≡ false) }
 {
-    Command::new(alloc, "wanted")
-        .about(WANTED_ABOUT)
-        .arg(option(alloc, "index", "INDEX", INDEX_HELP))?
-        .arg(tree(alloc))?
-        .arg(words(alloc))
+    let command = Command::new(alloc, "wanted").about(WANTED_ABOUT);
+    let command = command.arg(option(alloc, "index", "INDEX", INDEX_HELP));
+    let command = with_arg(command, tree(alloc));
+    with_arg(command, words(alloc))
 }
 
 // Returns the subcommand `check [--bin N] [--json] TREE`.
@@ -86,12 +138,12 @@ fn check<'a>(alloc: Global) -> Result<Command<'a>, AllocError>
     ensures shape { IfOk result (λ command. app_of command ≡ check_line) }
     ensures local { IfOk result (λ command. (out-Command command).has_globals ≡ false) }
 {
-    Command::new(alloc, "check")
+    let command = Command::new(alloc, "check")
         .about(CHECK_ABOUT)
-        .after_help(CHECK_LINES)
-        .arg(optional(alloc, "bin", "NAME", CHECK_BIN_HELP))?
-        .arg(flag(alloc, "json", JSON_HELP))?
-        .arg(tree(alloc))
+        .after_help(CHECK_LINES);
+    let command = command.arg(optional(alloc, "bin", "NAME", CHECK_BIN_HELP));
+    let command = with_arg(command, flag(alloc, "json", JSON_HELP));
+    with_arg(command, tree(alloc))
 }
 
 // Returns the subcommand `man --bin N TREE`.
@@ -99,26 +151,24 @@ fn man<'a>(alloc: Global) -> Result<Command<'a>, AllocError>
     ensures shape { IfOk result (λ command. app_of command ≡ man_line) }
     ensures local { IfOk result (λ command. (out-Command command).has_globals ≡ false) }
 {
-    Command::new(alloc, "man")
+    let command = Command::new(alloc, "man")
         .about(MAN_ABOUT)
-        .after_help(MAN_EXAMPLE)
-        .arg(option(alloc, "bin", "NAME", BIN_HELP))?
-        .arg(tree(alloc))
+        .after_help(MAN_EXAMPLE);
+    let command = command.arg(option(alloc, "bin", "NAME", BIN_HELP));
+    with_arg(command, tree(alloc))
 }
 
 // Returns the command line without its subcommands.
 fn top<'a>(alloc: Global) -> Result<Command<'a>, AllocError>
     ensures { IfOk result (λ command. app_of command ≡ top_line) }
 {
-    Ok(
-        Command::new(alloc, "complgen")
-            .bin_name("complgen")?
-            .version(VERSION)
-            .about(ABOUT)
-            .after_help(AFTER_HELP)
-            .subcommand_required(true)
-            .disable_help_subcommand(true),
-    )
+    Command::new(alloc, "complgen")
+        .version(VERSION)
+        .about(ABOUT)
+        .after_help(AFTER_HELP)
+        .subcommand_required(true)
+        .disable_help_subcommand(true)
+        .bin_name("complgen")
 }
 
 // Returns the command line with the subcommands that write scripts and registrations. Adds each one
@@ -126,27 +176,25 @@ fn top<'a>(alloc: Global) -> Result<Command<'a>, AllocError>
 fn writing<'a>(alloc: Global) -> Result<Command<'a>, AllocError>
     ensures { IfOk result (λ command. app_of command ≡ writing_line) }
 {
-    let script = script(alloc)?;
-    let line = top(alloc)?.subcommand(script)?;
-    let line = line.subcommand(scripts(alloc)?)?;
-    line.subcommand(for_shell(alloc, "register", REGISTER_ABOUT, REGISTER_SHELL_HELP)?)
+    let line = with_subcommand(top(alloc), script(alloc));
+    let line = with_subcommand(line, scripts(alloc));
+    let register = for_shell(alloc, "register", REGISTER_ABOUT, REGISTER_SHELL_HELP);
+    with_subcommand(line, register)
 }
 
 // Returns the command line with the subcommands that complete a word, too.
 fn asking<'a>(alloc: Global) -> Result<Command<'a>, AllocError>
     ensures { IfOk result (λ command. app_of command ≡ asking_line) }
 {
-    let line = writing(alloc)?;
-    let line = line.subcommand(candidates(alloc)?)?;
-    line.subcommand(wanted(alloc)?)
+    let line = with_subcommand(writing(alloc), candidates(alloc));
+    with_subcommand(line, wanted(alloc))
 }
 
 // Returns the command line with `check`, too.
 fn checking<'a>(alloc: Global) -> Result<Command<'a>, AllocError>
     ensures { IfOk result (λ command. app_of command ≡ checking_line) }
 {
-    let line = asking(alloc)?;
-    line.subcommand(check(alloc)?)
+    with_subcommand(asking(alloc), check(alloc))
 }
 
 /// Returns the whole command line of `complgen`.
@@ -157,6 +205,5 @@ fn checking<'a>(alloc: Global) -> Result<Command<'a>, AllocError>
 pub fn command_line<'a>(alloc: Global) -> Result<Command<'a>, AllocError>
     ensures { IfOk result (λ command. app_of command ≡ program_line) }
 {
-    let line = checking(alloc)?;
-    line.subcommand(man(alloc)?)
+    with_subcommand(checking(alloc), man(alloc))
 }

@@ -62,6 +62,25 @@ fn candidates_with<D: Folder>(
     ensures err { IfErr result
         (FindsNone (length word.entry.words.now) word.entry.index command) }
 {
+    let found = found_with(alloc, &mut command, word, lines, folder);
+    // One call here, instead of a drop of each field at each return.
+    drop(command);
+    found
+}
+
+// Returns the candidates for `word` of `command`, which is built.
+fn found_with<D: Folder>(
+    alloc: Global,
+    command: &mut Command,
+    word: WordAt<'_>,
+    lines: &[u8],
+    folder: &D,
+) -> Result<Vec<CompletionCandidate>, Error>
+    ensures ok { IfOk result (λ found. AreFoundWith (PathsOf (D.facts folder.now) (Some (codes ".")))
+        lines.now (map string_bytes word.entry.words.now) word.entry.index command.old found.items) }
+    ensures err { IfErr result
+        (FindsNone (length word.entry.words.now) word.entry.index command.old) }
+{
     let words = copies(alloc, word.words)?;
     let completers = Completers::none(alloc);
     let sources = Sources {
@@ -69,5 +88,5 @@ fn candidates_with<D: Folder>(
         folder,
         completers: &completers,
     };
-    complete_with_lines(alloc, &mut command, words, word.index, lines, &sources)
+    complete_with_lines(alloc, command, words, word.index, lines, &sources)
 }

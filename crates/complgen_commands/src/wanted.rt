@@ -50,7 +50,10 @@ fn wanted_text(alloc: Global, mut command: Command, word: WordAt<'_>) -> Result<
     ensures err { IfErr result
         (FindsNone (length word.entry.words.now) word.entry.index command) }
 {
-    match wanted_command(alloc, &mut command, word.words, word.index)? {
+    let words = wanted_command(alloc, &mut command, word.words, word.index);
+    // One call here, instead of a drop of each field at each return.
+    drop(command);
+    match words? {
         Some(words) => Ok(array_line(alloc, words.as_slice())?),
         None => Ok(Vec::new(alloc)),
     }

@@ -31,6 +31,16 @@ pub fn reply<D: Folder, S: LineSource, W: Sink>(
     let Some(answer) = answer_request(alloc, request, lines)? else {
         return Ok(1);
     };
-    write_answer(&answer, out)?;
-    Ok(answer.status())
+    match write_answer(&answer, out) {
+        Ok(()) => {
+            let status = answer.status();
+            // One call here, instead of a drop of each variant at each return.
+            drop(answer);
+            Ok(status)
+        }
+        Err(error) => {
+            drop(answer);
+            Err(ReplyError::Library(error))
+        }
+    }
 }

@@ -51,8 +51,18 @@ pub fn scripts<R: Files, W: Sink>(
     let mut command = named_tree(alloc, file)?;
     // Only the bash script has labels that two commands may share. It is written first, so that a
     // shared label is reported before any file is made.
-    write_one(files, alloc, Shell::Bash, &mut command, bin, folder, out)?;
-    write_each(files, alloc, OTHERS, &mut command, bin, folder, out)
+    match write_one(files, alloc, Shell::Bash, &mut command, bin, folder, out) {
+        Ok(()) => {
+            let ended = write_each(files, alloc, OTHERS, &mut command, bin, folder, out);
+            // One call here, instead of a drop of each field at each return.
+            drop(command);
+            ended
+        }
+        Err(refusal) => {
+            drop(command);
+            Err(refusal)
+        }
+    }
 }
 
 const OTHERS: &[Shell] = &[

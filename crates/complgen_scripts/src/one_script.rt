@@ -54,12 +54,21 @@ fn script_by<W: Sink>(
     ensures read_back { OnOk result (ScriptReads shell bin.now (option_copied file.entry)) }
 {
     let mut command = tree(alloc, file)?;
-    let bin = String::from_str(alloc, bin)?;
+    let bin = match String::from_str(alloc, bin) {
+        Ok(bin) => bin,
+        Err(failed) => {
+            discard(command, when);
+            return Err(Refusal::from(failed));
+        }
+    };
     match generate(alloc, shell, &mut command, bin, out) {
         Ok(()) => {
             discard(command, when);
             Ok(())
         }
-        Err(error) => Err(error_refusal(alloc, &error)),
+        Err(error) => {
+            discard(command, when);
+            Err(error_refusal(alloc, &error))
+        }
     }
 }

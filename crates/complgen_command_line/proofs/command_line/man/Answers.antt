@@ -1,23 +1,23 @@
-use Rattle.std.proofs.Common.{◌∙◌, ◌||◌, ap, ap₂}
-use Rattle.std.proofs.lemmas.Result.{IfOk-weaker}
+use Rattle.std.proofs.Common.{◌∙◌, ap, codes}
 use Rattle.clap.specs.Simple.{app_of_fields}
-use Rattle.clap.specs.Words.{with_rule}
-use Rattle.clap.specs.declared.builder.command.Command.{Command}
-use Rattle.clap.specs.declared.builder.command.Command.TheOpen.{Command-F}
+use Rattle.clap.specs.Words.{new_app}
+use Rattle.complgen_command_line.specs.CommandLine.{option_rule, tree_rule}
+use Rattle.complgen_command_line.proofs.Lines.{first_local, has_globals, one_more_local, two_rules}
 use Rattle.complgen_command_line.proofs.command_line.man.Goals as goal
 
 pub returns-clause-shape : goal.returns-clause-shape
 returns-clause-shape c =
-    let start = ap app_of_fields c.after_help.ensures ∙ ap app_of_fields c.about.ensures ∙ c.new.ensures.app in
-    let one = c.in_ok-arg.ensures.shape c.option.ensures.local
-    ∙ ap₂ with_rule start c.option.ensures.rule in
-    IfOk-weaker c.arg-2.result _ _ (λ line adds. adds.shape c.tree.ensures.local
-    ∙ ap₂ with_rule one c.tree.ensures.rule) c.arg-2.ensures
+    two_rules (new_app (codes "man")) (option_rule (codes "bin")) tree_rule
+    c.after_help-command.result c.option.result c.tree.result
+    c.arg-command.result c.with_arg.result
+    (ap app_of_fields c.after_help-command.ensures ∙ ap app_of_fields c.about.ensures ∙ c.new.ensures.app)
+    c.option.ensures.rule c.option.ensures.local c.arg-command.ensures
+    c.tree.ensures.rule c.tree.ensures.local c.with_arg.ensures
 
 pub returns-clause-local : goal.returns-clause-local
 returns-clause-local c =
-    let start = ap (λ (f : Command-F Command). f.has_globals) c.after_help.ensures
-    ∙ ap (λ (f : Command-F Command). f.has_globals) c.about.ensures ∙ c.new.ensures.local in
-    let one = c.in_ok-arg.ensures.globals ∙ ap₂ ◌||◌ start c.option.ensures.local in
-    IfOk-weaker c.arg-2.result _ _ (λ line adds. adds.globals ∙ ap₂ ◌||◌ one c.tree.ensures.local)
-    c.arg-2.ensures
+    one_more_local c.arg-command.result c.with_arg.result c.tree.result
+    (first_local c.after_help-command.result c.option.result c.arg-command.result
+    (ap has_globals c.after_help-command.ensures ∙ ap has_globals c.about.ensures ∙ c.new.ensures.local)
+    c.option.ensures.local c.arg-command.ensures)
+    c.tree.ensures.local c.with_arg.ensures

@@ -1,16 +1,8 @@
-use Rattle.std.proofs.Common.{◌∙◌, ap, ap₂}
-use Rattle.std.proofs.lemmas.Result.{IfOk-weaker}
-use Rattle.clap.specs.Words.{App, with_subcommand}
+use Rattle.complgen_command_line.proofs.Lines.{subcommand_added}
 use Rattle.complgen_command_line.proofs.command_line.writing.Goals as goal
 
 pub returns : goal.returns
 returns c =
-    let script = c.in_ok-script.ensures in
-    let scripts = c.in_ok-scripts.ensures in
-    let last = c.in_ok-for_shell.ensures in
-    let one = c.in_ok-line.ensures.shape script.local
-    ∙ ap₂ with_subcommand c.in_ok-top.ensures (ap (λ (a : App). a.top) script.shape) in
-    let two = c.in_ok-line-2.ensures.shape scripts.local
-    ∙ ap₂ with_subcommand one (ap (λ (a : App). a.top) scripts.shape) in
-    IfOk-weaker c.subcommand-3.result _ _ (λ line adds. adds.shape last.local
-    ∙ ap₂ with_subcommand two (ap (λ (a : App). a.top) last.shape)) c.subcommand-3.ensures
+    let one = subcommand_added _ _ _ _ c.with_subcommand-line.result c.top.ensures c.script.ensures.shape c.script.ensures.local c.with_subcommand-line.ensures in
+    let two = subcommand_added _ _ _ _ c.with_subcommand-line-2.result one c.scripts.ensures.shape c.scripts.ensures.local c.with_subcommand-line-2.ensures in
+    subcommand_added _ _ _ _ c.with_subcommand.result two c.for_shell-register.ensures.shape c.for_shell-register.ensures.local c.with_subcommand.ensures

@@ -12,13 +12,12 @@ returns-in_err-answer g c =
 pub returns-in_default : goal.returns-in_default
 returns-in_default g c = not_requested (rw c.in_default.is at c.in_ok-answer.ensures) refl
 
-pub returns-in_err-write_answer : goal.returns-in_err-write_answer
-returns-in_err-write_answer g c =
-    let p = err_from_is_err_and c.from_residual-in_err-write_answer.result c.from_residual-in_err-write_answer.ensures.1 in
-    rw (p.1, p.2) (unwritten _ _ _ _ _ _ (rw c.in-Some.is at c.in_ok-answer.ensures) _
-    c.in_err-write_answer.ensures.written c.in_err-write_answer.ensures.write_only)
+pub returns-in-Err : goal.returns-in-Err
+returns-in-Err g c =
+    unwritten _ _ _ _ _ _ (rw c.in-Some.is at c.in_ok-answer.ensures) _
+    c.in-Err.ensures.written c.in-Err.ensures.write_only
 
-pub returns : goal.returns
-returns g c =
-    written_whole _ _ _ _ _ _ (rw c.in-Some.is at c.in_ok-answer.ensures) _ _ c.status.ensures
-    c.in_ok-write_answer.ensures.written
+pub returns-in-Ok : goal.returns-in-Ok
+returns-in-Ok g c =
+    written_whole _ _ _ _ _ _ (rw c.in-Some.is at c.in_ok-answer.ensures) _ _ c.status-status.ensures
+    c.in-Ok.ensures.written

@@ -9,20 +9,19 @@ returns-in_err-command-clause-ends g c =
     let p = err_from_is_err_and c.from_residual.result c.from_residual.ensures.1 in
     rw (p.1, p.2) (ends_unread _ _ _ _ _ _ _ _ c.in_err-command.ensures)
 
-pub returns-in_err-bin-clause-ends : goal.returns-in_err-bin-clause-ends
-returns-in_err-bin-clause-ends g c =
-    let p = err_from_is_err_and c.from_residual-in_err-bin.result c.from_residual-in_err-bin.ensures.1 in
-    rw p.1 (ends_unwritten _ _ _ _ _ _ _ _ _ c.in_ok-command.ensures p.2)
-
-pub returns-in-Ok-clause-ends : goal.returns-in-Ok-clause-ends
-returns-in-Ok-clause-ends g c =
-    rw (sym c.in_ok-bin.ensures.ok) (script_written _ _ _ _ _ _ _ _ c.in_ok-command.ensures c.in-Ok.ensures.written)
-
 pub returns-in-Err-clause-ends : goal.returns-in-Err-clause-ends
 returns-in-Err-clause-ends g c =
-    rw (sym c.in_ok-bin.ensures.ok) (script_failed _ _ _ _ _ _ _ _ _ _ c.in_ok-command.ensures c.in-Err.ensures.written c.error_refusal.ensures)
+    ends_unwritten _ _ _ _ _ _ _ _ _ c.in_ok-command.ensures c.from.ensures
 
-pub returns-in-Ok-clause-read_back : goal.returns-in-Ok-clause-read_back
-returns-in-Ok-clause-read_back g c =
-    rw (sym c.in_ok-bin.ensures.ok)
-    (record { tree = _; held = c.in_ok-command.ensures; reads = c.in-Ok.ensures.plain })
+pub returns-in-Ok-generate-clause-ends : goal.returns-in-Ok-generate-clause-ends
+returns-in-Ok-generate-clause-ends g c =
+    rw (sym c.in-Ok.ensures.ok) (script_written _ _ _ _ _ _ _ _ c.in_ok-command.ensures c.in-Ok-generate.ensures.written)
+
+pub returns-in-Err-generate-clause-ends : goal.returns-in-Err-generate-clause-ends
+returns-in-Err-generate-clause-ends g c =
+    rw (sym c.in-Ok.ensures.ok) (script_failed _ _ _ _ _ _ _ _ _ _ c.in_ok-command.ensures c.in-Err-generate.ensures.written c.error_refusal.ensures)
+
+pub returns-in-Ok-generate-clause-read_back : goal.returns-in-Ok-generate-clause-read_back
+returns-in-Ok-generate-clause-read_back g c =
+    rw (sym c.in-Ok.ensures.ok)
+    (record { tree = _; held = c.in_ok-command.ensures; reads = c.in-Ok-generate.ensures.plain })
