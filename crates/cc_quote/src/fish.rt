@@ -108,7 +108,12 @@ fn is_safe_word(text: &str) -> bool
 fn are_safe(bytes: &[u8]) -> bool
     ensures { result ≡ list_all is_fish_safe bytes.now }
 {
-    bytes.iter().all(|byte| is_safe(*byte))
+    for byte in bytes {
+        if !is_safe(*byte) {
+            return false;
+        }
+    }
+    true
 }
 
 // Returns whether a byte needs no quotes.

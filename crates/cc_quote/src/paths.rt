@@ -18,7 +18,12 @@ pub fn is_plain_path(path: &str) -> bool
 fn are_path_bytes(bytes: &[u8]) -> bool
     ensures { result ≡ list_all is_path_byte bytes.now }
 {
-    bytes.iter().all(|byte| is_path_byte(*byte))
+    for byte in bytes {
+        if !is_path_byte(*byte) {
+            return false;
+        }
+    }
+    true
 }
 
 // Returns whether a byte may occur in a plain path.

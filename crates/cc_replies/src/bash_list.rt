@@ -129,16 +129,24 @@ impl Cursor<'_> {
         ensures { option_map (λ found. found.now) result
             ≡ find (λ candidate. is_listed_word self.now candidate.value) candidates.now }
     {
-        candidates
-            .iter()
-            .find(|candidate| self.is_listed(candidate))
+        for candidate in candidates {
+            if self.is_listed(candidate) {
+                return Some(candidate);
+            }
+        }
+        None
     }
 
     // Returns whether bash lists a word with another value than that of `first`.
     fn has_other(&self, first: &CompletionCandidate, candidates: &[CompletionCandidate]) -> bool
         ensures { result ≡ has_other (is_listed_word self.now) (Some first.now) candidates.now }
     {
-        candidates.iter().any(|candidate| self.is_listed(candidate) && is_other(candidate, first))
+        for candidate in candidates {
+            if self.is_listed(candidate) && is_other(candidate, first) {
+                return true;
+            }
+        }
+        false
     }
 
     fn is_listed(&self, candidate: &CompletionCandidate) -> bool

@@ -95,8 +95,12 @@ fn holds(quote: OpenQuote, rest: &str) -> bool
 fn is_kept_in_single(text: &[u8]) -> bool
     ensures { result ≡ list_all (λ byte. not (is_single_lost byte)) text.now }
 {
-    text.iter()
-        .all(|byte| !matches!(*byte, b'\'' | b'$' | b'`'))
+    for byte in text {
+        if matches!(*byte, b'\'' | b'$' | b'`') {
+            return false;
+        }
+    }
+    true
 }
 
 /// Returns the text after `beginning`, or `None` if the text does not begin with it.

@@ -43,10 +43,12 @@ impl EnvValues {
         ensures { option_map (λ v. v.now) result
             ≡ find (λ v. bytes_eq (string_bytes v.0) name.now) self.now.variables }
     {
-        self.variables
-            .as_slice()
-            .iter()
-            .find(|variable| is_named(variable, name))
+        for variable in self.variables.as_slice() {
+            if is_named(variable, name) {
+                return Some(variable);
+            }
+        }
+        None
     }
 
     /// Returns the index of the word to complete: the number in `_CLAP_COMPLETE_INDEX`, which
@@ -140,7 +142,12 @@ fn is_width(text: &str) -> bool
 fn are_digits(text: &[u8]) -> bool
     ensures { result ≡ list_all is_ascii_digit text.now }
 {
-    text.iter().all(|byte| byte.is_ascii_digit())
+    for byte in text {
+        if !byte.is_ascii_digit() {
+            return false;
+        }
+    }
+    true
 }
 
 // Returns the number that the text spells, or 0 if it spells none.

@@ -130,7 +130,12 @@ fn is_powershell_bare(value: &[u8]) -> bool
 fn are_powershell_bytes(bytes: &[u8]) -> bool
     ensures { result ≡ list_all is_powershell_byte bytes.now }
 {
-    bytes.iter().all(|byte| is_powershell_byte(*byte))
+    for byte in bytes {
+        if !is_powershell_byte(*byte) {
+            return false;
+        }
+    }
+    true
 }
 
 fn is_powershell_byte(byte: u8) -> bool
@@ -153,5 +158,10 @@ fn is_split_parameter(word: &[u8]) -> bool
 fn has_splitting(bytes: &[u8]) -> bool
     ensures { result ≡ list_any is_splitting bytes.now }
 {
-    bytes.iter().any(|byte| matches!(*byte, b'.' | b':'))
+    for byte in bytes {
+        if matches!(*byte, b'.' | b':') {
+            return true;
+        }
+    }
+    false
 }

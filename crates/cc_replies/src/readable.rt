@@ -18,7 +18,12 @@ use cc_candidates::CompletionCandidate;
 pub fn are_readable_values(candidates: &[CompletionCandidate], separator: u8) -> bool
     ensures { result ≡ are_readable_values separator candidates.now }
 {
-    candidates.iter().all(|candidate| is_readable_value(candidate.get_value(), separator))
+    for candidate in candidates {
+        if !is_readable_value(candidate.get_value(), separator) {
+            return false;
+        }
+    }
+    true
 }
 
 /// Returns whether zsh reads a reply with this `separator` back as the values and the first lines
@@ -35,9 +40,12 @@ pub fn are_readable_zsh_items(candidates: &[CompletionCandidate], separator: u8)
 pub fn are_readable_lines(candidates: &[CompletionCandidate]) -> bool
     ensures { result ≡ are_readable_lines candidates.now }
 {
-    candidates
-        .iter()
-        .all(|candidate| is_readable_line(candidate.get_value()))
+    for candidate in candidates {
+        if !is_readable_line(candidate.get_value()) {
+            return false;
+        }
+    }
+    true
 }
 
 /// Returns whether PowerShell reads a reply back as the values and the first lines of the help
@@ -46,9 +54,12 @@ pub fn are_readable_lines(candidates: &[CompletionCandidate]) -> bool
 pub fn are_readable_entries(candidates: &[CompletionCandidate]) -> bool
     ensures { result ≡ are_readable_entries candidates.now }
 {
-    candidates
-        .iter()
-        .all(|candidate| is_readable_entry(candidate))
+    for candidate in candidates {
+        if !is_readable_entry(candidate) {
+            return false;
+        }
+    }
+    true
 }
 
 fn is_readable_value(value: &str, separator: u8) -> bool
@@ -61,9 +72,12 @@ fn is_each_readable(candidates: &[CompletionCandidate], separator: u8) -> bool
     ensures { result
         ≡ list_all (λ candidate. is_readable_zsh_item separator (shown candidate)) candidates.now }
 {
-    candidates
-        .iter()
-        .all(|candidate| is_readable_zsh_item(candidate, separator))
+    for candidate in candidates {
+        if !is_readable_zsh_item(candidate, separator) {
+            return false;
+        }
+    }
+    true
 }
 
 fn is_readable_zsh_item(candidate: &CompletionCandidate, separator: u8) -> bool
@@ -118,5 +132,10 @@ fn is_help_without(help: Option<&str>, special: u8) -> bool
 pub(crate) fn is_without(text: &str, special: u8) -> bool
     ensures { result ≡ is_without special text.now }
 {
-    text.as_bytes().iter().all(|byte| *byte != special)
+    for byte in text.as_bytes() {
+        if *byte == special {
+            return false;
+        }
+    }
+    true
 }

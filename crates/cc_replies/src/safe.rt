@@ -29,7 +29,12 @@ pub(crate) fn is_in_locale(ascii_only: bool, text: &str) -> bool
 fn is_ascii(bytes: &[u8]) -> bool
     ensures { result ≡ list_all is_ascii bytes.now }
 {
-    bytes.iter().all(|byte| byte.is_ascii())
+    for byte in bytes {
+        if !byte.is_ascii() {
+            return false;
+        }
+    }
+    true
 }
 
 /// Returns the first line of the help text, unless that line is empty or has a control character.
