@@ -23,7 +23,12 @@ pub(crate) fn may_run_value(value: &str) -> bool
 pub(crate) fn may_run_name(name: &str) -> bool
     ensures { result ≡ may_run_name name.now }
 {
-    name.as_bytes().iter().any(|byte| !is_word_byte(*byte))
+    for byte in name.as_bytes() {
+        if !is_word_byte(*byte) {
+            return true;
+        }
+    }
+    false
 }
 
 fn is_word_byte(byte: u8) -> bool
@@ -36,13 +41,23 @@ fn is_word_byte(byte: u8) -> bool
 pub(crate) fn holds_one_of(signs: &[u8], bytes: &[u8]) -> bool
     ensures { result ≡ holds_one_of signs.now bytes.now }
 {
-    bytes.iter().any(|byte| is_one_of(signs, *byte))
+    for byte in bytes {
+        if is_one_of(signs, *byte) {
+            return true;
+        }
+    }
+    false
 }
 
 fn is_one_of(signs: &[u8], byte: u8) -> bool
     ensures { result ≡ is_one_of signs.now byte }
 {
-    signs.iter().any(|sign| byte == *sign)
+    for sign in signs {
+        if byte == *sign {
+            return true;
+        }
+    }
+    false
 }
 
 fn ends_with_backslash(bytes: &[u8]) -> bool

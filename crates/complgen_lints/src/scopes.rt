@@ -106,7 +106,12 @@ fn push_conflicts(found: &mut Found, inherited: &[&Arg], arguments: &[Arg]) -> A
 fn have_conflicts(arguments: &[Arg]) -> bool
     ensures { result ≡ have_conflicts arguments.now }
 {
-    arguments.iter().any(has_conflicts)
+    for argument in arguments {
+        if has_conflicts(argument) {
+            return true;
+        }
+    }
+    false
 }
 
 fn has_conflicts(argument: &Arg) -> bool

@@ -112,7 +112,12 @@ fn runs_code(program: &str) -> bool
 fn is_one_of(name: &str, names: &[&str]) -> bool
     ensures { result ≡ list_any (λ other. bytes_eq name.now other.now) names.now }
 {
-    names.iter().any(|other| name == *other)
+    for other in names {
+        if name == *other {
+            return true;
+        }
+    }
+    false
 }
 
 // Adds a warning about each key of a source, if the argument takes no values.

@@ -214,5 +214,10 @@ fn note_member<'t>(
 fn is_among(keys: &[&str], key: &str) -> bool
     ensures { result ≡ list_any (λ known. bytes_eq known.now key.now) keys.now }
 {
-    keys.iter().any(|known| *known == key)
+    for known in keys {
+        if *known == key {
+            return true;
+        }
+    }
+    false
 }

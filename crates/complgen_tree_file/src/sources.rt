@@ -95,10 +95,12 @@ fn note_words(faults: &mut Faults<'_>, words: &[Text]) -> Result<(), AllocError>
     if words.is_empty() {
         return faults.note(FaultKind::BadSource(SourceFault::NoProgram));
     }
-    match words.iter().position(is_cut) {
-        Some(index) => note_word(faults, index, SourceFault::CutWord),
-        None => note_word(faults, 0, SourceFault::NotProgram),
+    for (index, word) in words.iter().enumerate() {
+        if is_cut(word) {
+            return note_word(faults, index, SourceFault::CutWord);
+        }
     }
+    note_word(faults, 0, SourceFault::NotProgram)
 }
 
 fn note_word(faults: &mut Faults<'_>, index: usize, reason: SourceFault) -> Result<(), AllocError>
@@ -109,8 +111,12 @@ fn note_word(faults: &mut Faults<'_>, index: usize, reason: SourceFault) -> Resu
 
 // Returns whether a word would be cut where it is passed on: at a NUL or a vertical tab.
 fn is_cut(word: &Text) -> bool {
-    let bytes = word.as_str().as_bytes();
-    bytes.iter().any(|byte| *byte == 0 || *byte == 0x0b)
+    for byte in word.as_str().as_bytes() {
+        if matches!(*byte, 0 | 0x0b) {
+            return true;
+        }
+    }
+    false
 }
 
 fn check_file(faults: &mut Faults<'_>, parts: &ArgParts) -> Result<(), AllocError>
@@ -187,7 +193,12 @@ fn is_path(path: &str) -> bool
 fn has_nul(bytes: &[u8]) -> bool
     ensures { result ≡ has_byte nul bytes.now }
 {
-    bytes.iter().any(|byte| *byte == 0)
+    for byte in bytes {
+        if *byte == 0 {
+            return true;
+        }
+    }
+    false
 }
 
 fn has_good_separator(parts: &ArgParts) -> bool
