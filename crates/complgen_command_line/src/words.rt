@@ -69,47 +69,29 @@ fn tree_plan_of(alloc: Global, matches: &ArgMatches<'_>) -> Result<Plan, Refusal
     ensures err { IfErr result (Reports [] (subcommand_rows_of matches.now)) }
 {
     match matches.subcommand() {
-        Some(("script", values)) => script(alloc, values),
-        Some(("scripts", values)) => scripts(alloc, values),
-        Some(("register", values)) => register(alloc, values),
+        Some(("script", values)) => {
+            let (shell, bin, tree) = names(alloc, values)?;
+            Ok(Plan::Script(shell, bin, tree))
+        }
+        Some(("scripts", values)) => {
+            let (bin, out_dir, tree) = directory(alloc, values)?;
+            Ok(Plan::Scripts { bin, out_dir, tree })
+        }
+        Some(("register", values)) => {
+            let (shell, bin, tree) = names(alloc, values)?;
+            Ok(Plan::Register(shell, bin, tree))
+        }
         Some(("candidates", values)) => candidates(alloc, values),
-        Some(("wanted", values)) => wanted(alloc, values),
-        Some(("check", values)) => check(alloc, values),
+        Some(("wanted", values)) => {
+            let (index, tree, words) = line(alloc, values)?;
+            Ok(Plan::Wanted(index, tree, words))
+        }
+        Some(("check", values)) => {
+            let (bin, json, tree) = report(alloc, values)?;
+            Ok(Plan::Check { bin, json, tree })
+        }
         _ => unreachable!(),
     }
-}
-
-// Returns the plan of `script`.
-fn script(alloc: Global, values: &ArgMatches<'_>) -> Result<Plan, Refusal>
-    requires { GivesNames (rows_of (found_of values.now)) }
-    ensures ok { IfOk result (AsksFor (Some (codes "script", rows_of (found_of values.now)))) }
-    ensures err { IfErr result
-        (Reports [] (Some (codes "script", rows_of (found_of values.now)))) }
-{
-    let (shell, bin, tree) = names(alloc, values)?;
-    Ok(Plan::Script(shell, bin, tree))
-}
-
-// Returns the plan of `scripts`.
-fn scripts(alloc: Global, values: &ArgMatches<'_>) -> Result<Plan, Refusal>
-    requires { GivesDirectory (rows_of (found_of values.now)) }
-    ensures ok { IfOk result (AsksFor (Some (codes "scripts", rows_of (found_of values.now)))) }
-    ensures err { IfErr result
-        (Reports [] (Some (codes "scripts", rows_of (found_of values.now)))) }
-{
-    let (bin, out_dir, tree) = directory(alloc, values)?;
-    Ok(Plan::Scripts { bin, out_dir, tree })
-}
-
-// Returns the plan of `register`.
-fn register(alloc: Global, values: &ArgMatches<'_>) -> Result<Plan, Refusal>
-    requires { GivesNames (rows_of (found_of values.now)) }
-    ensures ok { IfOk result (AsksFor (Some (codes "register", rows_of (found_of values.now)))) }
-    ensures err { IfErr result
-        (Reports [] (Some (codes "register", rows_of (found_of values.now)))) }
-{
-    let (shell, bin, tree) = names(alloc, values)?;
-    Ok(Plan::Register(shell, bin, tree))
 }
 
 // Reads the values of `--shell`, `--bin` and `TREE`.
@@ -168,28 +150,6 @@ fn candidates(alloc: Global, values: &ArgMatches<'_>) -> Result<Plan, Refusal>
         tree,
         words,
     })
-}
-
-// Returns the plan of `wanted`.
-fn wanted(alloc: Global, values: &ArgMatches<'_>) -> Result<Plan, Refusal>
-    requires { GivesWords (rows_of (found_of values.now)) }
-    ensures ok { IfOk result (AsksFor (Some (codes "wanted", rows_of (found_of values.now)))) }
-    ensures err { IfErr result
-        (Reports [] (Some (codes "wanted", rows_of (found_of values.now)))) }
-{
-    let (index, tree, words) = line(alloc, values)?;
-    Ok(Plan::Wanted(index, tree, words))
-}
-
-// Returns the plan of `check`.
-fn check(alloc: Global, values: &ArgMatches<'_>) -> Result<Plan, Refusal>
-    requires { GivesTree (rows_of (found_of values.now)) }
-    ensures ok { IfOk result (AsksFor (Some (codes "check", rows_of (found_of values.now)))) }
-    ensures err { IfErr result
-        (Reports [] (Some (codes "check", rows_of (found_of values.now)))) }
-{
-    let (bin, json, tree) = report(alloc, values)?;
-    Ok(Plan::Check { bin, json, tree })
 }
 
 // Returns the plan of `man`.
