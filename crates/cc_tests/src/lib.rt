@@ -21,8 +21,6 @@ mod lists;
 #[cfg(test)]
 mod long_words;
 #[cfg(test)]
-mod lookups;
-#[cfg(test)]
 mod names;
 #[cfg(test)]
 mod offered;
