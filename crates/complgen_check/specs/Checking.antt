@@ -18,7 +18,7 @@ use Rattle.complgen_lints.specs.declared.warning.Warning.{Warning}
 use Rattle.cc_shell.specs.Shells.{shell_spec}
 use Rattle.cc_shell.specs.declared.shell.Shell.{Shell}
 use Rattle.cc_base.specs.Shown.{on_one_line}
-use Rattle.complgen_json.specs.Reads.{SpellsJson}
+use Rattle.complgen_tree_file.specs.JsonReads.{SpellsJson}
 use Rattle.complgen_tree_errors.specs.Checks.{DescribesNone, hidden_list}
 use Rattle.complgen_tree_errors.specs.Findings.{AreErrors, Shown, says, shown}
 use Rattle.complgen_tree_errors.specs.Places.{ShownStep, index, key}

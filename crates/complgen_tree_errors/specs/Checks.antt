@@ -2,8 +2,8 @@
 use Rattle.std.specs.Prelude.{◌≡◌, ℕ, List, [], Some, None, map}
 use Rattle.json.specs.Json.{Json}
 use Rattle.cc_command.specs.Tree.{Tree}
-use Rattle.complgen_json.specs.Reads.{SpellsJson}
-use Rattle.complgen_json.specs.Seen.{data_of}
+use Rattle.complgen_tree_file.specs.JsonReads.{SpellsJson}
+use Rattle.complgen_tree_file.specs.JsonSeen.{data_of}
 use Rattle.complgen_tree_file.specs.CommandForm.{command_of}
 use Rattle.complgen_tree_file.specs.TreeFile.{Describes}
 use Rattle.complgen_tree_errors.specs.Doubles.{hidden_in}

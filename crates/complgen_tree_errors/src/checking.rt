@@ -4,7 +4,7 @@ ghost use Rattle.std.specs.Prelude.{◌≡◌, All, IfOk, is_some, map};
 ghost use Rattle.cc_base.specs.Shown.{HoldsNoControl};
 ghost use Rattle.json.specs.Value.{value_view};
 ghost use Rattle.std.specs.String.{string_bytes};
-ghost use Rattle.complgen_json.specs.Seen.{view};
+ghost use Rattle.complgen_tree_file.specs.JsonSeen.{view};
 ghost use Rattle.complgen_tree_file.specs.CommandForm.{command_of};
 ghost use Rattle.complgen_tree_file.specs.Faults.{has_none, is_nil};
 ghost use Rattle.complgen_tree_errors.specs.Checks.{Checks, ChecksValue};
@@ -16,8 +16,9 @@ use crate::not_json::{json_errors, one_error};
 use crate::texts::fault_text;
 use cc_base::on_one_line;
 use cc_command::Command;
-use complgen_json::{JsonError, Scratch, Value, read_value};
-use complgen_tree_file::{Fault, FaultKind, Faults, command_or_faults};
+use complgen_tree_file::{
+    Fault, FaultKind, Faults, JsonError, Scratch, Value, command_or_faults, read_value,
+};
 use std::alloc::{AllocError, Global};
 
 /// The result of checking a tree file.

@@ -10,8 +10,7 @@ ghost use Rattle.complgen_tree_errors.specs.Places.{shown_step};
 
 use crate::finding::{Finding, Level, Source};
 use crate::texts::double_text;
-use complgen_json::Value;
-use complgen_tree_file::Step;
+use complgen_tree_file::{Step, Value};
 use std::alloc::{AllocError, Global};
 
 /// Returns a warning for each member in the value of `source` that a later member of the same key

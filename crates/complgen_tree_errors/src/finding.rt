@@ -8,8 +8,7 @@ ghost use Rattle.complgen_tree_errors.specs.Places.{shown_step};
 
 use crate::places::show_path;
 use crate::spots::{Spot, offset_at, spots};
-use complgen_json::Value;
-use complgen_tree_file::Step;
+use complgen_tree_file::{Step, Value};
 use std::alloc::{AllocError, Global};
 
 /// The level of a finding.

@@ -16,5 +16,4 @@ mod texts;
 pub use crate::checking::{Checked, check_file};
 pub use crate::finding::{Finding, Level, Source};
 pub use crate::lines::Lines;
-pub use complgen_json::Scratch;
-pub use complgen_tree_file::Step;
+pub use complgen_tree_file::{Scratch, Step};

@@ -7,8 +7,7 @@ use crate::checking::placed_errors;
 use crate::finding::{Finding, Level, Source};
 use crate::places::show_path;
 use cc_base::on_one_line;
-use complgen_json::{Scratch, Value};
-use complgen_tree_file::Step;
+use complgen_tree_file::{Scratch, Step, Value};
 use json::Reader;
 use std::alloc::{AllocError, Global};
 

@@ -8,8 +8,7 @@ ghost use Rattle.complgen_tree_errors.specs.Places.{joined, path_text, shown_ste
 
 use crate::shown::push_shown;
 use cc_base::on_one_line;
-use complgen_json::Value;
-use complgen_tree_file::Step;
+use complgen_tree_file::{Step, Value};
 use std::alloc::{AllocError, Global};
 
 /// Returns the value inside `value` that `step` leads to, and its index among the members or items.

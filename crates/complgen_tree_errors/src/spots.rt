@@ -1,8 +1,7 @@
 //! Finds where the values of a text begin, all in one pass.
 
 use crate::places::inside;
-use complgen_json::{Scratch, Value};
-use complgen_tree_file::Step;
+use complgen_tree_file::{Scratch, Step, Value};
 use json::Reader;
 use std::alloc::{AllocError, Global};
 

@@ -9,8 +9,7 @@ use crate::nearest::{nearest, same_letters};
 use crate::places::inside;
 use crate::shown::push_shown;
 use crate::source_texts::source_text;
-use complgen_json::Value;
-use complgen_tree_file::{Fault, FaultKind, ObjectKind, Step, ValueKind};
+use complgen_tree_file::{Fault, FaultKind, ObjectKind, Step, Value, ValueKind};
 use std::alloc::{AllocError, Global};
 
 /// Returns the message about `fault`, whose path leads from `whole`.

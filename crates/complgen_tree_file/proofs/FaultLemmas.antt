@@ -2,7 +2,7 @@
 use Rattle.std.proofs.Common.{◌≡◌, ◌&&◌, ◌++◌, ℕ, List, [], ◌∷◌, Bool, true, false, Option, Some, None, is_some, not, length, refl}
 use Rattle.serde_json.specs.Data.{Data, object}
 use Rattle.serde_json.specs.Find.{as_object}
-use Rattle.complgen_json.specs.Keys.{has_only}
+use Rattle.complgen_tree_file.specs.JsonKeys.{has_only}
 use Rattle.complgen_tree_file.specs.Faults.{is_nil}
 use Rattle.complgen_tree_file.specs.TreeForm.{with_item}
 

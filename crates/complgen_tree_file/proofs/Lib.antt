@@ -1,5 +1,8 @@
 pub mod ChildrenLemmas
 pub mod FaultLemmas
+pub mod JsonFound
+pub mod JsonRangeSteps
+pub mod JsonSlotExamples
 pub mod NestingLemmas
 pub mod SlotLemmas
 pub mod TreeFormExamples

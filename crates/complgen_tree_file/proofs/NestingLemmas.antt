@@ -4,7 +4,7 @@ use Rattle.std.specs.Cmp.Lexicographic.{slice_cmp}
 use Rattle.std.specs.Ordering.{match_ordering}
 use Rattle.serde_json.specs.Data.{Data, array, object, Items, Members, member, no_members, depth, items_depth, members_depth}
 use Rattle.serde_json.specs.Find.{as_array, get, get_member}
-use Rattle.complgen_json.specs.Seen.{items_view, view}
+use Rattle.complgen_tree_file.specs.JsonSeen.{items_view, view}
 use Rattle.json.specs.declared.value.Value.{Value}
 use Rattle.std.specs.declared.alloc.Global.{Global}
 

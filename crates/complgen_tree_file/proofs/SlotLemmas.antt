@@ -8,7 +8,7 @@ use Rattle.std.proofs.lemmas.Slice.Eq.{bytes_eq-Decides}
 use Rattle.json.specs.declared.value.Value.{Value}
 use Rattle.serde_json.specs.Data.{Data}
 use Rattle.serde_json.specs.Find.{get}
-use Rattle.complgen_json.specs.Slots.{Hold, held, values_at}
+use Rattle.complgen_tree_file.specs.JsonSlots.{Hold, held, values_at}
 use Rattle.complgen_tree_file.specs.Slots.{AreHeldFrom}
 use Rattle.complgen_tree_file.specs.TreeForm.{Setting}
 

@@ -7,7 +7,7 @@ use Rattle.std.specs.Str.{IsUtf8, chars}
 use Rattle.std.proofs.lemmas.List.{take_more}
 use Rattle.std.proofs.lemmas.Str.{IsUtf8-past_char, chars_past_char, chars-nil}
 use Rattle.serde_json.specs.Data.{Data}
-use Rattle.complgen_json.specs.Seen.{items_view, view}
+use Rattle.complgen_tree_file.specs.JsonSeen.{items_view, view}
 use Rattle.json.specs.declared.value.Value.{Value}
 use Rattle.complgen_tree_file.specs.TreeForm.{all_of, only, pair_of, with_item}
 

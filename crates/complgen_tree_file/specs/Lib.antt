@@ -1,9 +1,13 @@
 pub mod ArgumentForm
 pub mod CommandForm
 pub mod Faults
+pub mod JsonKeys
+pub mod JsonReads
+pub mod JsonSeen
+pub mod JsonSlots
 pub mod Kinds
 pub mod PossibleValueForm
-pub mod SourceForm
 pub mod Slots
+pub mod SourceForm
 pub mod TreeFile
 pub mod TreeForm

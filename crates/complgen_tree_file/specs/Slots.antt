@@ -5,7 +5,7 @@ use Rattle.std.specs.declared.alloc.Global.{Global}
 use Rattle.json.specs.declared.value.Value.{Value}
 use Rattle.serde_json.specs.Data.{Data}
 use Rattle.serde_json.specs.Find.{get}
-use Rattle.complgen_json.specs.Slots.{held}
+use Rattle.complgen_tree_file.specs.JsonSlots.{held}
 use Rattle.complgen_tree_file.specs.TreeForm.{Setting}
 
 -- from an index on, each slot holds what the value has at the key of the next setting

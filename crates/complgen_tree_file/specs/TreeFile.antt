@@ -5,7 +5,7 @@ use Rattle.std.specs.declared.alloc.Global.{Global}
 use Rattle.json.specs.declared.value.Value.{Value}
 use Rattle.serde_json.specs.Data.{Data}
 use Rattle.serde_json.specs.Read.{read}
-use Rattle.complgen_json.specs.Seen.{view}
+use Rattle.complgen_tree_file.specs.JsonSeen.{view}
 use Rattle.cc_command.specs.Tree.{Tree}
 use Rattle.complgen_tree_file.specs.CommandForm.{command_of}
 use Rattle.complgen_tree_file.specs.Faults.{has_none}

@@ -6,7 +6,7 @@ use Rattle.std.specs.Str.{bytes_eq, chars}
 use Rattle.serde_json.specs.Data.{Data, null, Items, item}
 use Rattle.serde_json.specs.Data.{no_items}
 use Rattle.serde_json.specs.Find.{as_array, as_number, as_str, as_u64, get}
-use Rattle.complgen_json.specs.Keys.{has_only}
+use Rattle.complgen_tree_file.specs.JsonKeys.{has_only}
 use Rattle.cc_arg.specs.declared.action.ArgAction.{ArgAction}
 use Rattle.cc_arg.specs.declared.action.ArgAction.TheVariants.{Set, Append, SetTrue, SetFalse}
 use Rattle.cc_arg.specs.declared.action.ArgAction.TheVariants.{Count, Help, HelpShort, HelpLong}

@@ -1,15 +1,16 @@
 //! Reads the arguments of a tree file.
 
 ghost use Rattle.std.specs.Prelude.{◌≡◌, IfOk, None, codes, replicate};
-ghost use Rattle.complgen_json.specs.Seen.{view};
-ghost use Rattle.complgen_json.specs.Keys.{has_only};
-ghost use Rattle.complgen_json.specs.Slots.{Hold, values_at};
+ghost use Rattle.complgen_tree_file.specs.JsonSeen.{view};
+ghost use Rattle.complgen_tree_file.specs.JsonKeys.{has_only};
+ghost use Rattle.complgen_tree_file.specs.JsonSlots.{Hold, values_at};
 ghost use Rattle.complgen_tree_file.specs.ArgumentForm as form;
 ghost use Rattle.complgen_tree_file.specs.Faults.{Makes};
 ghost use Rattle.complgen_tree_file.specs.Slots.{AreHeldFrom};
 ghost use Rattle.complgen_tree_file.specs.TreeForm.{all_fit, is_object_of, set_all, text_at};
 
 use crate::faults::Faults;
+use crate::json_values::{Value, find_keys};
 use crate::keys::{all_keys, only_in, set_group};
 use crate::kinds::ObjectKind;
 use crate::objects::needed_text;
@@ -17,7 +18,6 @@ use crate::sources::set_sources;
 use crate::values::{MOST_KEYS, set};
 use cc_arg::{Arg, ArgParts};
 use cc_base::Text;
-use complgen_json::{Value, find_keys};
 use std::alloc::AllocError;
 
 // One line for each key: its index, the key, its group, and the field that it sets. The id is read

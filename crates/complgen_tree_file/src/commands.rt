@@ -2,9 +2,9 @@
 
 ghost use Rattle.std.specs.Prelude.{◌≡◌, IfOk, None, codes, fold, get_or, replicate};
 ghost use Rattle.serde_json.specs.Find.{get};
-ghost use Rattle.complgen_json.specs.Seen.{view};
-ghost use Rattle.complgen_json.specs.Keys.{has_only};
-ghost use Rattle.complgen_json.specs.Slots.{Hold, held, values_at};
+ghost use Rattle.complgen_tree_file.specs.JsonSeen.{view};
+ghost use Rattle.complgen_tree_file.specs.JsonKeys.{has_only};
+ghost use Rattle.complgen_tree_file.specs.JsonSlots.{Hold, held, values_at};
 ghost use Rattle.cc_command.specs.Made.{with_argument, with_child};
 ghost use Rattle.complgen_tree_file.specs.CommandForm as form;
 ghost use Rattle.complgen_tree_file.specs.Faults.{Makes};
@@ -13,6 +13,7 @@ ghost use Rattle.complgen_tree_file.specs.TreeForm.{all_fit, set_all};
 
 use crate::args::arg;
 use crate::faults::{FaultKind, Faults, Step};
+use crate::json_values::{self, Value, find_keys};
 use crate::keys::{all_keys, only_in, set_group};
 use crate::kinds::{ObjectKind, ValueKind};
 use crate::objects::needed_text;
@@ -20,7 +21,6 @@ use crate::values::{MOST_KEYS, set};
 use cc_command::{
     Command, Node, add_argument, add_child, from_node, reserve_arguments, reserve_children,
 };
-use complgen_json::{Value, find_keys};
 use std::alloc::AllocError;
 
 // One line for each key: its index, the key, its group, and the field that it sets. The name, the
@@ -106,7 +106,7 @@ fn add_children<'t>(
         (form.commands_fit (view value.now)) parent.new faults.old faults.new) }
 {
     let before_all = faults.count();
-    let Some(items) = complgen_json::items(value) else {
+    let Some(items) = json_values::items(value) else {
         let kind = FaultKind::NoList(ValueKind::Object(ObjectKind::Command));
         return faults.note_at(Step::Key("subcommands"), kind);
     };
@@ -257,7 +257,7 @@ fn add_each<'t>(
         (fold with_argument node.old (form.arguments_in (view value.now)))
         (form.arguments_fit (view value.now)) node.new faults.old faults.new) }
 {
-    let Some(items) = complgen_json::items(value) else {
+    let Some(items) = json_values::items(value) else {
         return faults.note(FaultKind::NoList(ValueKind::Object(ObjectKind::Argument)));
     };
     // Building may add the flags `--help` and `--version`.

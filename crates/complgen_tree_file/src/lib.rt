@@ -5,6 +5,7 @@ mod args;
 mod commands;
 mod error;
 mod faults;
+mod json_values;
 mod keys;
 mod kinds;
 mod objects;
@@ -13,15 +14,15 @@ mod sources;
 mod values;
 
 ghost use Rattle.std.specs.Prelude.{IfOk};
-ghost use Rattle.complgen_json.specs.Seen.{view};
+ghost use Rattle.complgen_tree_file.specs.JsonSeen.{view};
 ghost use Rattle.complgen_tree_file.specs.TreeFile.{FindsCommand, ReadsTree, ReadsValue};
 
 use crate::commands::read_command;
 pub use crate::error::TreeError;
 pub use crate::faults::{Fault, FaultKind, Faults, SourceFault, Step};
+pub use crate::json_values::{JsonError, Scratch, Value, read_value};
 pub use crate::kinds::{ObjectKind, ValueKind};
 use cc_command::Command;
-use complgen_json::{JsonError, Scratch, Value, read_value};
 use std::alloc::{AllocError, Global};
 
 /// Returns the command that the bytes of a tree file describe.

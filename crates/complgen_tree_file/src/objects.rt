@@ -6,18 +6,18 @@ ghost use Rattle.std.specs.Prelude.{option_and_then, unwrap_or};
 ghost use Rattle.std.specs.List.{list_all, list_any};
 ghost use Rattle.std.specs.Str.{bytes_eq};
 ghost use Rattle.serde_json.specs.Find.{as_object, as_str, get};
-ghost use Rattle.complgen_json.specs.Keys.{has_only};
-ghost use Rattle.complgen_json.specs.Seen.{view};
-ghost use Rattle.complgen_json.specs.Slots.{held};
+ghost use Rattle.complgen_tree_file.specs.JsonKeys.{has_only};
+ghost use Rattle.complgen_tree_file.specs.JsonSeen.{view};
+ghost use Rattle.complgen_tree_file.specs.JsonSlots.{held};
 ghost use Rattle.complgen_tree_file.specs.Faults.{FindsUnless, Makes, Reads};
 ghost use Rattle.complgen_tree_file.specs.Kinds.{kind_keys, needed_key};
 ghost use Rattle.complgen_tree_file.specs.TreeForm.{fits_at, is_object_of, text_at};
 
 use crate::faults::{FaultKind, Faults, Step};
+use crate::json_values::{Value, member};
 use crate::kinds::{ObjectKind, ValueKind};
 use crate::values::FromValue;
 use cc_base::Text;
-use complgen_json::{Value, member};
 use std::alloc::AllocError;
 
 /// Reads `value`, to which `step` leads. Returns `None` if something is wrong with it.

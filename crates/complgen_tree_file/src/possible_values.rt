@@ -2,19 +2,19 @@
 
 ghost use Rattle.std.specs.Prelude.{◌≡◌, ◌&&◌, IfOk, codes};
 ghost use Rattle.serde_json.specs.Find.{as_bool, as_str};
-ghost use Rattle.complgen_json.specs.Keys.{has_only};
-ghost use Rattle.complgen_json.specs.Seen.{view};
+ghost use Rattle.complgen_tree_file.specs.JsonKeys.{has_only};
+ghost use Rattle.complgen_tree_file.specs.JsonSeen.{view};
 ghost use Rattle.complgen_tree_file.specs.Faults.{Makes};
 ghost use Rattle.complgen_tree_file.specs.PossibleValueForm as form;
 ghost use Rattle.complgen_tree_file.specs.TreeForm.{fits_at};
 
 use crate::faults::Faults;
+use crate::json_values::{Value, has_only_keys, member};
 use crate::kinds::{ObjectKind, ValueKind};
 use crate::objects::{at, needed_text};
 use crate::values::FromValue;
 use cc_arg::PossibleValue;
 use cc_base::Text;
-use complgen_json::{Value, has_only_keys, member};
 use std::alloc::AllocError;
 
 pub(crate) const KEYS: &[&str] = &["name", "help", "hide"];

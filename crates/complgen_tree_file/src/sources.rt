@@ -3,8 +3,8 @@
 
 ghost use Rattle.std.specs.Prelude.{◌≡◌, IfOk, false, is_some, not};
 ghost use Rattle.cc_arg.specs.ValueSources.{has_byte, is_runnable, nul};
-ghost use Rattle.complgen_json.specs.Seen.{view};
-ghost use Rattle.complgen_json.specs.Slots.{Hold, values_at};
+ghost use Rattle.complgen_tree_file.specs.JsonSeen.{view};
+ghost use Rattle.complgen_tree_file.specs.JsonSlots.{Hold, values_at};
 ghost use Rattle.complgen_tree_file.specs.Slots.{AreHeldFrom};
 ghost use Rattle.complgen_tree_file.specs.ArgumentForm.{argument_keys, sources, sources_fit};
 ghost use Rattle.complgen_tree_file.specs.Faults.{FindsUnless, Makes, has_none};
@@ -14,11 +14,11 @@ ghost use Rattle.complgen_tree_file.specs.TreeForm.{all_fit, set_all};
 
 use crate::args::each_key;
 use crate::faults::{FaultKind, Faults, SourceFault, Step};
+use crate::json_values::Value;
 use crate::keys::{only_in, set_group};
 use crate::values::{MOST_KEYS, set};
 use cc_arg::{ArgParts, is_runnable};
 use cc_base::Text;
-use complgen_json::Value;
 use std::alloc::AllocError;
 
 /// Sets the fields of the keys for the source of the values. Notes what is wrong with them, also if

@@ -3,26 +3,26 @@
 ghost use Rattle.std.specs.Prelude.{◌≡◌, ◌<◌, ◌&&◌, IfOk, None, get_or, option_and_then};
 ghost use Rattle.std.specs.Str.{chars};
 ghost use Rattle.serde_json.specs.Find.{as_str, get};
-ghost use Rattle.complgen_json.specs.Seen.{view};
-ghost use Rattle.complgen_json.specs.Slots.{held};
+ghost use Rattle.complgen_tree_file.specs.JsonSeen.{view};
+ghost use Rattle.complgen_tree_file.specs.JsonSlots.{held};
 ghost use Rattle.complgen_tree_file.specs.Faults.{Makes, Reads};
 ghost use Rattle.complgen_tree_file.specs.TreeForm.{action_of, bound_of, character_of};
 ghost use Rattle.complgen_tree_file.specs.TreeForm.{field_from, fits_at, hint_of, number_of, only};
 ghost use Rattle.complgen_tree_file.specs.TreeForm.{range_of, with_item};
 
 use crate::faults::{FaultKind, Faults, Step};
+use crate::json_values::{self, Value, is_null};
 use crate::kinds::{ValueKind, each_action, each_hint};
 use crate::objects::inside;
 use cc_arg::{ArgAction, ValueHint, ValueRange};
 use cc_base::{Items, Text};
-use complgen_json::{Value, is_null};
 use std::alloc::AllocError;
 
 /// A type that a value of a tree file is read into.
 pub trait FromValue: Drop {
     ghost use Rattle.std.specs.Prelude.{Option, IfOk};
     ghost use Rattle.serde_json.specs.Data.{Data};
-    ghost use Rattle.complgen_json.specs.Seen.{view};
+    ghost use Rattle.complgen_tree_file.specs.JsonSeen.{view};
     ghost use Rattle.complgen_tree_file.specs.Faults.{Reads};
 
     // The result of reading a value; `None` if the value is of another kind.
@@ -102,7 +102,7 @@ impl FromValue for Text {
     ghost form = { as_str };
 
     fn read<'t>(faults: &mut Faults<'t>, value: &Value<'t>) -> Result<Option<Text>, AllocError> {
-        match complgen_json::text(value) {
+        match json_values::text(value) {
             Some(text) => Ok(Some(Text::copy_of(faults.allocator(), text)?)),
             None => expected(faults, None, ValueKind::Text),
         }
@@ -120,7 +120,7 @@ impl FromValue for bool {
     ghost form = { as_bool };
 
     fn read<'t>(faults: &mut Faults<'t>, value: &Value<'t>) -> Result<Option<bool>, AllocError> {
-        expected(faults, complgen_json::boolean(value), ValueKind::Boolean)
+        expected(faults, json_values::boolean(value), ValueKind::Boolean)
     }
 
     fn kind() -> ValueKind {
@@ -146,7 +146,7 @@ impl FromValue for usize {
 fn number(value: &Value<'_>) -> Option<usize>
     ensures { result ≡ number_of (view value.now) }
 {
-    let number = complgen_json::whole_number(value)?;
+    let number = json_values::whole_number(value)?;
     Some(number as usize)
 }
 
@@ -168,7 +168,7 @@ impl FromValue for char {
 fn character(value: &Value<'_>) -> Option<char>
     ensures { result ≡ character_of (view value.now) }
 {
-    only_character(complgen_json::text(value)?)
+    only_character(json_values::text(value)?)
 }
 
 // Returns the character of a text that has one character.
@@ -216,7 +216,7 @@ impl<T: FromValue> FromValue for Items<T> {
         faults: &mut Faults<'t>,
         value: &Value<'t>,
     ) -> Result<Option<Items<T>>, AllocError> {
-        let Some(items) = complgen_json::items(value) else {
+        let Some(items) = json_values::items(value) else {
             faults.note(FaultKind::NoList(T::kind()))?;
             return Ok(None);
         };
@@ -268,7 +268,7 @@ impl FromValue for ValueRange {
 fn range(value: &Value<'_>) -> Option<ValueRange>
     ensures { result ≡ range_of (view value.now) }
 {
-    let items = complgen_json::items(value)?;
+    let items = json_values::items(value)?;
     let [least, greatest] = items.as_slice() else {
         return None;
     };
@@ -322,7 +322,7 @@ impl FromValue for ArgAction {
 fn action(value: &Value<'_>) -> Option<ArgAction>
     ensures { result ≡ option_and_then action_of (as_str (view value.now)) }
 {
-    each_action!(variant_named! ArgAction, complgen_json::text(value)?)
+    each_action!(variant_named! ArgAction, json_values::text(value)?)
 }
 
 /// Reads the name of a value hint.
@@ -347,5 +347,5 @@ impl FromValue for ValueHint {
 fn hint(value: &Value<'_>) -> Option<ValueHint>
     ensures { result ≡ option_and_then hint_of (as_str (view value.now)) }
 {
-    each_hint!(variant_named! ValueHint, complgen_json::text(value)?)
+    each_hint!(variant_named! ValueHint, json_values::text(value)?)
 }

@@ -2,7 +2,7 @@ use Rattle.std.proofs.Common.{◌≡◌, ◌∙◌, ◌<◌, [], None, Some, ap,
 use Rattle.std.specs.Option.{option_map_or}
 use Rattle.serde_json.specs.Data.{depth}
 use Rattle.serde_json.specs.Find.{as_array, get}
-use Rattle.complgen_json.specs.Seen.{items_view, view}
+use Rattle.complgen_tree_file.specs.JsonSeen.{items_view, view}
 use Rattle.cc_command.specs.Made.{of_node, with_child}
 use Rattle.complgen_tree_file.specs.CommandForm.{command_keys, commands_fit, commands_in, own_fits, own_in}
 use Rattle.complgen_tree_file.specs.Faults.{has_none}

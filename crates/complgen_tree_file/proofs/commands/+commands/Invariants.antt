@@ -1,6 +1,6 @@
 use Rattle.std.specs.Prelude.{◌≡◌, drop, fold}
 use Rattle.serde_json.specs.Data.{depth}
-use Rattle.complgen_json.specs.Seen.{items_view, view}
+use Rattle.complgen_tree_file.specs.JsonSeen.{items_view, view}
 use Rattle.cc_command.specs.Made.{with_child}
 use Rattle.complgen_tree_file.specs.CommandForm.{each_command, each_command_fits}
 use Rattle.complgen_tree_file.specs.Faults.{has_none}

@@ -1,5 +1,5 @@
 use Rattle.std.specs.Prelude.{◌≡◌, drop, fold}
-use Rattle.complgen_json.specs.Seen.{items_view}
+use Rattle.complgen_tree_file.specs.JsonSeen.{items_view}
 use Rattle.cc_command.specs.Made.{with_argument}
 use Rattle.complgen_tree_file.specs.ArgumentForm.{argument_fits, argument_in}
 use Rattle.complgen_tree_file.specs.Faults.{has_none}

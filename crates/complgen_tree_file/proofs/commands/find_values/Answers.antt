@@ -1,6 +1,6 @@
 use Rattle.std.proofs.Common.{None, ap}
 use Rattle.std.specs.Prelude.{replicate}
-use Rattle.complgen_json.specs.Slots.{all_held}
+use Rattle.complgen_tree_file.specs.JsonSlots.{all_held}
 use Rattle.complgen_tree_file.proofs.commands.find_values.Goals as goal
 
 pub find_keys-requires-clause-empty : goal.find_keys-requires-clause-empty

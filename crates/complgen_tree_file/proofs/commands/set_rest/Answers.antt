@@ -1,5 +1,5 @@
 use Rattle.std.proofs.Common.{None, refl}
-use Rattle.complgen_json.specs.Seen.{view}
+use Rattle.complgen_tree_file.specs.JsonSeen.{view}
 use Rattle.complgen_tree_file.specs.CommandForm.{command_keys}
 use Rattle.complgen_tree_file.specs.CommandForm as form
 use Rattle.complgen_tree_file.proofs.SlotLemmas.{held_at, held_from}

@@ -3,9 +3,9 @@ use Rattle.std.specs.List.{list_all, list_any}
 use Rattle.std.specs.Str.{bytes_eq}
 use Rattle.json.proofs.Trees.{view-Object}
 use Rattle.serde_json.specs.Data.{object}
-use Rattle.complgen_json.specs.Keys.{has_only}
-use Rattle.complgen_json.specs.Seen.{data_of, members_view, view}
-use Rattle.complgen_json.proofs.Found.{Member, known_seen}
+use Rattle.complgen_tree_file.specs.JsonKeys.{has_only}
+use Rattle.complgen_tree_file.specs.JsonSeen.{data_of, members_view, view}
+use Rattle.complgen_tree_file.proofs.JsonFound.{Member, known_seen}
 use Rattle.complgen_tree_file.specs.Faults.{FindsUnless}
 use Rattle.complgen_tree_file.proofs.objects.note_keys.Goals as goal
 

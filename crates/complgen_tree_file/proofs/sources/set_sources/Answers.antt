@@ -1,5 +1,5 @@
 use Rattle.std.proofs.Common.{refl}
-use Rattle.complgen_json.specs.Seen.{view}
+use Rattle.complgen_tree_file.specs.JsonSeen.{view}
 use Rattle.complgen_tree_file.specs.ArgumentForm.{argument_keys, sources}
 use Rattle.complgen_tree_file.proofs.SlotLemmas.{held_from}
 use Rattle.complgen_tree_file.proofs.sources.set_sources.Goals as goal

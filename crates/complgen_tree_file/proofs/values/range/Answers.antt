@@ -1,7 +1,7 @@
 use Rattle.std.proofs.Common.{◌≡◌, ◌∙◌, Some, ap, arith, rules, sym}
 use Rattle.std.specs.Prelude.{option_and_then}
 use Rattle.serde_json.specs.Find.{as_array}
-use Rattle.complgen_json.specs.Seen.{items_view, view}
+use Rattle.complgen_tree_file.specs.JsonSeen.{items_view, view}
 use Rattle.complgen_tree_file.specs.TreeForm.{pair_of}
 use Rattle.complgen_tree_file.proofs.TreeFormLemmas.{no_pair_above, no_pair_below}
 use Rattle.complgen_tree_file.proofs.values.range.Goals as goal

@@ -1,5 +1,5 @@
 use Rattle.std.proofs.Common.{◌≡◌, ◌∙◌, ◌&&◌, ◌<◌, ap, arith, get_or, is_some, length, sym}
-use Rattle.complgen_json.specs.Seen.{view}
+use Rattle.complgen_tree_file.specs.JsonSeen.{view}
 use Rattle.complgen_tree_file.specs.Faults.{has_none}
 use Rattle.complgen_tree_file.specs.TreeForm.{with_item}
 use Rattle.complgen_tree_file.proofs.FaultLemmas.{both_there}

@@ -1,5 +1,5 @@
 use Rattle.std.proofs.Common.{◌≡◌, ◌&&◌, is_some, take}
-use Rattle.complgen_json.specs.Seen.{items_view}
+use Rattle.complgen_tree_file.specs.JsonSeen.{items_view}
 use Rattle.complgen_tree_file.specs.Faults.{has_none}
 use Rattle.complgen_tree_file.specs.TreeForm.{all_of}
 use Rattle.complgen_tree_file.proofs.values.ItemsFromValue.read.Given as goal

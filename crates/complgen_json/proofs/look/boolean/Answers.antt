@@ -1,7 +1,0 @@
-use Rattle.std.proofs.Common.{◌∙◌}
-use Rattle.json.specs.Value.{value_view}
-use Rattle.complgen_json.proofs.Found.{boolean_seen}
-use Rattle.complgen_json.proofs.look.boolean.Goals as goal
-
-pub returns : goal.returns
-returns c = c.as_bool.ensures ∙ boolean_seen (value_view c.args.value.now)

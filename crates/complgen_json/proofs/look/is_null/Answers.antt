@@ -1,7 +1,0 @@
-use Rattle.std.proofs.Common.{◌∙◌}
-use Rattle.json.specs.Value.{value_view}
-use Rattle.complgen_json.proofs.Found.{null_seen}
-use Rattle.complgen_json.proofs.look.is_null.Goals as goal
-
-pub returns : goal.returns
-returns c = c.is_null.ensures ∙ null_seen (value_view c.args.value.now)

@@ -1,7 +1,0 @@
-use Rattle.std.proofs.Common.{◌∙◌}
-use Rattle.json.specs.Value.{value_view}
-use Rattle.complgen_json.proofs.Found.{text_seen}
-use Rattle.complgen_json.proofs.look.text.Goals as goal
-
-pub returns : goal.returns
-returns c = c.as_str.ensures ∙ text_seen (value_view c.args.value.now)

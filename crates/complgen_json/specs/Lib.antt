@@ -1,4 +1,0 @@
-pub mod Keys
-pub mod Reads
-pub mod Seen
-pub mod Slots

@@ -1,0 +1,20 @@
+use Rattle.std.proofs.Common.{◌≡◌, ◌∙◌, List, ap, map, sym}
+use Rattle.std.specs.List.{list_all, list_any}
+use Rattle.std.specs.Str.{bytes_eq}
+use Rattle.json.proofs.Trees.{view-Object}
+use Rattle.serde_json.specs.Data.{object}
+use Rattle.complgen_tree_file.specs.JsonKeys.{has_only}
+use Rattle.complgen_tree_file.specs.JsonSeen.{data_of, members_view, view}
+use Rattle.complgen_tree_file.proofs.JsonFound.{Member, known_seen}
+use Rattle.complgen_tree_file.proofs.json_values.look.has_only_keys.Goals as goal
+
+pub returns-in-Object : goal.returns-in-Object
+returns-in-Object c =
+    let keys = c.args.keys.now in
+    let ms = c.in-Object.members.items in
+    let is : view c.args.value.now ≡ object (members_view ms) =
+    ap view c.in-Object.is ∙ ap data_of (view-Object c.in-Object.members) in
+    c.have_only_keys.ensures
+    ∙ ap (λ (ms : List Member). list_all (λ m. list_any (λ known. bytes_eq known.now m.0.now) keys) ms)
+    c.as_slice.ensures.value
+    ∙ known_seen keys ms ∙ sym (ap (has_only (map (λ key. key.now) keys)) is)

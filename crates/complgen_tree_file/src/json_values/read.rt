@@ -1,0 +1,62 @@
+//! Reads a JSON value.
+
+ghost use Rattle.std.specs.Prelude.{IfOk};
+ghost use Rattle.json.specs.Value.{value_view};
+ghost use Rattle.complgen_tree_file.specs.JsonReads.{ReadsFirst, ReadsJson, SpellsJson};
+
+use crate::json_values::range::has_range;
+use json::{Reader, Scratch, Value};
+use std::alloc::Global;
+
+/// The reason why no value was read.
+#[derive(Debug, Drop)]
+pub enum JsonError {
+    /// The text is not JSON, is nested too deeply, or has a number out of range.
+    NotJson,
+    /// An allocation failed.
+    Memory,
+}
+
+const MAX_DEPTH: usize = 127;
+
+/// Returns the value that `text` spells. It borrows from `text` and, if a string has escapes, from
+/// `scratch`.
+///
+/// # Errors
+///
+/// `NotJson` if `text` spells no value, `Memory` if an allocation fails.
+pub fn read_value<'t>(
+    alloc: Global,
+    text: &'t str,
+    scratch: &'t mut Scratch,
+) -> Result<Value<'t>, JsonError>
+    ensures reads { ReadsJson text.now result }
+
+    // All members of an object are kept, also those of one key.
+    ensures spells { IfOk result (λ value. SpellsJson text.now (value_view value)) }
+{
+    let Ok(mut reader) = Reader::new(text, scratch) else {
+        return Err(JsonError::Memory);
+    };
+    let value = first(alloc, &mut reader)?;
+    if reader.next().is_some() {
+        drop(value);
+        return Err(JsonError::NotJson);
+    }
+    if !has_range(&value) {
+        drop(value);
+        return Err(JsonError::NotJson);
+    }
+    Ok(value)
+}
+
+// Reads the first value of the reader.
+fn first<'t>(alloc: Global, reader: &mut Reader<'t>) -> Result<Value<'t>, JsonError>
+    ensures { ReadsFirst reader.old result reader.new }
+{
+    match Value::read(alloc, reader, MAX_DEPTH) {
+        Ok(value) => Ok(value),
+        Err(json::Error::OutOfMemory) => Err(JsonError::Memory),
+        Err(_) => Err(JsonError::NotJson),
+    }
+}
