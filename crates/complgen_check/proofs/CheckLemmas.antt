@@ -7,7 +7,7 @@ use Rattle.cc_base.specs.declared.failures.Failures.{Failures}
 use Rattle.complgen_scripts.specs.declared.refusals.Refusal.{Refusal}
 use Rattle.complgen_scripts.specs.Refusals.{IsRefusal}
 use Rattle.complgen_scripts.specs.Refusals.{Reports, unreadable_line}
-use Rattle.complgen_tree_errors.specs.declared.finding.Finding.{Finding}
+use Rattle.complgen_check.specs.declared.errors.finding.Finding.{Finding}
 use Rattle.complgen_check.specs.Checking.{EndsCheck, Finds, only_notes, out_of_memory_in_text}
 use Rattle.complgen_check.specs.Checking.{printed, unreadable, write_failed}
 use Rattle.complgen_check.specs.Report.{report_text}

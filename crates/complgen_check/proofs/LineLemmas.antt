@@ -1,7 +1,7 @@
 -- The parts of a line that is printed.
 use Rattle.std.proofs.Common.{◌≡◌, ◌∙◌, ◌++◌, ℕ, List, append_assoc, codes, decimal, string_bytes, sym, take}
-use Rattle.complgen_tree_errors.specs.Places.{column_after, line_after}
-use Rattle.complgen_tree_errors.specs.declared.finding.Finding.{Finding}
+use Rattle.complgen_check.specs.Places.{column_after, line_after}
+use Rattle.complgen_check.specs.declared.errors.finding.Finding.{Finding}
 use Rattle.complgen_check.specs.Lines.{finding_line, level_text, place_text}
 
 regrouped : (a b c d e f g h : List ℕ) → a ++ b ++ c ++ d ++ e ++ f ++ g ++ h

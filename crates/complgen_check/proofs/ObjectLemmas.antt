@@ -4,7 +4,7 @@ use Rattle.json.proofs.Printed.Decimals.{IsNumber-decimal}
 use Rattle.json.specs.Json.{Json}
 use Rattle.json.specs.Print.{IsNumber}
 use Rattle.json.specs.Tree.{HasNumbers}
-use Rattle.complgen_tree_errors.specs.declared.finding.Finding.{Finding}
+use Rattle.complgen_check.specs.declared.errors.finding.Finding.{Finding}
 use Rattle.complgen_check.specs.Objects.{object_with}
 
 pub is_number : (text : List ℕ) (n : ℕ) → text ≡ decimal n → n < 2 ^ 64 → IsNumber text

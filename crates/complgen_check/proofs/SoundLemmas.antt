@@ -19,11 +19,11 @@ use Rattle.cc_shell.specs.declared.shell.Shell.TheVariants.{Bash, Elvish, Fish, 
 use Rattle.cc_tables.proofs.ElvishPlain.{elvish_plain_reads}
 use Rattle.cc_tables.proofs.NushellPlain.{nushell_plain_reads}
 use Rattle.cc_tables.proofs.PowershellFreeScripts.{powershell_plain_reads}
-use Rattle.complgen_tree_errors.specs.Checks.{hidden_list}
-use Rattle.complgen_tree_errors.specs.Findings.{AreErrors, IsError, Shown, shown}
-use Rattle.complgen_tree_errors.specs.declared.finding.Level.{Level}
-use Rattle.complgen_tree_errors.specs.declared.finding.Level.TheVariants.{Error, Note, Warning as Warns}
-use Rattle.complgen_tree_errors.specs.declared.finding.Finding.{Finding}
+use Rattle.complgen_check.specs.FileChecks.{hidden_list}
+use Rattle.complgen_check.specs.Findings.{AreErrors, IsError, Shown, shown}
+use Rattle.complgen_check.specs.declared.errors.finding.Level.{Level}
+use Rattle.complgen_check.specs.declared.errors.finding.Level.TheVariants.{Error, Note, Warning as Warns}
+use Rattle.complgen_check.specs.declared.errors.finding.Finding.{Finding}
 use Rattle.complgen_check.proofs.NoWarnings.{premises_hold}
 use Rattle.complgen_check.specs.Promises.{HoldPremises}
 use Rattle.complgen_check.specs.TreeWarnings.{built_as, called, warnings_of}

@@ -19,12 +19,12 @@ use Rattle.cc_shell.specs.Shells.{shell_spec}
 use Rattle.cc_shell.specs.declared.shell.Shell.{Shell}
 use Rattle.cc_base.specs.Shown.{on_one_line}
 use Rattle.complgen_tree_file.specs.JsonReads.{SpellsJson}
-use Rattle.complgen_tree_errors.specs.Checks.{DescribesNone, hidden_list}
-use Rattle.complgen_tree_errors.specs.Findings.{AreErrors, Shown, says, shown}
-use Rattle.complgen_tree_errors.specs.Places.{ShownStep, index, key}
-use Rattle.complgen_tree_errors.specs.declared.finding.Level.{Level}
-use Rattle.complgen_tree_errors.specs.declared.finding.Level.TheVariants as level
-use Rattle.complgen_tree_errors.specs.declared.finding.Finding.{Finding}
+use Rattle.complgen_check.specs.FileChecks.{DescribesNone, hidden_list}
+use Rattle.complgen_check.specs.Findings.{AreErrors, Shown, says, shown}
+use Rattle.complgen_check.specs.Places.{ShownStep, index, key}
+use Rattle.complgen_check.specs.declared.errors.finding.Level.{Level}
+use Rattle.complgen_check.specs.declared.errors.finding.Level.TheVariants as level
+use Rattle.complgen_check.specs.declared.errors.finding.Finding.{Finding}
 use Rattle.complgen_tree_file.specs.TreeFile.{Describes}
 use Rattle.complgen_check.specs.Promises.{HoldPremises}
 use Rattle.complgen_check.specs.TreeWarnings.{built_as, warnings_of}

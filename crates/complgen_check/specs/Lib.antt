@@ -1,6 +1,12 @@
 pub mod Checking
+pub mod Doubles
+pub mod FileChecks
+pub mod Findings
 pub mod Lines
+pub mod Marks
 pub mod Objects
+pub mod Places
 pub mod Promises
 pub mod Report
+pub mod Shown
 pub mod TreeWarnings

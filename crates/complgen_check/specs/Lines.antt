@@ -1,9 +1,9 @@
 -- Findings as lines of text.
 use Rattle.std.specs.Prelude.{ℕ, List, ◌++◌, codes, decimal, string_bytes, take}
-use Rattle.complgen_tree_errors.specs.Places.{column_after, line_after}
-use Rattle.complgen_tree_errors.specs.declared.finding.Level.{Level}
-use Rattle.complgen_tree_errors.specs.declared.finding.Level.TheVariants.{Error, Note, Warning}
-use Rattle.complgen_tree_errors.specs.declared.finding.Finding.{Finding}
+use Rattle.complgen_check.specs.Places.{column_after, line_after}
+use Rattle.complgen_check.specs.declared.errors.finding.Level.{Level}
+use Rattle.complgen_check.specs.declared.errors.finding.Level.TheVariants.{Error, Note, Warning}
+use Rattle.complgen_check.specs.declared.errors.finding.Finding.{Finding}
 
 -- the name of a level
 abbrev pub level_text : Level → List ℕ

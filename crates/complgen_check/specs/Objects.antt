@@ -3,8 +3,8 @@ use Rattle.std.specs.Prelude.{ℕ, List, codes, decimal, string_bytes, take}
 use Rattle.json.specs.Json.{Json, member, no_members, number, object, string}
 use Rattle.json.specs.Print.{print}
 use Rattle.json.specs.Tree.{json_tokens}
-use Rattle.complgen_tree_errors.specs.Places.{column_after, line_after}
-use Rattle.complgen_tree_errors.specs.declared.finding.Finding.{Finding}
+use Rattle.complgen_check.specs.Places.{column_after, line_after}
+use Rattle.complgen_check.specs.declared.errors.finding.Finding.{Finding}
 use Rattle.complgen_check.specs.Lines.{level_text}
 
 -- a finding as JSON, with the texts of its line and of its column

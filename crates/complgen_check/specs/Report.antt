@@ -1,7 +1,7 @@
 -- The text that is printed for findings.
 use Rattle.std.specs.Prelude.{ℕ, List, ◌++◌, codes}
 use Rattle.std.specs.List.{flat_map}
-use Rattle.complgen_tree_errors.specs.declared.finding.Finding.{Finding}
+use Rattle.complgen_check.specs.declared.errors.finding.Finding.{Finding}
 use Rattle.complgen_check.specs.Lines.{finding_line}
 use Rattle.complgen_check.specs.Objects.{finding_object}
 use Rattle.complgen_check.specs.declared.report.Report.{Report}

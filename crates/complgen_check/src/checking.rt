@@ -2,8 +2,8 @@
 
 ghost use Rattle.std.specs.Prelude.{◌≡◌, ◌++◌, [], ◌∷◌, IfOk, IsTrue, OnOk, map};
 ghost use Rattle.std.specs.Option.{option_copied};
-ghost use Rattle.complgen_tree_errors.specs.Findings.{shown};
-ghost use Rattle.complgen_tree_errors.specs.Places.{index, key, shown_step};
+ghost use Rattle.complgen_check.specs.Findings.{shown};
+ghost use Rattle.complgen_check.specs.Places.{index, key, shown_step};
 ghost use Rattle.complgen_check.specs.Checking.{AreSound, EndsCheck, Finds};
 ghost use Rattle.complgen_check.specs.Checking.{argument_steps, command_steps, is_note};
 ghost use Rattle.complgen_check.specs.Checking.{item_steps, key_steps, level_of, only_notes};
@@ -11,12 +11,13 @@ ghost use Rattle.complgen_check.specs.Checking.{place_steps, shown_warning};
 ghost use Rattle.complgen_check.specs.TreeWarnings.{warnings_of};
 
 use crate::all_warnings::tree_warnings;
+use crate::errors::{Checked, Finding, Level, Source, check_file};
 use crate::report::{Report, put_findings};
 use cc_base::{Sink, on_one_line};
 use cc_command::Command;
 use complgen_lints::{Key, Place, Warning};
 use complgen_scripts::{Refusal, UNREADABLE, error_refusal};
-use complgen_tree_errors::{Checked, Finding, Level, Scratch, Source, Step, check_file};
+use complgen_tree_file::{Scratch, Step};
 use std::alloc::{AllocError, Global};
 
 /// Prints the errors in a tree file, or if there are none, the warnings and notes about the command

@@ -3,6 +3,7 @@
 
 mod all_warnings;
 mod checking;
+mod errors;
 mod lines;
 mod objects;
 mod report;

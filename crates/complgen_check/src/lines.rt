@@ -4,7 +4,7 @@ ghost use Rattle.std.specs.Prelude.{◌≡◌, IfOk, take};
 ghost use Rattle.std.specs.String.{string_bytes};
 ghost use Rattle.complgen_check.specs.Lines.{finding_line, level_text, place_text};
 
-use complgen_tree_errors::{Finding, Level, Lines};
+use crate::errors::{Finding, Level, Lines};
 use std::alloc::{AllocError, Global};
 
 /// Returns `finding` as a line, `LINE:COLUMN: LEVEL: PATH: TEXT`.

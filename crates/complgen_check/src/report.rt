@@ -3,10 +3,10 @@
 ghost use Rattle.cc_base.specs.Writes.{Writes};
 ghost use Rattle.complgen_check.specs.Report.{finding_text, report_text};
 
+use crate::errors::{Finding, Lines};
 use crate::lines::line;
 use crate::objects::object;
 use cc_base::{Error, Sink, put_all, put_piece};
-use complgen_tree_errors::{Finding, Lines};
 use std::alloc::Global;
 
 /// The form in which findings are printed.

@@ -1,6 +1,6 @@
 use Rattle.std.proofs.Common.{◌∙◌, ◌+◌, ◌++◌, [], ◌∷◌, ap, append_assoc, codes, drop, get_or, map, sym}
 use Rattle.std.proofs.lemmas.List.{drop_more}
-use Rattle.complgen_tree_errors.specs.Places.{index, key, shown_step}
+use Rattle.complgen_check.specs.Places.{index, key, shown_step}
 use Rattle.complgen_check.specs.Checking.{command_steps}
 use Rattle.complgen_check.proofs.checking.command_steps.Goals as goal
 

@@ -1,5 +1,5 @@
 use Rattle.std.proofs.Common.{◌≡◌, ◌++◌, drop, map}
-use Rattle.complgen_tree_errors.specs.Places.{shown_step}
+use Rattle.complgen_check.specs.Places.{shown_step}
 use Rattle.complgen_check.specs.Checking.{command_steps}
 use Rattle.complgen_check.proofs.checking.command_steps.Given as goal
 

@@ -1,8 +1,8 @@
 use Rattle.std.proofs.Common.{◌∙◌, ◌++◌, ap, map, subst}
 use Rattle.std.proofs.lemmas.Result.{IfOk-weaker}
-use Rattle.complgen_tree_errors.specs.Checks.{Checks}
+use Rattle.complgen_check.specs.FileChecks.{Checks}
 use Rattle.std.specs.Option.{option_copied}
-use Rattle.complgen_tree_errors.specs.declared.checking.Checked.{Checked}
+use Rattle.complgen_check.specs.declared.errors.checking.Checked.{Checked}
 use Rattle.complgen_check.specs.Checking.{described, errors, shown_warning}
 use Rattle.complgen_check.specs.TreeWarnings.{warnings_of}
 use Rattle.complgen_check.proofs.checking.findings.Goals as goal

@@ -1,5 +1,5 @@
 use Rattle.std.proofs.Common.{◌≡◌, ◌++◌, drop, map}
-use Rattle.complgen_tree_errors.specs.Findings.{shown}
+use Rattle.complgen_check.specs.Findings.{shown}
 use Rattle.complgen_check.specs.Checking.{shown_warning}
 use Rattle.complgen_check.proofs.checking.push_warnings.Given as goal
 

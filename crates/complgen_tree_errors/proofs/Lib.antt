@@ -1,2 +1,0 @@
-pub mod MarkLemmas
-pub mod ShownLemmas

@@ -1,9 +1,0 @@
-use Rattle.std.specs.Prelude.{◌≡◌, drop}
-use Rattle.json.specs.Value.{members_view}
-use Rattle.complgen_tree_errors.specs.Doubles.{has_key}
-use Rattle.complgen_tree_errors.proofs.doubles.has_key.Given as goal
-
--- the key is among the members that are left if it is among all
-abbrev pub invariant-loop-member : goal.invariant-loop-member
-invariant-loop-member l =
-    has_key l.key (members_view (drop l.member-index l.members)) ≡ has_key l.key (members_view l.members)
