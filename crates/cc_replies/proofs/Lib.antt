@@ -16,6 +16,7 @@ pub mod ListWidths
 mod Named
 pub mod PowershellReadings
 pub mod ReplyReadings
+mod RequestExamples
 mod SafeExamples
 pub mod SafeReadings
 pub mod StoppedLoops

@@ -5,6 +5,7 @@ pub mod GivenLines
 pub mod PowershellEntries
 pub mod PowershellWords
 pub mod Reply
+pub mod Requests
 pub mod SafeReplies
 pub mod SafeValues
 pub mod Variables

@@ -24,6 +24,7 @@ mod powershell_words;
 mod readable;
 mod reply;
 mod reply_lines;
+mod requests;
 mod safe;
 mod safe_replies;
 mod system;
@@ -38,5 +39,6 @@ pub use crate::readable::{
     are_readable_entries, are_readable_lines, are_readable_values, are_readable_zsh_items,
 };
 pub use crate::reply::{write_lines, write_values, write_zsh_items};
+pub use crate::requests::is_request;
 pub use crate::safe_replies::{write_safe_lines, write_safe_values, write_safe_zsh_items};
 pub use crate::system::{home, variables, words};

@@ -5,7 +5,7 @@ use Rattle.std.proofs.lemmas.Slice.Eq.{bytes_eq-Decides}
 use Rattle.std.proofs.Math.Bool.{and-false}
 use Rattle.clap.specs.Words.{Text, takes}
 use Rattle.clap.proofs.OnLiterals.{clap_on_literals}
-use Rattle.complgen_live.specs.Requests.{begins_request, is_request, names_shell}
+use Rattle.cc_replies.specs.Requests.{begins_request, is_request, names_shell}
 use Rattle.complgen_command_line.specs.CommandLine.{program_line}
 
 untaken_none : takes program_line [] ≡ false

@@ -4,10 +4,10 @@ use Rattle.std.specs.Prelude.{codes, map, option_map, string_bytes, unwrap_or}
 use Rattle.std.specs.Str.{bytes_eq}
 use Rattle.std.specs.Str.Parse.{IsNumeral, digits_value, without_leading_plus}
 use Rattle.clap.specs.Words.{Row, Text, all_of, first_of}
-use Rattle.complgen_commands.specs.declared.plans.Plan.{Plan}
-use Rattle.complgen_commands.specs.declared.plans.Plan.TheVariants.{Candidates, CandidatesWith}
-use Rattle.complgen_commands.specs.declared.plans.Plan.TheVariants.{Check, Man, Register, Script}
-use Rattle.complgen_commands.specs.declared.plans.Plan.TheVariants.{Scripts, Wanted}
+use Rattle.complgen_scripts.specs.declared.plans.Plan.{Plan}
+use Rattle.complgen_scripts.specs.declared.plans.Plan.TheVariants.{Candidates, CandidatesWith}
+use Rattle.complgen_scripts.specs.declared.plans.Plan.TheVariants.{Check, Man, Register, Script}
+use Rattle.complgen_scripts.specs.declared.plans.Plan.TheVariants.{Scripts, Wanted}
 
 -- the subcommand with this name was entered, and its rows have this property
 pub record Enters (name : Text) (Has : List Row → Type 0) (entered : Option (Text × List Row))

@@ -3,11 +3,10 @@
 ghost use Rattle.std.specs.Prelude.{◌≡◌, codes, false, map, string_bytes, true};
 ghost use Rattle.clap.specs.Words.{takes};
 ghost use Rattle.cc_replies.specs.Environment.{value_of};
+ghost use Rattle.cc_replies.specs.Requests.{is_request};
 ghost use Rattle.complgen_command_line.specs.CommandLine.{program_line};
-ghost use Rattle.complgen_live.specs.Requests.{is_request};
 
-use cc_replies::EnvValues;
-use complgen_live::is_request;
+use cc_replies::{EnvValues, is_request};
 
 /// Returns whether `words` are a request of a shell, and not a command line for `plan`. `env` has
 /// the environment variables. The command line accepts no request, so every command line that works

@@ -14,8 +14,7 @@ ghost use Rattle.complgen_scripts.specs.Refusals.{IsOutOfMemory};
 use crate::command_line::command_line;
 use crate::parse::{flag, optional, refusal_of, text, value};
 use clap::ArgMatches;
-use complgen_commands::Plan;
-use complgen_scripts::Refusal;
+use complgen_scripts::{Plan, Refusal};
 use std::alloc::{AllocError, Global};
 
 const BAD_INDEX: &str = "index: bad number\n";

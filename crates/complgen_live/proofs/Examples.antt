@@ -6,30 +6,12 @@ use Rattle.cc_base.specs.PlainName.{is_joined, is_plain_name, name_byte}
 use Rattle.complgen_live.specs.Folders.{tree_folders}
 use Rattle.complgen_live.specs.KnownNames.{each_once, is_other_name}
 use Rattle.complgen_live.specs.Origins.{is_trusted}
-use Rattle.complgen_live.specs.Requests.{is_request, request_words}
+use Rattle.complgen_live.specs.Requests.{request_words}
 use Rattle.complgen_live.specs.TreeFiles.{is_file_name, stems, tree_paths, tree_stem}
 use Rattle.complgen_live.specs.declared.requests.Origin.{Origin}
 use Rattle.complgen_live.specs.declared.requests.Origin.TheVariants.{File, Program}
 
 -- ---- requests
-
-alone_row : is_request (Some (codes "bash")) (codes "complgen" ∷ []) ≡ true
-alone_row = refl
-
-words_row : is_request (Some (codes "fish")) (codes "complgen" ∷ codes "--" ∷ codes "git" ∷ []) ≡ true
-words_row = refl
-
-script_row : is_request (Some (codes "fish")) (codes "complgen" ∷ codes "script" ∷ []) ≡ false
-script_row = refl
-
-zero_row : is_request (Some (codes "0")) (codes "complgen" ∷ []) ≡ false
-zero_row = refl
-
-empty_row : is_request (Some []) (codes "complgen" ∷ []) ≡ false
-empty_row = refl
-
-unset_row : is_request None (codes "complgen" ∷ []) ≡ false
-unset_row = refl
 
 after_row : request_words (codes "complgen" ∷ codes "--" ∷ codes "git" ∷ codes "--" ∷ [])
     ≡ Some (codes "git" ∷ codes "--" ∷ [])

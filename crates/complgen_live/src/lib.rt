@@ -1,6 +1,6 @@
 //! Live completion of any program by its tree file. This crate finds the tree files and the
-//! programs that have one, recognizes the requests of shells, and writes registrations and
-//! answers: replies, or the words of a command that lists values.
+//! programs that have one, and writes registrations and answers to the requests of shells: replies,
+//! or the words of a command that lists values.
 #![tactic(auto)]
 
 mod answers;
@@ -24,4 +24,4 @@ pub use crate::plain_names::PlainNames;
 pub use crate::registrations::write_registrations;
 pub use crate::replies::reply;
 pub use crate::reply_errors::{BadTree, ReplyError};
-pub use crate::requests::{Origin, Request, is_request, request_words};
+pub use crate::requests::{Origin, Request, request_words};

@@ -1,10 +1,7 @@
-//! Distinguishes requests of shells from command lines.
+//! A request of a shell, and what its answer depends on.
 
-ghost use Rattle.std.specs.Prelude.{◌≡◌, codes, map, option_map, string_bytes};
-ghost use Rattle.std.specs.Option.{option_copied};
-ghost use Rattle.cc_replies.specs.Environment.{value_of};
+ghost use Rattle.std.specs.Prelude.{◌≡◌, map, option_map, string_bytes};
 ghost use Rattle.complgen_live.specs.Origins.{is_trusted};
-ghost use Rattle.complgen_live.specs.Requests.{begins_request, is_request, names_shell};
 ghost use Rattle.complgen_live.specs.Requests.{request_words};
 
 use cc_command::Release;
@@ -50,35 +47,6 @@ pub struct Request<'r, D> {
     pub folder: &'r D,
     /// When the memory of the command is released.
     pub release: Release,
-}
-
-/// Returns whether a shell requests registrations or candidates. In a request, the variable
-/// `COMPLETE` of `env` is set, and is neither empty nor `0`. The first of `words` is the program's
-/// name. In a request, no word follows it, or the next word is `--`. `is_shell_request` of
-/// `complgen_command_line` states that the command line accepts no such words.
-pub fn is_request(env: &EnvValues, words: &[String]) -> bool
-    ensures { result
-        ≡ is_request (value_of (codes "COMPLETE") env.now) (map string_bytes words.now) }
-{
-    names_shell(env.get("COMPLETE")) && begins_request(words)
-}
-
-fn names_shell(value: Option<&str>) -> bool
-    ensures { result ≡ names_shell (option_copied value.entry) }
-{
-    match value {
-        Some(value) => value != "" && value != "0",
-        None => false,
-    }
-}
-
-fn begins_request(words: &[String]) -> bool
-    ensures { result ≡ begins_request (map string_bytes words.now) }
-{
-    match words {
-        [_program, word, ..] => word.as_str() == "--",
-        _ => true,
-    }
 }
 
 /// Returns the words after the `--` of a request for candidates, or `None` if no `--` follows the

@@ -1,3 +1,7 @@
 mod FindingLemmas
 mod PageLemmas
 mod PlanLemmas
+mod RegisterLemmas
+mod ReplyLemmas
+mod WantedExamples
+mod WantedLemmas

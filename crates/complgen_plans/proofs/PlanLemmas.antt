@@ -4,11 +4,11 @@ use Rattle.std.proofs.Common.{Global, String, Vec, map, string_bytes}
 use Rattle.std.specs.Result.{result_and}
 use Rattle.cc_base.specs.declared.failures.Failures.{Failures}
 use Rattle.complgen_scripts.proofs.WritingLemmas.{same}
-use Rattle.complgen_commands.specs.GivenReplies.{EndsReplyWith}
+use Rattle.complgen_plans.specs.GivenReplies.{EndsReplyWith}
 use Rattle.complgen_scripts.specs.Refusals.{IsMade, values_unreadable_at}
-use Rattle.complgen_commands.specs.Replies.{EndsReply, Paths}
-use Rattle.complgen_commands.specs.declared.plans.Plan.{Plan}
-use Rattle.complgen_commands.specs.declared.plans.Plan.TheVariants.{Candidates, CandidatesWith}
+use Rattle.complgen_plans.specs.Replies.{EndsReply, Paths}
+use Rattle.complgen_scripts.specs.declared.plans.Plan.{Plan}
+use Rattle.complgen_scripts.specs.declared.plans.Plan.TheVariants.{Candidates, CandidatesWith}
 use Rattle.complgen_scripts.specs.declared.refusals.Refusal.{Refusal}
 use Rattle.complgen_plans.specs.Ends.{Ends, EndsValues, Succeeds}
 

@@ -4,18 +4,18 @@ use Rattle.cc_base.specs.declared.failures.Failures.{Failures}
 use Rattle.cc_shell.specs.declared.shell.Shell.{Shell}
 use Rattle.complgen_check.specs.Checking.{AreSound}
 use Rattle.complgen_scripts.specs.AllScripts.{EndsScripts}
-use Rattle.complgen_commands.specs.GivenReplies.{EndsReplyWith}
+use Rattle.complgen_plans.specs.GivenReplies.{EndsReplyWith}
 use Rattle.complgen_scripts.specs.Refusals.{IsMade, values_unreadable_at}
-use Rattle.complgen_commands.specs.Registrations.{EndsRegistration}
-use Rattle.complgen_commands.specs.Replies.{EndsReply, Paths}
+use Rattle.complgen_plans.specs.Registrations.{EndsRegistration}
+use Rattle.complgen_plans.specs.Replies.{EndsReply, Paths}
 use Rattle.complgen_scripts.specs.ScriptEnds.{EndsScript, NamedScriptReads}
 use Rattle.complgen_scripts.specs.Scripts.{ScriptReads}
-use Rattle.complgen_commands.specs.Wanted.{EndsWanted}
+use Rattle.complgen_plans.specs.Wanted.{EndsWanted}
 use Rattle.complgen_scripts.specs.Writing.{Untouched}
-use Rattle.complgen_commands.specs.declared.plans.Plan.{Plan}
-use Rattle.complgen_commands.specs.declared.plans.Plan.TheVariants.{Candidates, CandidatesWith}
-use Rattle.complgen_commands.specs.declared.plans.Plan.TheVariants.{Check, Man, Register, Script}
-use Rattle.complgen_commands.specs.declared.plans.Plan.TheVariants.{Scripts, Wanted}
+use Rattle.complgen_scripts.specs.declared.plans.Plan.{Plan}
+use Rattle.complgen_scripts.specs.declared.plans.Plan.TheVariants.{Candidates, CandidatesWith}
+use Rattle.complgen_scripts.specs.declared.plans.Plan.TheVariants.{Check, Man, Register, Script}
+use Rattle.complgen_scripts.specs.declared.plans.Plan.TheVariants.{Scripts, Wanted}
 use Rattle.complgen_scripts.specs.declared.refusals.Refusal.{Refusal}
 use Rattle.complgen_plans.specs.Checks.{EndsFindings}
 use Rattle.complgen_plans.specs.Pages.{EndsPage}

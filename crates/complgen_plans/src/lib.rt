@@ -3,9 +3,8 @@
 //! ```rattle
 //! use cc_base::Collected;
 //! use cc_paths::MemoryFolder;
-//! use complgen_commands::Plan;
-//! use complgen_scripts::Refusal;
 //! use complgen_plans::{Given, carry_out};
+//! use complgen_scripts::{Plan, Refusal};
 //! use std::alloc::Global;
 //! use std::rt::Files;
 //!
@@ -29,9 +28,14 @@
 
 mod checks;
 mod given;
+mod given_replies;
 mod page;
 mod plans;
+mod registrations;
+mod replies;
 mod values;
+mod wanted;
+mod word_at;
 
 pub use crate::given::Given;
 pub use crate::plans::carry_out;

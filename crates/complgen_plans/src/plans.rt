@@ -8,12 +8,15 @@ ghost use Rattle.complgen_plans.specs.Ends.{Ends, ReadsBack};
 use crate::checks::write_findings;
 use crate::given::Given;
 use crate::page::write_man_page;
+use crate::registrations::register;
+use crate::replies::reply;
 use crate::values::write_candidates;
+use crate::wanted::write_wanted;
+use crate::word_at::WordAt;
 use cc_base::Sink;
 use cc_command::Release;
 use cc_paths::Folder;
-use complgen_commands::{Plan, WordAt, register, reply, write_wanted};
-use complgen_scripts::{Refusal, TreeFile, script, scripts};
+use complgen_scripts::{Plan, Refusal, TreeFile, script, scripts};
 use std::alloc::Global;
 use std::rt::Files;
 

@@ -6,9 +6,10 @@ ghost use Rattle.cc_engine.specs.Paths.{PathsOf};
 ghost use Rattle.complgen_plans.specs.Ends.{EndsValues};
 
 use crate::given::Given;
+use crate::given_replies::reply_with;
+use crate::word_at::WordAt;
 use cc_base::Sink;
 use cc_paths::Folder;
-use complgen_commands::{WordAt, reply_with};
 use complgen_scripts::{Refusal, unreadable_values};
 use std::alloc::Global;
 

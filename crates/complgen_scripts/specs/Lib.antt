@@ -1,4 +1,5 @@
 pub mod AllScripts
+pub mod Plans
 pub mod Refusals
 pub mod ScriptEnds
 pub mod Scripts

@@ -1,4 +1,0 @@
-pub mod RegisterLemmas
-pub mod ReplyLemmas
-mod WantedExamples
-mod WantedLemmas

@@ -1,5 +1,0 @@
-pub mod GivenReplies
-pub mod Plans
-pub mod Registrations
-pub mod Replies
-pub mod Wanted
