@@ -31,8 +31,7 @@ from source import CLAUSE, aliases, exported, find, implementations, items, priv
 LIST = os.path.join(common.TOP, "tools", "calls.txt")
 MODULES = ["", "aot", "aot::utils", "command", "describe", "engine", "env", "parser", "program", "quote"]
 CRATES = [
-    "complgen_tree_file", "complgen_command_line", "complgen_scripts", "complgen_commands", "complgen_check",
-    "complgen_plans", "complgen_c",
+    "complgen_tree_file", "complgen_command_line", "complgen_scripts", "complgen_check", "complgen_plans", "complgen_c",
 ]
 # The crates that tests run: tests, programs, and the crates that only the program uses.
 RUN = ["cc_tests", "library_calls", "larder", "pantry", *(it for it in common.crate_lines() if it.startswith("complgen"))]
