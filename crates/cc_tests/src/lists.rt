@@ -89,6 +89,7 @@ fn the_names_in_a_tree_are_listed(rt: HostRuntime) {
         "h V | help version | help version",
     );
     is(&rt, below(rt.alloc(), &command), BELOW);
+    leads(&rt, &command, &["test", "config"], "config");
     let test = utils::find_subcommand_with_path(&command, ["test"].as_slice());
     let test = test.expect(&rt, "no child");
     is(

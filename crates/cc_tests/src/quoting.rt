@@ -64,5 +64,8 @@ fn words_are_read(rt: HostRuntime) {
     reads(&rt, fish_double(alloc, double), "it's\\ é", "more");
     let text = "\"a$b\\c\"é\\ y\\\nz w";
     reads(&rt, posix_word(alloc, text), "a$b\\cé yz", " w");
+    reads(&rt, posix_word(alloc, "'a'\\''b' c"), "a'b", " c");
+    let open = posix_word(alloc, "'a");
+    assert!(rt; matches!(open, Ok(None)));
     reads(&rt, powershell_word(alloc, "'it'’s' more"), "it’s", " more");
 }
