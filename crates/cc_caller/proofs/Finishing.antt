@@ -5,7 +5,7 @@ use Rattle.std.specs.List.{list_any}
 use Rattle.std.proofs.lemmas.Cmp.{nat_cmp_total, tied_itself}
 use Rattle.clap_complete.specs.cc_base.Sorting.{in_order, insert}
 use Rattle.clap_complete.specs.cc_candidates.declared.candidate.CompletionCandidate.{CompletionCandidate}
-use Rattle.clap_complete.specs.cc_gather.Finished.{comes_before, finish, first_of_ids, group, is_shown, rank_of, share, shown_or_all}
+use Rattle.clap_complete.specs.cc_engine.Finished.{comes_before, finish, first_of_ids, group, is_shown, rank_of, share, shown_or_all}
 use Rattle.cc_caller.specs.KnownNames.{tool_candidate}
 
 all_shown : (names : List (List ℕ)) → filter is_shown (map tool_candidate names) ≡ map tool_candidate names

@@ -16,17 +16,17 @@ use Rattle.clap_complete.specs.cc_command.Generated.{help_argument}
 use Rattle.clap_complete.specs.cc_command.Texts.{help_name}
 use Rattle.clap_complete.specs.cc_command.Tree.{Tree}
 use Rattle.clap_complete.specs.cc_engine.Completion.{Completes, Offers, Refuses, is_in_range, match_candidates}
-use Rattle.clap_complete.specs.cc_gather.Children.{in_candidates_order, subcommand_candidates}
-use Rattle.clap_complete.specs.cc_gather.Finished.{finish}
-use Rattle.clap_complete.specs.cc_gather.declared.options.OptionMatch.TheVariants.{Listed}
-use Rattle.clap_complete.specs.cc_gather.OptionMatches.{match_of}
-use Rattle.clap_complete.specs.cc_gather.Parts.{front_length}
-use Rattle.clap_complete.specs.cc_gather.Values.{MayReturn, as_value, gather, question, values}
-use Rattle.clap_complete.specs.cc_walk.Blocks.{Block, Dashes, join, start, state_after}
-use Rattle.clap_complete.specs.cc_walk.declared.state.State.{State}
-use Rattle.clap_complete.specs.cc_walk.Destination.{WordsLeadTo}
-use Rattle.clap_complete.specs.cc_walk.Lookup.{positional_at}
-use Rattle.clap_complete.specs.cc_walk.Reach.{Descend, Reach, Stay}
+use Rattle.clap_complete.specs.cc_engine.Children.{in_candidates_order, subcommand_candidates}
+use Rattle.clap_complete.specs.cc_engine.Finished.{finish}
+use Rattle.clap_complete.specs.cc_engine.declared.gathering.options.OptionMatch.TheVariants.{Listed}
+use Rattle.clap_complete.specs.cc_engine.OptionMatches.{match_of}
+use Rattle.clap_complete.specs.cc_engine.Parts.{front_length}
+use Rattle.clap_complete.specs.cc_engine.Values.{MayReturn, as_value, gather, question, values}
+use Rattle.clap_complete.specs.cc_engine.Blocks.{Block, Dashes, join, start, state_after}
+use Rattle.clap_complete.specs.cc_engine.declared.walking.state.State.{State}
+use Rattle.clap_complete.specs.cc_engine.Destination.{WordsLeadTo}
+use Rattle.clap_complete.specs.cc_engine.Lookup.{positional_at}
+use Rattle.clap_complete.specs.cc_engine.Reach.{Descend, Reach, Stay}
 use Rattle.cc_caller.specs.KnownNames.{OffersTools, is_bare, names_beginning, runner, tool_candidate}
 use Rattle.cc_caller.proofs.Finishing.{finished_same}
 

@@ -1,3 +1,4 @@
 pub mod AddedLast
 mod Examples
 pub mod Results
+mod PathExamples

@@ -1,5 +1,5 @@
-//! Candidates for the word to complete, and the completers and lists that a program registers by
-//! number.
+//! Candidates for the word to complete, the completers and lists that a program registers by
+//! number, and paths as candidates.
 //!
 //! ```rattle
 //! use cc_candidates::{CompletionCandidate, retain_beginning_with, sort_candidates};
@@ -18,6 +18,7 @@ mod candidate;
 mod closures;
 mod completers;
 mod copies;
+mod paths;
 mod sorting;
 mod sources;
 mod traits;
@@ -27,5 +28,9 @@ pub use crate::candidate::{CompletionCandidate, is_same};
 pub use crate::closures::{FnCandidates, FnCompleter};
 pub use crate::completers::Completers;
 pub use crate::copies::copy_of_some;
+pub use crate::paths::{
+    EveryPath, FnTest, Folder, FolderError, IsDir, IsExecutable, IsFile, MemoryFolder,
+    PathCompleter, PathTest, RealFolder, TextTest, join, path_candidates, trim_trailing,
+};
 pub use crate::sorting::sort_candidates;
 pub use crate::traits::{ValueCandidates, ValueCompleter};

@@ -14,14 +14,14 @@ use Rattle.cc_command.specs.Made.{new_tree, with_argument, with_child}
 use Rattle.cc_command.specs.Texts.{help_about, help_help, help_name}
 use Rattle.cc_command.specs.Tree.{Tree}
 use Rattle.cc_command.specs.ValueLists.{listed_tree}
-use Rattle.cc_gather.specs.Numbers.{is_number}
-use Rattle.cc_gather.specs.Options.{longs, shorts}
-use Rattle.cc_gather.specs.OptionMatches.{match_of}
-use Rattle.cc_gather.specs.Values.{candidates, nothing, question}
-use Rattle.cc_walk.specs.Blocks.{start}
-use Rattle.cc_walk.specs.Lookup.{allows_hyphens_at, capacity_at, positional_at}
-use Rattle.cc_walk.specs.Machine.{NodeState, walk}
-use Rattle.cc_walk.specs.WordClasses.{class_of}
+use Rattle.cc_engine.specs.Numbers.{is_number}
+use Rattle.cc_engine.specs.Options.{longs, shorts}
+use Rattle.cc_engine.specs.OptionMatches.{match_of}
+use Rattle.cc_engine.specs.Values.{candidates, nothing, question}
+use Rattle.cc_engine.specs.Blocks.{start}
+use Rattle.cc_engine.specs.Lookup.{allows_hyphens_at, capacity_at, positional_at}
+use Rattle.cc_engine.specs.Machine.{NodeState, walk}
+use Rattle.cc_engine.specs.WordClasses.{class_of}
 use Rattle.cc_engine.specs.Asked.{arguments_of_word, asked_argument}
 use Rattle.cc_engine.specs.Completion.{Questions, questions}
 

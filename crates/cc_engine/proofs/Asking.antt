@@ -4,7 +4,7 @@ use Rattle.std.specs.Prelude.{Option, None, Some, find, is_some, option_to_list}
 use Rattle.std.specs.Option.{option_copied}
 use Rattle.cc_arg.specs.declared.parts.ArgParts.{ArgParts as Arg}
 use Rattle.cc_command.specs.Tree.{Tree}
-use Rattle.cc_walk.specs.declared.state.State.{State}
+use Rattle.cc_engine.specs.declared.walking.state.State.{State}
 use Rattle.cc_engine.specs.Asked.{Asks, asked_argument}
 use Rattle.cc_engine.specs.Completion.{IsPlace}
 

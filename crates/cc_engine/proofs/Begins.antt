@@ -24,27 +24,27 @@ use Rattle.cc_candidates.specs.declared.candidate.CompletionCandidate.{Completio
 use Rattle.cc_base.specs.declared.numbers.ArgValueCandidates.{ArgValueCandidates}
 use Rattle.cc_base.specs.declared.numbers.ArgValueCompleter.{ArgValueCompleter}
 use Rattle.cc_command.specs.Tree.{Tree}
-use Rattle.cc_gather.specs.Children.{children_candidates, external, in_candidates_order, subcommand_candidates}
-use Rattle.cc_gather.specs.Finished.{comes_before, finish, first_of_ids, group, shown_or_all}
-use Rattle.cc_gather.specs.Lookup.{has_own_long}
-use Rattle.cc_gather.specs.Numbers.{is_number}
-use Rattle.cc_gather.specs.Options.{hidden_candidates, long_candidate, long_candidates, longs, short_candidate, short_candidates, shorts}
-use Rattle.cc_gather.specs.OptionMatches.{after_equals, after_one_dash, after_two_dashes, value_query_after, cluster_match, flag_match, long_match, with_prefix, match_of, short_match, without_end}
-use Rattle.cc_gather.specs.declared.options.OptionMatch.{OptionMatch}
-use Rattle.cc_gather.specs.declared.options.OptionMatch.TheVariants.{Listed, ValuesOf}
-use Rattle.cc_gather.proofs.FirstOfIds.{all-first_of_ids, passing}
-use Rattle.cc_gather.proofs.Law.{all-shown}
-use Rattle.cc_gather.proofs.WordKinds.{ends_past_dash, with_end}
-use Rattle.cc_gather.proofs.LastPosition.{begins_so, so_begins}
-use Rattle.cc_gather.specs.Parts.{front, front_length, part}
-use Rattle.cc_gather.specs.Values.{Allows, MayReturn, Question, as_value, completer, gather, gathered_by, is_path, paths, question, question_by, question_of_hint, sorted, value_candidate, values}
-use Rattle.cc_walk.specs.declared.word_class.ValueCharacter.{ValueCharacter}
-use Rattle.cc_walk.specs.declared.state.Pending.{Pending}
-use Rattle.cc_walk.specs.declared.state.Pending.TheVariants.{OptionOpen}
-use Rattle.cc_walk.specs.declared.state.State.{State}
-use Rattle.cc_walk.specs.Lookup.{positional_at}
-use Rattle.cc_walk.specs.WordClasses.{character_value, value_argument, value_character}
-use Rattle.cc_walk.specs.Words.{EndsWith, before_equals}
+use Rattle.cc_engine.specs.Children.{children_candidates, external, in_candidates_order, subcommand_candidates}
+use Rattle.cc_engine.specs.Finished.{comes_before, finish, first_of_ids, group, shown_or_all}
+use Rattle.cc_engine.specs.OwnLongs.{has_own_long}
+use Rattle.cc_engine.specs.Numbers.{is_number}
+use Rattle.cc_engine.specs.Options.{hidden_candidates, long_candidate, long_candidates, longs, short_candidate, short_candidates, shorts}
+use Rattle.cc_engine.specs.OptionMatches.{after_equals, after_one_dash, after_two_dashes, value_query_after, cluster_match, flag_match, long_match, with_prefix, match_of, short_match, without_end}
+use Rattle.cc_engine.specs.declared.gathering.options.OptionMatch.{OptionMatch}
+use Rattle.cc_engine.specs.declared.gathering.options.OptionMatch.TheVariants.{Listed, ValuesOf}
+use Rattle.cc_engine.proofs.FirstOfIds.{all-first_of_ids, passing}
+use Rattle.cc_engine.proofs.FinishingLaws.{all-shown}
+use Rattle.cc_engine.proofs.WordKinds.{ends_past_dash, with_end}
+use Rattle.cc_engine.proofs.LastPosition.{begins_so, so_begins}
+use Rattle.cc_engine.specs.Parts.{front, front_length, part}
+use Rattle.cc_engine.specs.Values.{Allows, MayReturn, Question, as_value, completer, gather, gathered_by, is_path, paths, question, question_by, question_of_hint, sorted, value_candidate, values}
+use Rattle.cc_engine.specs.declared.walking.word_class.ValueCharacter.{ValueCharacter}
+use Rattle.cc_engine.specs.declared.walking.state.Pending.{Pending}
+use Rattle.cc_engine.specs.declared.walking.state.Pending.TheVariants.{OptionOpen}
+use Rattle.cc_engine.specs.declared.walking.state.State.{State}
+use Rattle.cc_engine.specs.Lookup.{positional_at}
+use Rattle.cc_engine.specs.WordClasses.{character_value, value_argument, value_character}
+use Rattle.cc_engine.specs.Words.{EndsWith, before_equals}
 use Rattle.cc_engine.specs.declared.open_lists.OpenLists.{OpenLists}
 use Rattle.cc_engine.specs.Completion.{AreAllowed, BeginsOrIsCompleted, Returned, candidates_for, finished_last, questions_of_lists, offered, offered_children, offered_match, open_question, opened_values, positional_question, positional_values, questions, match_candidates, match_question, completed}
 use Rattle.cc_engine.specs.OpenLists.{least, open_lists_by}

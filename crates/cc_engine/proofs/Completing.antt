@@ -3,10 +3,10 @@ use Rattle.std.proofs.Common.{◌≡◌, subst, ℕ, List, []}
 use Rattle.std.specs.Prelude.{IsUtf8, get_or}
 use Rattle.cc_candidates.specs.declared.candidate.CompletionCandidate.{CompletionCandidate}
 use Rattle.cc_command.specs.Tree.{Tree}
-use Rattle.cc_gather.specs.Values.{MayReturn}
-use Rattle.cc_walk.specs.declared.state.State.{State}
-use Rattle.cc_walk.specs.Destination.{WordsLeadTo, WordsLeadOnlyTo}
-use Rattle.cc_walk.specs.Visible.{HasNoHiddenAlias, visible_end}
+use Rattle.cc_engine.specs.Values.{MayReturn}
+use Rattle.cc_engine.specs.declared.walking.state.State.{State}
+use Rattle.cc_engine.specs.Destination.{WordsLeadTo, WordsLeadOnlyTo}
+use Rattle.cc_engine.specs.Visible.{HasNoHiddenAlias, visible_end}
 use Rattle.cc_engine.specs.Completion.{Completes, IsPlace, Offers, words_before}
 use Rattle.cc_engine.proofs.Begins.{begins_or_is_completed}
 use Rattle.cc_engine.proofs.Laws.{is_sorted, shows_visible}

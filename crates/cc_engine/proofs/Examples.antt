@@ -18,19 +18,19 @@ use Rattle.cc_command.specs.Generated.{help_argument}
 use Rattle.cc_command.specs.Made.{new_tree, with_argument, with_child}
 use Rattle.cc_command.specs.Texts.{help_about, help_help, help_name}
 use Rattle.cc_command.specs.Tree.{Tree}
-use Rattle.cc_gather.specs.Children.{in_candidates_order, subcommand_candidates}
-use Rattle.cc_gather.specs.Finished.{finish, group, shown_or_all}
-use Rattle.cc_gather.specs.Numbers.{is_number}
-use Rattle.cc_gather.specs.Options.{longs, shorts}
-use Rattle.cc_gather.specs.OptionMatches.{match_of}
-use Rattle.cc_paths.specs.PathCandidates.{grouped_candidates, groups}
-use Rattle.cc_paths.specs.PathTexts.{word_prefix}
-use Rattle.cc_gather.specs.Parts.{front_length}
-use Rattle.cc_gather.specs.Values.{completer, gather, nothing, paths, question, sorted, values}
-use Rattle.cc_walk.specs.Blocks.{start}
-use Rattle.cc_walk.specs.Lookup.{allows_hyphens_at, capacity_at, positional_at}
-use Rattle.cc_walk.specs.Machine.{NodeState, walk}
-use Rattle.cc_walk.specs.WordClasses.{class_of}
+use Rattle.cc_engine.specs.Children.{in_candidates_order, subcommand_candidates}
+use Rattle.cc_engine.specs.Finished.{finish, group, shown_or_all}
+use Rattle.cc_engine.specs.Numbers.{is_number}
+use Rattle.cc_engine.specs.Options.{longs, shorts}
+use Rattle.cc_engine.specs.OptionMatches.{match_of}
+use Rattle.cc_candidates.specs.PathCandidates.{grouped_candidates, groups}
+use Rattle.cc_candidates.specs.PathTexts.{word_prefix}
+use Rattle.cc_engine.specs.Parts.{front_length}
+use Rattle.cc_engine.specs.Values.{completer, gather, nothing, paths, question, sorted, values}
+use Rattle.cc_engine.specs.Blocks.{start}
+use Rattle.cc_engine.specs.Lookup.{allows_hyphens_at, capacity_at, positional_at}
+use Rattle.cc_engine.specs.Machine.{NodeState, walk}
+use Rattle.cc_engine.specs.WordClasses.{class_of}
 use Rattle.cc_engine.specs.Completion.{Returned, Questions, candidates_for, is_in_range, questions, words_before}
 
 -- what opens each definition

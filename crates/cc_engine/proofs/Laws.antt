@@ -5,10 +5,10 @@ use Rattle.std.specs.List.{list_any}
 use Rattle.std.proofs.lemmas.List.Folds.{list_any-append}
 use Rattle.cc_candidates.specs.declared.candidate.CompletionCandidate.{CompletionCandidate}
 use Rattle.cc_command.specs.Tree.{Tree}
-use Rattle.cc_gather.specs.Finished.{AreGrouped, AreShown, Differ, finish, first_of_ids, is_shown, shown_or_all}
-use Rattle.cc_gather.proofs.Law.{differ, order, some_visible, visible}
-use Rattle.cc_gather.specs.Values.{MayReturn}
-use Rattle.cc_walk.specs.declared.state.State.{State}
+use Rattle.cc_engine.specs.Finished.{AreGrouped, AreShown, Differ, finish, first_of_ids, is_shown, shown_or_all}
+use Rattle.cc_engine.proofs.FinishingLaws.{differ, order, some_visible, visible}
+use Rattle.cc_engine.specs.Values.{MayReturn}
+use Rattle.cc_engine.specs.declared.walking.state.State.{State}
 use Rattle.cc_engine.specs.Completion.{Completes, Returned, IsSorted, ShowsVisible, candidates_for, besides, finished_last, opened_values}
 use Rattle.cc_engine.proofs.OneFinishing.{to_gathered}
 

@@ -4,11 +4,11 @@ use Rattle.std.specs.Prelude.{nat_le, if◌then◌else◌}
 use Rattle.cc_arg.specs.declared.parts.ArgParts.{ArgParts as Arg}
 use Rattle.cc_candidates.specs.declared.candidate.CompletionCandidate.{CompletionCandidate}
 use Rattle.cc_command.specs.Tree.{Tree}
-use Rattle.cc_gather.specs.Finished.{finish}
-use Rattle.cc_gather.specs.Values.{Allows, ArgumentValues, MayReturn}
-use Rattle.cc_walk.specs.declared.state.Pending.{Pending}
-use Rattle.cc_walk.specs.declared.state.Pending.TheVariants.{OptionOpen}
-use Rattle.cc_walk.specs.declared.state.State.{State}
+use Rattle.cc_engine.specs.Finished.{finish}
+use Rattle.cc_engine.specs.Values.{Allows, ArgumentValues, MayReturn}
+use Rattle.cc_engine.specs.declared.walking.state.Pending.{Pending}
+use Rattle.cc_engine.specs.declared.walking.state.Pending.TheVariants.{OptionOpen}
+use Rattle.cc_engine.specs.declared.walking.state.State.{State}
 use Rattle.cc_engine.specs.declared.open_lists.OpenLists.{OpenLists}
 use Rattle.cc_engine.specs.Completion.{AreOffered, Offers, finished_last, open_question}
 use Rattle.cc_engine.specs.OpenLists.{least, open_lists_by}

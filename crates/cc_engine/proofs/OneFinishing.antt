@@ -5,15 +5,15 @@ use Rattle.std.specs.Prelude.{Bool, true, false, Option, Some, None, nat_le, if�
 use Rattle.cc_arg.specs.declared.parts.ArgParts.{ArgParts as Arg}
 use Rattle.cc_candidates.specs.declared.candidate.CompletionCandidate.{CompletionCandidate}
 use Rattle.cc_command.specs.Tree.{Tree}
-use Rattle.cc_gather.specs.Finished.{finish}
-use Rattle.cc_gather.proofs.Law.{finish_after}
-use Rattle.cc_walk.specs.declared.state.Pending.{Pending}
-use Rattle.cc_walk.specs.declared.state.Pending.TheVariants.{OptionOpen}
-use Rattle.cc_walk.specs.declared.state.State.{State}
-use Rattle.cc_walk.specs.Lookup.{positional_at}
+use Rattle.cc_engine.specs.Finished.{finish}
+use Rattle.cc_engine.proofs.FinishingLaws.{finish_after}
+use Rattle.cc_engine.specs.declared.walking.state.Pending.{Pending}
+use Rattle.cc_engine.specs.declared.walking.state.Pending.TheVariants.{OptionOpen}
+use Rattle.cc_engine.specs.declared.walking.state.State.{State}
+use Rattle.cc_engine.specs.Lookup.{positional_at}
 use Rattle.cc_engine.specs.Completion.{FinishesOnce, Returned, besides, candidates_for, finished_last, offered, opened_values, positional_values}
 use Rattle.cc_engine.specs.OpenLists.{all_open, least, none_open, open_lists_by}
-use Rattle.cc_gather.specs.Values.{values}
+use Rattle.cc_engine.specs.Values.{values}
 
 -- without a number a positional has no values
 no_values : (positional : Option Arg) (word : List ℕ) (returned : List CompletionCandidate) → positional_values positional None word returned ≡ []

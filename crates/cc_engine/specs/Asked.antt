@@ -5,13 +5,13 @@ use Rattle.cc_base.specs.Bytes.{dash}
 use Rattle.cc_arg.specs.declared.parts.ArgParts.{ArgParts as Arg}
 use Rattle.cc_arg.specs.ValueSources.{has_source}
 use Rattle.cc_command.specs.Tree.{Tree}
-use Rattle.cc_gather.specs.declared.options.OptionMatch.{OptionMatch}
-use Rattle.cc_gather.specs.declared.options.OptionMatch.TheVariants.{Listed, ValuesOf}
-use Rattle.cc_walk.specs.declared.state.Pending.{Pending}
-use Rattle.cc_walk.specs.declared.state.Pending.TheVariants.{OptionOpen}
-use Rattle.cc_walk.specs.declared.state.State.{State}
-use Rattle.cc_walk.specs.Destination.{WordsLeadTo, WordsLeadOnlyTo}
-use Rattle.cc_walk.specs.Lookup.{positional_at}
+use Rattle.cc_engine.specs.declared.gathering.options.OptionMatch.{OptionMatch}
+use Rattle.cc_engine.specs.declared.gathering.options.OptionMatch.TheVariants.{Listed, ValuesOf}
+use Rattle.cc_engine.specs.declared.walking.state.Pending.{Pending}
+use Rattle.cc_engine.specs.declared.walking.state.Pending.TheVariants.{OptionOpen}
+use Rattle.cc_engine.specs.declared.walking.state.State.{State}
+use Rattle.cc_engine.specs.Destination.{WordsLeadTo, WordsLeadOnlyTo}
+use Rattle.cc_engine.specs.Lookup.{positional_at}
 use Rattle.cc_engine.specs.Completion.{offered_match, words_before}
 use Rattle.cc_engine.specs.declared.open_lists.OpenLists.{OpenLists}
 use Rattle.cc_engine.specs.OpenLists.{open_lists_by}

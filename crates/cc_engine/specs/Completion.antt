@@ -11,19 +11,19 @@ use Rattle.cc_candidates.specs.declared.candidate.CompletionCandidate.{Completio
 use Rattle.cc_base.specs.declared.numbers.SubcommandCandidates.{SubcommandCandidates}
 use Rattle.cc_command.specs.declared.node.Node.{Node}
 use Rattle.cc_command.specs.Tree.{Tree}
-use Rattle.cc_gather.specs.Children.{subcommand_candidates}
-use Rattle.cc_gather.specs.Finished.{finish, first_of_ids, is_shown, shown_or_all, AreGrouped, AreShown, ShareNone}
-use Rattle.cc_gather.specs.OptionMatches.{match_of, with_prefix}
-use Rattle.cc_gather.specs.declared.options.OptionMatch.{OptionMatch}
-use Rattle.cc_gather.specs.declared.options.OptionMatch.TheVariants.{Listed, ValuesOf}
-use Rattle.cc_gather.specs.Parts.{part}
-use Rattle.cc_gather.specs.Values.{Allows, MayReturn, Question, nothing, candidates, completer, paths, question, values}
-use Rattle.cc_walk.specs.declared.state.Pending.{Pending}
-use Rattle.cc_walk.specs.declared.state.Pending.TheVariants.{OptionOpen}
-use Rattle.cc_walk.specs.declared.state.State.{State}
-use Rattle.cc_walk.specs.Destination.{WordsLeadTo, WordsLeadOnlyTo}
-use Rattle.cc_walk.specs.Lookup.{positional_at}
-use Rattle.cc_walk.specs.Visible.{HasNoHiddenAlias, visible_end}
+use Rattle.cc_engine.specs.Children.{subcommand_candidates}
+use Rattle.cc_engine.specs.Finished.{finish, first_of_ids, is_shown, shown_or_all, AreGrouped, AreShown, ShareNone}
+use Rattle.cc_engine.specs.OptionMatches.{match_of, with_prefix}
+use Rattle.cc_engine.specs.declared.gathering.options.OptionMatch.{OptionMatch}
+use Rattle.cc_engine.specs.declared.gathering.options.OptionMatch.TheVariants.{Listed, ValuesOf}
+use Rattle.cc_engine.specs.Parts.{part}
+use Rattle.cc_engine.specs.Values.{Allows, MayReturn, Question, nothing, candidates, completer, paths, question, values}
+use Rattle.cc_engine.specs.declared.walking.state.Pending.{Pending}
+use Rattle.cc_engine.specs.declared.walking.state.Pending.TheVariants.{OptionOpen}
+use Rattle.cc_engine.specs.declared.walking.state.State.{State}
+use Rattle.cc_engine.specs.Destination.{WordsLeadTo, WordsLeadOnlyTo}
+use Rattle.cc_engine.specs.Lookup.{positional_at}
+use Rattle.cc_engine.specs.Visible.{HasNoHiddenAlias, visible_end}
 use Rattle.cc_engine.specs.declared.open_lists.OpenLists.{OpenLists}
 use Rattle.cc_engine.specs.OpenLists.{least, open_lists_by}
 

@@ -2,9 +2,9 @@
 use Rattle.std.specs.Prelude.{ℕ, List, Bool, false, true, not, ◌&&◌, nat_le, Option, Some, None, if◌then◌else◌}
 use Rattle.cc_arg.specs.declared.parts.ArgParts.{ArgParts as Arg}
 use Rattle.cc_arg.specs.Arguments.{range_of}
-use Rattle.cc_walk.specs.declared.state.Pending.{Pending}
-use Rattle.cc_walk.specs.declared.state.Pending.TheVariants.{Nothing, OptionOpen, PositionalRun, PositionMoved}
-use Rattle.cc_walk.specs.Lookup.{positional_at}
+use Rattle.cc_engine.specs.declared.walking.state.Pending.{Pending}
+use Rattle.cc_engine.specs.declared.walking.state.Pending.TheVariants.{Nothing, OptionOpen, PositionalRun, PositionMoved}
+use Rattle.cc_engine.specs.Lookup.{positional_at}
 use Rattle.cc_engine.specs.declared.open_lists.OpenLists.{OpenLists}
 
 -- the least count of values in one use of the argument

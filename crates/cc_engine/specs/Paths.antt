@@ -3,8 +3,8 @@ use Rattle.std.specs.Prelude.{◌≡◌, ℕ, List, [], true, Option}
 use Rattle.cc_arg.specs.declared.value_hint.ValueHint.{ValueHint}
 use Rattle.cc_arg.specs.declared.value_hint.ValueHint.TheVariants.{AnyPath, FilePath, DirPath, ExecutablePath}
 use Rattle.cc_candidates.specs.declared.candidate.CompletionCandidate.{CompletionCandidate}
-use Rattle.cc_paths.specs.Folders.{FolderFacts}
-use Rattle.cc_paths.specs.PathCandidates.{ArePathCandidates}
+use Rattle.cc_candidates.specs.Folders.{FolderFacts}
+use Rattle.cc_candidates.specs.PathCandidates.{ArePathCandidates}
 
 -- What a hint wants of the paths in a folder: any path passes, or a file's, a folder's, an
 -- executable file's. Another hint names no paths.

@@ -5,8 +5,8 @@ use Rattle.cc_base.specs.declared.sources.CandidateSources.{Ghosts}
 use Rattle.cc_candidates.specs.declared.candidate.CompletionCandidate.{CompletionCandidate}
 use Rattle.cc_engine.specs.Paths.{PathsOf}
 use Rattle.cc_engine.specs.declared.sources.Sources.{Sources}
-use Rattle.cc_gather.specs.Values.{MayReturn, returned_by}
-use Rattle.cc_paths.specs.Folders.{FolderFacts}
+use Rattle.cc_engine.specs.Values.{MayReturn, returned_by}
+use Rattle.cc_candidates.specs.Folders.{FolderFacts}
 
 -- the lists that these completers and lists, and a folder with these facts, may return, if relative
 -- paths begin at this directory

@@ -9,15 +9,15 @@ ghost use Rattle.cc_command.specs.Built.{built_tree};
 ghost use Rattle.cc_engine.specs.Asked.{Asks, argument_within, asked_argument};
 ghost use Rattle.cc_engine.specs.Asked.{offered_positional, opened_argument, unless_dash};
 ghost use Rattle.cc_engine.specs.Completion.{Refuses, is_in_range, offered_match};
-ghost use Rattle.cc_walk.specs.Lookup.{positional_at};
+ghost use Rattle.cc_engine.specs.Lookup.{positional_at};
 
+use crate::gathering::{OptionMatch, match_options};
 use crate::open_lists::OpenLists;
 use crate::place::{in_range, place_at};
+use crate::walking::{Pending, State, positional_at};
 use cc_arg::{Arg, copy_of, has_source};
 use cc_base::Error;
 use cc_command::Command;
-use cc_gather::{OptionMatch, match_options};
-use cc_walk::{Pending, State, positional_at};
 use std::alloc::{AllocError, Global};
 
 /// Returns a copy of the argument that the word at `index`, counted from 0, asks for in a command

@@ -1,18 +1,18 @@
 //! The list of candidates that is offered for a word.
 
 ghost use Rattle.std.specs.Prelude.{◌≡◌, ◌++◌, nat_le, IfOk, if◌then◌else◌};
-ghost use Rattle.cc_gather.specs.Finished.{finish};
+ghost use Rattle.cc_engine.specs.Finished.{finish};
 ghost use Rattle.cc_engine.specs.OpenLists.{least};
 ghost use Rattle.cc_engine.specs.Completion.{AreOffered, Offers};
 
+use crate::gathering::{finish, finish_after};
 use crate::lookup::Lookup;
 use crate::offered_lists::{children, options, positional_values};
 use crate::open_lists::OpenLists;
+use crate::walking::{Pending, State, positional_at};
 use cc_arg::{Arg, counted_range};
 use cc_candidates::CompletionCandidate;
 use cc_command::Command;
-use cc_gather::{finish, finish_after};
-use cc_walk::{Pending, State, positional_at};
 use std::alloc::{AllocError, Global};
 
 /// Returns what is offered for `word` at the node `command`, if the words before it lead to

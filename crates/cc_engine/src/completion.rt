@@ -5,16 +5,15 @@ ghost use Rattle.std.specs.Option.{option_copied};
 ghost use Rattle.cc_command.specs.Built.{built_tree};
 ghost use Rattle.cc_engine.specs.Completion.{Completes, Refuses, is_in_range};
 ghost use Rattle.cc_engine.specs.Sources.{returned_from};
-ghost use Rattle.cc_gather.specs.Finished.{Differ};
+ghost use Rattle.cc_engine.specs.Finished.{Differ};
 
 use crate::candidates::offer_candidates;
 use crate::lookup::Lookup;
 use crate::place::{in_range, place_at};
 use crate::sources::Sources;
 use cc_base::{CandidateSources, Error};
-use cc_candidates::{Completers, CompletionCandidate};
+use cc_candidates::{Completers, CompletionCandidate, Folder};
 use cc_command::Command;
-use cc_paths::Folder;
 use std::alloc::Global;
 
 /// Returns the candidates for the word at `index`, counted from 0, of a command line of `command`,

@@ -24,14 +24,18 @@
 mod asked;
 mod candidates;
 mod completion;
+mod gathering;
 mod lookup;
 mod offered_lists;
 mod open_lists;
 mod place;
 mod sources;
+mod walking;
 
 pub use crate::asked::asked_argument;
 pub use crate::completion::{complete, complete_from};
+pub use crate::gathering::{OptionMatch, complete_possible_values, possible_value_candidates};
 pub use crate::lookup::Lookup;
 pub use crate::place::words_before;
 pub use crate::sources::Sources;
+pub use crate::walking::{Pending, State, ValueCharacter};

@@ -3,7 +3,7 @@
 ghost use Rattle.std.specs.Prelude.{◌≡◌, ℕ, List, Option, IfOk, true};
 ghost use Rattle.std.specs.Option.{option_copied};
 ghost use Rattle.cc_engine.specs.Completion.{children_question};
-ghost use Rattle.cc_gather.specs.Values.{Allows, ArgumentValues, MayReturn};
+ghost use Rattle.cc_engine.specs.Values.{Allows, ArgumentValues, MayReturn};
 
 use cc_arg::Arg;
 use cc_candidates::CompletionCandidate;

@@ -6,13 +6,13 @@ ghost use Rattle.cc_candidates.specs.declared.candidate.CompletionCandidate.{Com
 ghost use Rattle.cc_engine.specs.Completion.{children_question, offered_children};
 ghost use Rattle.cc_engine.specs.Completion.{positional_question, positional_values};
 ghost use Rattle.cc_engine.specs.Completion.{offered_match, match_candidates, match_question};
-ghost use Rattle.cc_gather.specs.Values.{Allows};
+ghost use Rattle.cc_engine.specs.Values.{Allows};
 
+use crate::gathering::{OptionMatch, all_with_prefix, match_options, subcommand_candidates};
 use crate::lookup::Lookup;
 use cc_arg::Arg;
 use cc_candidates::CompletionCandidate;
 use cc_command::Command;
-use cc_gather::{OptionMatch, all_with_prefix, match_options, subcommand_candidates};
 use std::alloc::{AllocError, Global};
 
 /// Returns the children of `command` that begin with `word`, and the names of other programs that

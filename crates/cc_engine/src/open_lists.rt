@@ -4,8 +4,8 @@ ghost use Rattle.std.specs.Prelude.{◌≡◌};
 ghost use Rattle.std.specs.Option.{option_copied};
 ghost use Rattle.cc_engine.specs.OpenLists.{all_open, has_enough, none_open, open_lists_by};
 
+use crate::walking::{Pending, State, positional_at};
 use cc_arg::{Arg, counted_range};
-use cc_walk::{Pending, State, positional_at};
 
 /// The lists that are offered in addition to the values of an open option.
 #[derive(Drop)]

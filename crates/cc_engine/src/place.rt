@@ -3,8 +3,8 @@
 ghost use Rattle.std.specs.Prelude.{◌≡◌, ◌<◌, [], get_or, length, map, string_bytes, true};
 ghost use Rattle.cc_engine.specs.Completion.{IsPlace, is_in_range, names_before, words_before};
 
+use crate::walking::{State, Walked, walk};
 use cc_command::Command;
-use cc_walk::{State, Walked, walk};
 
 /// A word of a command line, with the place to which the words before it lead.
 #[derive(Drop)]

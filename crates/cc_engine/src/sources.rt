@@ -5,13 +5,14 @@ ghost use Rattle.std.specs.Option.{option_copied};
 ghost use Rattle.cc_engine.specs.Paths.{PathsOf};
 ghost use Rattle.cc_engine.specs.Sources.{returned_from};
 
+use crate::gathering::{PathSource, arg_values};
 use crate::lookup::Lookup;
 use cc_arg::{Arg, ValueHint};
 use cc_base::CandidateSources;
-use cc_candidates::CompletionCandidate;
+use cc_candidates::{
+    CompletionCandidate, EveryPath, Folder, IsDir, IsExecutable, IsFile, path_candidates,
+};
 use cc_command::Command;
-use cc_gather::{PathSource, arg_values};
-use cc_paths::{EveryPath, Folder, IsDir, IsExecutable, IsFile, path_candidates};
 use std::alloc::{AllocError, Global};
 
 /// A folder and completers, in which live completion looks for candidates.

@@ -5,3 +5,10 @@ pub mod InMemory
 pub mod Replying
 pub mod SafeReplying
 pub mod Texts
+mod AskingExamples
+mod AnswerLemmas
+mod CompletionExamples
+mod CompletionLemmas
+mod GivenExamples
+mod OwnLemmas
+mod WordsRead

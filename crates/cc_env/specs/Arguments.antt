@@ -3,7 +3,7 @@ use Rattle.std.specs.Prelude.{ℕ, Bool, true, false, List, [], ◌∷◌, Optio
 use Rattle.std.specs.List.{list_any}
 use Rattle.std.specs.Path.{path_join, trim_trailing}
 use Rattle.std.specs.Str.{bytes_eq}
-use Rattle.cc_paths.specs.PathTexts.{is_slash}
+use Rattle.cc_candidates.specs.PathTexts.{is_slash}
 
 -- the words after the first `--`; none without one
 abbrev pub after_dashes : List (List ℕ) → List (List ℕ)

@@ -8,3 +8,11 @@ pub mod Shells
 pub mod Steps
 pub mod Wanted
 pub mod WantedWords
+pub mod Answers
+pub mod Asking
+pub mod Completion
+pub mod Given
+pub mod OwnAnswers
+pub mod OwnEnds
+pub mod RunWords
+pub mod WrittenAnswers

@@ -6,7 +6,7 @@ ghost use Rattle.std.specs.String.{string_bytes};
 ghost use Rattle.cc_env.specs.Arguments.{after_dashes, has_folder, program_path, words_after};
 
 use cc_base::Text;
-use cc_paths::{join, trim_trailing};
+use cc_candidates::{join, trim_trailing};
 use std::alloc::{AllocError, Global};
 
 // Returns the words after the first `--`; none without one.

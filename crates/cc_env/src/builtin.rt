@@ -9,10 +9,9 @@ use crate::fish::Fish;
 use crate::powershell::Powershell;
 use crate::zsh::Zsh;
 use cc_base::{Error, Sink};
-use cc_candidates::Completers;
+use cc_candidates::{Completers, Folder};
 use cc_command::Command;
 use cc_engine::{Lookup, Sources};
-use cc_paths::Folder;
 use cc_replies::EnvValues;
 use std::alloc::Global;
 

@@ -19,10 +19,9 @@ use crate::shell_program::ShellProgram;
 use crate::shells::Shells;
 use crate::wanted::{known_shell, wanted_name};
 use cc_base::{CandidateSources, Collected, Error, Sink, Text, put_all};
-use cc_candidates::Completers;
+use cc_candidates::{Completers, Folder};
 use cc_command::{Command, Release};
 use cc_engine::{Lookup, Sources};
-use cc_paths::Folder;
 use cc_replies::EnvValues;
 use std::alloc::Global;
 

@@ -10,10 +10,9 @@ ghost use Rattle.cc_engine.specs.Completion.{Completes};
 ghost use Rattle.cc_engine.specs.Sources.{returned_from};
 
 use cc_base::{CandidateSources, Error, Sink};
-use cc_candidates::{Completers, CompletionCandidate};
+use cc_candidates::{Completers, CompletionCandidate, Folder};
 use cc_command::Command;
 use cc_engine::Lookup;
-use cc_paths::Folder;
 use cc_replies::EnvValues;
 use std::alloc::Global;
 

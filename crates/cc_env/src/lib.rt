@@ -1,5 +1,6 @@
 //! Live completion: what a program writes if its shell requests a registration or candidates, and
-//! for each shell its names, its registration and its reply.
+//! for each shell its names, its registration and its reply. Values may come from a command, a file
+//! or the system.
 //!
 //! ```rattle
 //! use cc_base::{Error, Sink};
@@ -25,6 +26,7 @@
 #![tactic(auto)]
 
 mod arguments;
+mod asking;
 mod bash;
 mod builtin;
 mod complete_env;
@@ -40,6 +42,10 @@ mod wanted;
 mod zsh;
 
 pub use crate::arguments::{program_path, words_after};
+pub use crate::asking::{
+    Answer, Call, Called, LineSource, PassedLines, WithLines, answer_call, answer_own,
+    complete_with_lines, try_complete_asking, wanted_command, write_answer, write_run_words,
+};
 pub use crate::bash::Bash;
 pub use crate::builtin::Builtin;
 pub use crate::complete_env::CompleteEnv;

@@ -9,10 +9,9 @@ use crate::builtin::Builtin;
 use crate::env_completer::{EnvCompleter, LookupCompleter};
 use crate::reply::{SafeReply, WantedWords, reply_at};
 use cc_base::{Error, Sink, TextRef};
-use cc_candidates::Completers;
+use cc_candidates::{Completers, Folder};
 use cc_command::Command;
 use cc_engine::{Lookup, Sources};
-use cc_paths::Folder;
 use cc_registrations::{
     write_safe_bash, write_safe_elvish, write_safe_fish, write_safe_powershell, write_safe_zsh,
 };

@@ -13,10 +13,9 @@ ghost use Rattle.cc_env.specs.Steps.{program_names};
 use crate::arguments::{copies_after, program_path};
 use crate::env_completer::{EnvCompleter, LookupCompleter};
 use cc_base::{CandidateSources, Collected, Error, Text};
-use cc_candidates::Completers;
+use cc_candidates::{Completers, Folder};
 use cc_command::{Command, Release, discard, full_name};
 use cc_engine::{Lookup, Sources};
-use cc_paths::Folder;
 use cc_replies::EnvValues;
 use std::alloc::{AllocError, Global};
 

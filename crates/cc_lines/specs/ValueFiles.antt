@@ -3,7 +3,7 @@ use Rattle.std.specs.Prelude.{ℕ, Bool, List, [], ◌∷◌, ◌==◌, length, 
 use Rattle.std.specs.List.{after_first, before_first, list_any}
 use Rattle.std.specs.Option.{option_map_or}
 use Rattle.cc_base.specs.Bytes.{line_feed}
-use Rattle.cc_paths.specs.PathTexts.{is_absolute, is_slash, join_some}
+use Rattle.cc_candidates.specs.PathTexts.{is_absolute, is_slash, join_some}
 
 -- what follows `~/` at the start of a path
 abbrev pub after_home : List ℕ → Option (List ℕ)

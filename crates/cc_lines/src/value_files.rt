@@ -2,10 +2,10 @@
 
 ghost use Rattle.std.specs.Prelude.{◌≡◌, IfOk, string_bytes};
 ghost use Rattle.std.specs.Option.{option_copied, option_map};
-ghost use Rattle.cc_paths.specs.PathTexts.{join_some};
+ghost use Rattle.cc_candidates.specs.PathTexts.{join_some};
 ghost use Rattle.cc_lines.specs.ValueFiles.{after_home, first_lines, values_path};
 
-use cc_paths::join;
+use cc_candidates::join;
 use std::alloc::{AllocError, Global};
 
 /// Returns the path of a file that lists values: `path` if it is absolute; below `home`, what

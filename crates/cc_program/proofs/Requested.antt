@@ -2,12 +2,12 @@
 use Rattle.std.proofs.Common.{◌≡◌, ℕ, List, Option, None, Some, Result, Ok, Err, codes, refl, subst}
 use Rattle.std.specs.declared.alloc.Global.{Global}
 use Rattle.std.specs.declared.process.ExitCode.{ExitCode}
-use Rattle.cc_asking.specs.Answers.{Told}
+use Rattle.cc_env.specs.Answers.{Told}
 use Rattle.cc_arg.specs.declared.parts.ArgParts.{ArgParts as Arg}
-use Rattle.cc_asking.specs.Answers.{Parts}
-use Rattle.cc_asking.specs.OwnAnswers as own
-use Rattle.cc_asking.specs.OwnAnswers.{AnswersOwn, answered, unknown_shell}
-use Rattle.cc_asking.specs.OwnEnds.{EndsOwn, not_answered, not_requested, write_failed, written}
+use Rattle.cc_env.specs.Answers.{Parts}
+use Rattle.cc_env.specs.OwnAnswers as own
+use Rattle.cc_env.specs.OwnAnswers.{AnswersOwn, answered, unknown_shell}
+use Rattle.cc_env.specs.OwnEnds.{EndsOwn, not_answered, not_requested, write_failed, written}
 use Rattle.cc_base.specs.declared.error.Error.{Error}
 use Rattle.cc_base.specs.declared.failures.Failures.{Failures}
 use Rattle.cc_command.specs.Tree.{Tree}

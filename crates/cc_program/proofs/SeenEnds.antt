@@ -3,8 +3,8 @@ use Rattle.std.proofs.Common.{◌≡◌, ℕ, Bool, true, false, List, [], Optio
 use Rattle.std.specs.declared.process.ExitCode.{ExitCode}
 use Rattle.clap.specs.declared.error.kind.ErrorKind.{ErrorKind}
 use Rattle.clap.specs.declared.parser.matches.ArgMatches.{ArgMatches}
-use Rattle.cc_asking.specs.Answers.{Told}
-use Rattle.cc_asking.specs.OwnEnds.{EndsOwn, not_answered, not_requested, write_failed, written}
+use Rattle.cc_env.specs.Answers.{Told}
+use Rattle.cc_env.specs.OwnEnds.{EndsOwn, not_answered, not_requested, write_failed, written}
 use Rattle.cc_base.specs.Sink.{none_failed}
 use Rattle.cc_base.specs.Writes.{Writes}
 use Rattle.cc_base.specs.declared.error.Error.{Error}

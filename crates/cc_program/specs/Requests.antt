@@ -5,7 +5,7 @@ use Rattle.cc_env.specs.SafeShells.{all_safe}
 use Rattle.cc_env.specs.declared.safe_shell.SafeShell.{SafeShell}
 use Rattle.cc_base.specs.declared.error.Error.{Error}
 use Rattle.cc_base.specs.declared.error.Error.TheVariants.{Memory}
-use Rattle.cc_paths.specs.Folders.{FolderFacts}
+use Rattle.cc_candidates.specs.Folders.{FolderFacts}
 use Rattle.cc_replies.specs.declared.environment.EnvValues.{EnvValues}
 
 -- of the system's folders nothing is known beforehand but the home folder of the user

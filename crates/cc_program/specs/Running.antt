@@ -3,14 +3,14 @@ use Rattle.std.specs.Prelude.{ℕ, List, Option, None, Result, Err, codes}
 use Rattle.std.specs.declared.alloc.Global.{Global}
 use Rattle.std.specs.declared.process.ExitCode.{ExitCode}
 use Rattle.clap.specs.declared.parser.matches.ArgMatches.{ArgMatches}
-use Rattle.cc_asking.specs.OwnAnswers.{AnswersBy, own_parts, requested_of}
+use Rattle.cc_env.specs.OwnAnswers.{AnswersBy, own_parts, requested_of}
 use Rattle.cc_base.specs.declared.error.Error.{Error}
 use Rattle.cc_base.specs.declared.error.Error.TheVariants.{Memory}
 use Rattle.cc_command.specs.Tree.{Tree}
 use Rattle.cc_env.specs.SafeShells.{all_safe}
 use Rattle.cc_env.specs.Steps.{names_of}
 use Rattle.cc_env.specs.declared.safe_shell.SafeShell.{SafeShell}
-use Rattle.cc_gather.specs.Values.{MayReturn}
+use Rattle.cc_engine.specs.Values.{MayReturn}
 use Rattle.cc_lines.specs.SystemLines.{SystemGives}
 use Rattle.cc_program.specs.ClapParses.{clap_facts}
 use Rattle.cc_program.specs.Seen.{Seen, seen_by, unused}

@@ -5,8 +5,8 @@ use Rattle.std.specs.declared.process.ExitCode.{ExitCode}
 use Rattle.clap.specs.Values.{kind_of}
 use Rattle.clap.specs.declared.error.Error.{Error as ClapError}
 use Rattle.clap.specs.declared.parser.matches.ArgMatches.{ArgMatches}
-use Rattle.cc_asking.specs.Answers.{Told}
-use Rattle.cc_asking.specs.OwnEnds.{EndsOwn}
+use Rattle.cc_env.specs.Answers.{Told}
+use Rattle.cc_env.specs.OwnEnds.{EndsOwn}
 use Rattle.cc_base.specs.declared.error.Error.{Error}
 use Rattle.cc_base.specs.declared.error.Error.TheVariants.{Memory}
 use Rattle.cc_base.specs.declared.sink.Sink.{Ghosts}

@@ -1,8 +1,8 @@
 //! Live completion as the environment requests it.
 
 ghost use Rattle.std.specs.Prelude.{map, string_bytes};
-ghost use Rattle.cc_asking.specs.OwnAnswers.{AnswersBy, AnswersCalled, own_parts, parts_called};
-ghost use Rattle.cc_asking.specs.OwnEnds.{EndsOwn};
+ghost use Rattle.cc_env.specs.OwnAnswers.{AnswersBy, AnswersCalled, own_parts, parts_called};
+ghost use Rattle.cc_env.specs.OwnEnds.{EndsOwn};
 ghost use Rattle.cc_engine.specs.Sources.{returned_from};
 ghost use Rattle.cc_env.specs.Steps.{names_of};
 ghost use Rattle.cc_lines.specs.SystemLines.{SystemGives};
@@ -10,14 +10,12 @@ ghost use Rattle.cc_program.specs.Requests.{TriesSome, system_facts};
 ghost use Rattle.cc_replies.specs.Environment.{value_of};
 
 use crate::environment::{directories, environment};
-use cc_asking::{Called, try_complete_asking};
 use cc_base::{CandidateSources, Error, Sink};
-use cc_candidates::Completers;
+use cc_candidates::{Completers, Folder, RealFolder};
 use cc_command::Command;
 use cc_engine::Sources;
-use cc_env::{CompleteEnv, SafeShell};
+use cc_env::{Called, CompleteEnv, SafeShell, try_complete_asking};
 use cc_lines::SystemLines;
-use cc_paths::{Folder, RealFolder};
 use std::alloc::Global;
 use std::env::Env;
 use std::io::Input;

@@ -2,7 +2,7 @@
 
 ghost use Rattle.std.specs.Prelude.{◌≡◌, map, string_bytes};
 ghost use Rattle.std.specs.Fn.{FnOnceReturnsAt, FnOnceTakesAt};
-ghost use Rattle.cc_asking.specs.OwnAnswers.{AnswersCalled, parts_called, requested_by};
+ghost use Rattle.cc_env.specs.OwnAnswers.{AnswersCalled, parts_called, requested_by};
 ghost use Rattle.cc_env.specs.Wanted.{nothing};
 ghost use Rattle.cc_program.specs.Statuses.{EndsOver, EndsParse, HoldsOfMatches, parser_facts};
 
@@ -10,13 +10,11 @@ use crate::failure::Failure;
 use crate::parsing::parse_tree;
 use crate::streams::Streams;
 use crate::word_parser::WordParser;
-use cc_asking::{Called, LineSource, try_complete_asking};
 use cc_base::{CandidateSources, Error, Sink};
-use cc_candidates::CompletionCandidate;
+use cc_candidates::{CompletionCandidate, Folder};
 use cc_command::Command;
 use cc_engine::Sources;
-use cc_env::{CompleteEnv, SafeShell};
-use cc_paths::Folder;
+use cc_env::{Called, CompleteEnv, LineSource, SafeShell, try_complete_asking};
 use clap::ArgMatches;
 use std::alloc::Global;
 use std::process::ExitCode;

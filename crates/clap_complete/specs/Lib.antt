@@ -3,7 +3,6 @@
 pub use Rattle.cc_base.specs as cc_base
 pub use Rattle.cc_quote.specs as cc_quote
 pub use Rattle.cc_candidates.specs as cc_candidates
-pub use Rattle.cc_paths.specs as cc_paths
 pub use Rattle.cc_arg.specs as cc_arg
 pub use Rattle.cc_command.specs as cc_command
 pub use Rattle.cc_parser.specs as cc_parser
@@ -13,13 +12,9 @@ pub use Rattle.cc_bash.specs as cc_bash
 pub use Rattle.cc_fish.specs as cc_fish
 pub use Rattle.cc_zsh.specs as cc_zsh
 pub use Rattle.cc_shell.specs as cc_shell
-pub use Rattle.cc_walk.specs as cc_walk
-pub use Rattle.cc_gather.specs as cc_gather
 pub use Rattle.cc_engine.specs as cc_engine
-pub use Rattle.cc_agreement.specs as cc_agreement
 pub use Rattle.cc_registrations.specs as cc_registrations
 pub use Rattle.cc_replies.specs as cc_replies
 pub use Rattle.cc_env.specs as cc_env
-pub use Rattle.cc_asking.specs as cc_asking
 pub use Rattle.cc_lines.specs as cc_lines
 pub use Rattle.cc_program.specs as cc_program

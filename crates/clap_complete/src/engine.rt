@@ -1,14 +1,14 @@
 //! The candidates for a word of a command line, and completers of values.
 
-pub use cc_agreement::{bash_script_and_candidates, has_no_hidden_alias};
-pub use cc_asking::{WithLines, complete_with_lines, wanted_command};
 pub use cc_base::{ArgValueCandidates, ArgValueCompleter, CandidateSources, SubcommandCandidates};
 pub use cc_candidates::{
-    Completers, CompletionCandidate, FnCandidates, FnCompleter, ValueCandidates, ValueCompleter,
+    Completers, CompletionCandidate, EveryPath, FnCandidates, FnCompleter, FnTest, Folder,
+    FolderError, IsDir, IsExecutable, IsFile, MemoryFolder, PathCompleter, PathTest, RealFolder,
+    ValueCandidates, ValueCompleter,
 };
-pub use cc_engine::{Lookup, Sources, asked_argument, complete, complete_from};
-pub use cc_gather::{complete_possible_values, possible_value_candidates};
-pub use cc_paths::{
-    EveryPath, FnTest, Folder, FolderError, IsDir, IsExecutable, IsFile, MemoryFolder,
-    PathCompleter, PathTest, RealFolder,
+pub use cc_engine::{
+    Lookup, Sources, asked_argument, complete, complete_from, complete_possible_values,
+    possible_value_candidates,
 };
+pub use cc_env::{WithLines, complete_with_lines, wanted_command};
+pub use cc_parser::{bash_script_and_candidates, has_no_hidden_alias};

@@ -1,13 +1,10 @@
 //! Completion by the program itself, when its shell asks for candidates through the environment.
 
-pub use cc_asking::{
-    Answer, Call, Called, LineSource, PassedLines, answer_call, answer_own, try_complete_asking,
-    write_answer, write_run_words,
-};
 pub use cc_command::Release;
 pub use cc_env::{
-    Bash, Builtin, CompleteEnv, Elvish, EnvCompleter, Fish, LookupCompleter, Powershell, SafeShell,
-    ShellNames, ShellProgram, Shells, Zsh,
+    Answer, Bash, Builtin, Call, Called, CompleteEnv, Elvish, EnvCompleter, Fish, LineSource,
+    LookupCompleter, PassedLines, Powershell, SafeShell, ShellNames, ShellProgram, Shells, Zsh,
+    answer_call, answer_own, try_complete_asking, write_answer, write_run_words,
 };
 pub use cc_lines::SystemLines;
 pub use cc_quote::is_plain_path;

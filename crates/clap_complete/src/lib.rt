@@ -32,8 +32,7 @@ pub mod quote;
 
 pub use cc_arg::ValueHint;
 pub use cc_base::{ArgValueCandidates, ArgValueCompleter, Error};
-pub use cc_candidates::CompletionCandidate;
+pub use cc_candidates::{CompletionCandidate, PathCompleter};
 pub use cc_env::CompleteEnv;
 pub use cc_generator::{Generator, generate};
-pub use cc_paths::PathCompleter;
 pub use cc_shell::{Shell, generate_to};

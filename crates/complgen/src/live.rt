@@ -4,9 +4,9 @@
 use crate::contents;
 use crate::output::{buffered, flush};
 use cc_base::{Error, Sink};
+use cc_candidates::{Folder, RealFolder};
 use cc_command::Release;
 use cc_lines::SystemLines;
-use cc_paths::{Folder, RealFolder};
 use cc_replies::{EnvValues, home, variables};
 use complgen_live::{
     BadTree, OWN_TREE, Origin, ReplyError, Request, command_name, known_names, reply,

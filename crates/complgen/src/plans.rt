@@ -2,7 +2,7 @@
 
 use crate::contents;
 use crate::output::{buffered, flush};
-use cc_paths::{Folder, RealFolder};
+use cc_candidates::{Folder, RealFolder};
 use cc_replies::home;
 use complgen_plans::{Given, carry_out};
 use complgen_scripts::{Plan, Refusal};

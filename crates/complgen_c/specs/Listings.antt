@@ -5,7 +5,7 @@ use Rattle.std.specs.BTreeSet.{keys}
 use Rattle.std.specs.List.{list_any}
 use Rattle.std.specs.Option.{option_copied}
 use Rattle.std.specs.Str.{bytes_eq}
-use Rattle.cc_paths.specs.Folders.{FolderFacts}
+use Rattle.cc_candidates.specs.Folders.{FolderFacts}
 use Rattle.complgen_c.specs.declared.listed.Listed.{Listed}
 
 -- the path of a directory, the names in it, and the paths of directories and of files

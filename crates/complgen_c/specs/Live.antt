@@ -1,12 +1,12 @@
 -- The outcomes of a live request.
 use Rattle.std.specs.Prelude.{◌≡◌, ◌≢◌, ℕ, true, List, Option, None, Some, Result, Ok, Err, codes}
-use Rattle.cc_asking.specs.Answers.{Told}
-use Rattle.cc_asking.specs.Answers as told
-use Rattle.cc_asking.specs.Given.{passed_lines}
-use Rattle.cc_asking.specs.RunWords.{written_words}
+use Rattle.cc_env.specs.Answers.{Told}
+use Rattle.cc_env.specs.Answers as told
+use Rattle.cc_env.specs.Given.{passed_lines}
+use Rattle.cc_env.specs.RunWords.{written_words}
 use Rattle.cc_base.specs.declared.error.Error.TheVariants.{Memory}
 use Rattle.cc_engine.specs.Paths.{PathsOf}
-use Rattle.cc_paths.specs.Folders.{FolderFacts}
+use Rattle.cc_candidates.specs.Folders.{FolderFacts}
 use Rattle.cc_replies.specs.Environment.{value_of}
 use Rattle.cc_replies.specs.declared.environment.EnvValues.{EnvValues}
 use Rattle.complgen_scripts.specs.Refusals.{IsOutOfMemory, IsRefusal, Reports}

@@ -7,7 +7,7 @@ ghost use Rattle.complgen_c.specs.Listings.{HoldsListing, facts_of, handed, is_a
 ghost use Rattle.complgen_c.specs.Listings.{listing_of};
 
 use cc_base::Text;
-use cc_paths::{Folder, FolderError};
+use cc_candidates::{Folder, FolderError};
 use std::alloc::{AllocError, Global};
 use std::cell::Cell;
 use std::collections::BTreeSet;

@@ -2,7 +2,7 @@
 
 ghost use Rattle.std.specs.Prelude.{Err, map, string_bytes};
 ghost use Rattle.std.specs.Option.{option_copied};
-ghost use Rattle.cc_asking.specs.Answers.{seen};
+ghost use Rattle.cc_env.specs.Answers.{seen};
 ghost use Rattle.cc_base.specs.declared.error.Error.TheVariants.{Memory};
 ghost use Rattle.cc_replies.specs.Environment.{value_of};
 ghost use Rattle.complgen_live.specs.Answers.{seen_request};
@@ -15,9 +15,9 @@ ghost use Rattle.complgen_c.specs.Outcomes.{EndsAs};
 use crate::listed::Listed;
 use crate::outcome::Outcome;
 use crate::requests::{RequestTexts, read_request};
-use cc_asking::{Answer, PassedLines, write_run_words};
 use cc_base::{Collected, Error, Items, Text};
 use cc_command::Release;
+use cc_env::{Answer, PassedLines, write_run_words};
 use cc_replies::EnvValues;
 use complgen_live::{Origin, ReplyError, Request, answer_request};
 use complgen_scripts::{Refusal, error_refusal};

@@ -2,10 +2,9 @@
 
 use crate::document::Document;
 use cc_base::{Collected, Error};
-use cc_candidates::Completers;
+use cc_candidates::{Completers, MemoryFolder};
 use cc_command::Command;
 use cc_env::{CompleteEnv, EnvCompleter};
-use cc_paths::MemoryFolder;
 use cc_quote::posix_word;
 use cc_replies::EnvValues;
 use complgen_command_line::plan;

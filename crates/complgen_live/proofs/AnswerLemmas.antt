@@ -1,8 +1,8 @@
 -- Lemmas for the sources of an answer, and for writing it.
 use Rattle.std.proofs.Common.{◌≡◌, refl, sym, subst, ℕ, Bool, List, [], Option, Some, Result, Ok, Err}
 use Rattle.cc_arg.specs.declared.parts.ArgParts.{ArgParts as Arg}
-use Rattle.cc_asking.specs.Answers.{Answers, Told}
-use Rattle.cc_asking.specs.WrittenAnswers.{status_of, written_bytes}
+use Rattle.cc_env.specs.Answers.{Answers, Told}
+use Rattle.cc_env.specs.WrittenAnswers.{status_of, written_bytes}
 use Rattle.cc_base.specs.Writes.{IsWrite, Writes}
 use Rattle.cc_base.specs.declared.error.Error.{Error}
 use Rattle.cc_base.specs.declared.error.Error.TheVariants.{Write}
@@ -12,7 +12,7 @@ use Rattle.cc_candidates.specs.declared.candidate.CompletionCandidate.{Completio
 use Rattle.cc_candidates.specs.declared.sources.Source.{Source}
 use Rattle.cc_command.specs.Tree.{Tree}
 use Rattle.cc_env.specs.declared.safe_shell.SafeShell.{SafeShell}
-use Rattle.cc_gather.specs.Values.{MayReturn}
+use Rattle.cc_engine.specs.Values.{MayReturn}
 use Rattle.complgen_live.specs.Answers.{Parts, call_for}
 use Rattle.complgen_live.specs.Prepared.{Paths, paths_alone}
 use Rattle.complgen_live.specs.Replies.{EndsReply, write_failed, written}

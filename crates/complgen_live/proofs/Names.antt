@@ -4,7 +4,7 @@ use Rattle.std.specs.List.{dedup}
 use Rattle.std.proofs.lemmas.Bool.{cases_Bool}
 use Rattle.std.proofs.lemmas.List.{drop_more, length-map, map-append}
 use Rattle.std.proofs.lemmas.List.Filters.{length-filter_both}
-use Rattle.cc_paths.specs.PathCandidates.{MayList}
+use Rattle.cc_candidates.specs.PathCandidates.{MayList}
 use Rattle.cc_base.specs.PlainName.{is_plain_name}
 use Rattle.complgen_live.specs.KnownNames.{AreListed, is_odd_name}
 

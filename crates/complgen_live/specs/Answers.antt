@@ -3,13 +3,13 @@ use Rattle.std.specs.Prelude.{ℕ, Bool, List, map, Option, None, Some, Result, 
 use Rattle.std.specs.Option.{option_copied}
 use Rattle.std.specs.String.{string_bytes}
 use Rattle.cc_arg.specs.declared.parts.ArgParts.{ArgParts as Arg}
-use Rattle.cc_asking.specs.Answers.{Answers, Parts as Call, Told, seen}
-use Rattle.cc_asking.specs.declared.answers.Answer.{Answer}
+use Rattle.cc_env.specs.Answers.{Answers, Parts as Call, Told, seen}
+use Rattle.cc_env.specs.declared.asking.answers.Answer.{Answer}
 use Rattle.cc_base.specs.declared.error.Error.{Error}
 use Rattle.cc_engine.specs.Paths.{PathsOf}
 use Rattle.cc_env.specs.Steps.{names_of}
 use Rattle.cc_env.specs.declared.safe_shell.SafeShell.{SafeShell}
-use Rattle.cc_paths.specs.Folders.{FolderFacts}
+use Rattle.cc_candidates.specs.Folders.{FolderFacts}
 use Rattle.cc_replies.specs.declared.environment.EnvValues.{EnvValues}
 use Rattle.complgen_live.specs.Origins.{is_trusted}
 use Rattle.complgen_live.specs.Prepared.{Paths, Prepares, paths_alone, variable}

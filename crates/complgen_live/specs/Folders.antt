@@ -2,7 +2,7 @@
 use Rattle.std.specs.Prelude.{ℕ, Bool, not, List, [], ◌∷◌, ◌++◌, ◌==◌, length, map, filter, Option, None, Some, unwrap_or, codes}
 use Rattle.std.specs.List.{slice_split}
 use Rattle.std.specs.Path.{path_join}
-use Rattle.cc_paths.specs.PathTexts.{is_absolute}
+use Rattle.cc_candidates.specs.PathTexts.{is_absolute}
 
 -- the byte is `:`
 abbrev pub is_colon : ℕ → Bool

@@ -5,7 +5,7 @@ use Rattle.std.specs.List.{dedup}
 use Rattle.std.specs.Ordering.{is_lt, nat_cmp}
 use Rattle.std.specs.Str.{bytes_eq}
 use Rattle.cc_base.specs.Sorting.{in_order}
-use Rattle.cc_paths.specs.PathCandidates.{MayList}
+use Rattle.cc_candidates.specs.PathCandidates.{MayList}
 use Rattle.cc_base.specs.PlainName.{is_plain_name}
 use Rattle.complgen_live.specs.TreeFiles.{stems}
 

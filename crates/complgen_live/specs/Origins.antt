@@ -1,6 +1,6 @@
 -- Where a tree comes from, and whether its commands may be run.
 use Rattle.std.specs.Prelude.{Bool, true}
-use Rattle.cc_paths.specs.PathTexts.{is_absolute}
+use Rattle.cc_candidates.specs.PathTexts.{is_absolute}
 use Rattle.complgen_live.specs.declared.requests.Origin.{Origin}
 use Rattle.complgen_live.specs.declared.requests.Origin.TheVariants.{Program, File}
 

@@ -8,7 +8,7 @@ use Rattle.cc_command.specs.Tree.{Tree}
 use Rattle.cc_env.specs.SafeShells.{all_safe, safe_spec}
 use Rattle.cc_env.specs.Wanted.{IsUnknownShell, Wanted, known, nothing, unknown, wanted_name, wanted_of}
 use Rattle.cc_env.specs.declared.safe_shell.SafeShell.{SafeShell}
-use Rattle.cc_gather.specs.Values.{MayReturn}
+use Rattle.cc_engine.specs.Values.{MayReturn}
 use Rattle.cc_replies.specs.Environment.{value_of}
 use Rattle.cc_replies.specs.declared.environment.EnvValues.{EnvValues}
 use Rattle.complgen_tree_file.specs.TreeFile.{Describes}

@@ -1,8 +1,8 @@
 -- The outcomes of writing the answer to a request.
 use Rattle.std.specs.Prelude.{◌≡◌, ◌++◌, ℕ, true, List, Option, None, Some, Result, Ok, Err}
 use Rattle.std.specs.declared.io.ErrorKind.{ErrorKind}
-use Rattle.cc_asking.specs.Answers.{Told}
-use Rattle.cc_asking.specs.WrittenAnswers.{status_of, written_bytes}
+use Rattle.cc_env.specs.Answers.{Told}
+use Rattle.cc_env.specs.WrittenAnswers.{status_of, written_bytes}
 use Rattle.cc_base.specs.Partly.{partly}
 use Rattle.cc_base.specs.Sink.{add_failure}
 use Rattle.cc_base.specs.declared.error.Error.TheVariants.{Write}

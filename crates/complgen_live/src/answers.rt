@@ -1,22 +1,20 @@
 //! Answers to the requests of shells, by a tree file.
 
-ghost use Rattle.cc_asking.specs.Answers.{Answers, seen_answer};
+ghost use Rattle.cc_env.specs.Answers.{Answers, seen_answer};
 ghost use Rattle.complgen_live.specs.Answers.{AnswersRequest, call_for, parts_of, seen_request};
 
 use crate::prepared::{Prepared, VARIABLE, prepare};
 use crate::reply_errors::ReplyError;
 use crate::requests::Request;
-use cc_asking::{Answer, Call, LineSource, answer_call};
 use cc_base::Error;
-use cc_candidates::Completers;
+use cc_candidates::{Completers, Folder};
 use cc_engine::Sources;
-use cc_env::ShellProgram;
-use cc_paths::Folder;
+use cc_env::{Answer, Call, LineSource, ShellProgram, answer_call};
 use std::alloc::Global;
 
 /// Returns the answer to `request`, or `None` if there is no tree file or no request.
 ///
-/// It is the answer of `cc_asking::answer_call` over the command that the tree file describes, with
+/// It is the answer of `cc_env::answer_call` over the command that the tree file describes, with
 /// paths in `request.folder` and without completers. The commands of a tree are only run if
 /// `request.origin` is trusted.
 ///

@@ -8,7 +8,7 @@ ghost use Rattle.complgen_live.specs.TreeFiles.{AreInFolders, is_file_name, tree
 ghost use Rattle.complgen_live.specs.TreeFiles.{tree_stem};
 
 use cc_base::is_plain_name;
-use cc_paths::join;
+use cc_candidates::join;
 use std::alloc::{AllocError, Global};
 use std::path::Path;
 

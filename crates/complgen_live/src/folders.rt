@@ -3,11 +3,11 @@
 ghost use Rattle.std.specs.Prelude.{◌≡◌, ◌++◌, IfOk, OnOk, codes, filter, map, string_bytes};
 ghost use Rattle.std.specs.Option.{option_copied};
 ghost use Rattle.cc_replies.specs.Environment.{value_of};
-ghost use Rattle.cc_paths.specs.PathTexts.{is_absolute};
+ghost use Rattle.cc_candidates.specs.PathTexts.{is_absolute};
 ghost use Rattle.complgen_live.specs.Folders.{data_folder, is_some_text, pieces, some_text};
 ghost use Rattle.complgen_live.specs.Folders.{system_folders, tree_folders, user_folders};
 
-use cc_paths::join;
+use cc_candidates::join;
 use cc_replies::EnvValues;
 use std::alloc::{AllocError, Global};
 

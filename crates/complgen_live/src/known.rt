@@ -1,13 +1,13 @@
 //! The programs that have tree files in some directories.
 
 ghost use Rattle.std.specs.Prelude.{◌≡◌, ◌++◌, IfOk, OnOk, filter, map, string_bytes};
-ghost use Rattle.cc_paths.specs.PathCandidates.{MayList};
+ghost use Rattle.cc_candidates.specs.PathCandidates.{MayList};
 ghost use Rattle.complgen_live.specs.KnownNames.{AreKnown, AreListed, each_once, is_other_name};
 ghost use Rattle.complgen_live.specs.TreeFiles.{found_stem, stems, tree_stem};
 
 use crate::files::{plain_names, tree_stem};
 use crate::plain_names::PlainNames;
-use cc_paths::{Folder, FolderError};
+use cc_candidates::{Folder, FolderError};
 use std::alloc::{AllocError, Global};
 
 // The name of this program.

@@ -6,9 +6,9 @@ ghost use Rattle.complgen_live.specs.Replies.{EndsReply};
 use crate::answers::answer_request;
 use crate::reply_errors::ReplyError;
 use crate::requests::Request;
-use cc_asking::{LineSource, write_answer};
 use cc_base::Sink;
-use cc_paths::Folder;
+use cc_candidates::Folder;
+use cc_env::{LineSource, write_answer};
 use std::alloc::Global;
 
 /// Writes the answer to `request` to `out`, and returns the exit status: 0 after a reply or a

@@ -4,8 +4,8 @@ use Rattle.std.proofs.Common.{Global, String, [], false, true, length, map, IfEr
 use Rattle.std.proofs.lemmas.List.{length-map}
 use Rattle.std.specs.String.{string_bytes}
 use Rattle.complgen_scripts.specs.declared.refusals.Refusal.{Refusal}
-use Rattle.cc_asking.specs.Completion.{CompletesWith, RefusesWith}
-use Rattle.cc_gather.specs.Values.{MayReturn}
+use Rattle.cc_env.specs.Completion.{CompletesWith, RefusesWith}
+use Rattle.cc_engine.specs.Values.{MayReturn}
 use Rattle.cc_command.specs.Built.{built_tree}
 use Rattle.cc_candidates.specs.Sources.{ReturnsAt}
 use Rattle.cc_candidates.specs.declared.sources.Source.{Source}

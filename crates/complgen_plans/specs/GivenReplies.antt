@@ -1,7 +1,7 @@
 -- The candidates for a word of a command line, with given lines as the values that it asks for, and
 -- the reply with them.
 use Rattle.std.specs.Prelude.{◌≡◌, ℕ, List, Option, Result, false, length, true}
-use Rattle.cc_asking.specs.Completion.{CompletesWith}
+use Rattle.cc_env.specs.Completion.{CompletesWith}
 use Rattle.cc_base.specs.declared.failures.Failures.{Failures}
 use Rattle.cc_candidates.specs.declared.candidate.CompletionCandidate.{CompletionCandidate}
 use Rattle.cc_command.specs.Built.{built_tree}

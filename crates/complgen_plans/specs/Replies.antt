@@ -1,6 +1,6 @@
 -- The candidates for a word of a command line without completers, and the reply with them.
 use Rattle.std.specs.Prelude.{⊤, ◌≡◌, ℕ, List, [], Option, Result, true, false, length}
-use Rattle.cc_gather.specs.Values.{MayReturn}
+use Rattle.cc_engine.specs.Values.{MayReturn}
 use Rattle.cc_command.specs.Built.{built_tree}
 use Rattle.cc_engine.specs.Completion.{Completes, is_in_range}
 use Rattle.cc_candidates.specs.declared.candidate.CompletionCandidate.{CompletionCandidate}

@@ -3,7 +3,7 @@ use Rattle.std.specs.Prelude.{⊤, ◌≡◌, ◌++◌, ℕ, false, true, List, 
 use Rattle.json.specs.Lex.{tokens}
 use Rattle.json.specs.Print.{print}
 use Rattle.json.specs.Token.{Token}
-use Rattle.cc_asking.specs.Asking.{Wants}
+use Rattle.cc_env.specs.Asking.{Wants}
 use Rattle.cc_base.specs.Bytes.{line_feed}
 use Rattle.cc_base.specs.declared.failures.Failures.{Failures}
 use Rattle.cc_command.specs.Built.{built_tree}

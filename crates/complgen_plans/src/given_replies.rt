@@ -8,12 +8,11 @@ ghost use Rattle.complgen_plans.specs.Replies.{FindsNone};
 
 use crate::replies::{CURRENT_DIR, copies};
 use crate::word_at::WordAt;
-use cc_asking::complete_with_lines;
 use cc_base::{Error, Sink};
-use cc_candidates::{Completers, CompletionCandidate};
+use cc_candidates::{Completers, CompletionCandidate, Folder};
 use cc_command::Command;
 use cc_engine::Sources;
-use cc_paths::Folder;
+use cc_env::complete_with_lines;
 use cc_replies::write_lines;
 use complgen_scripts::{Refusal, error_refusal, tree};
 use std::alloc::Global;

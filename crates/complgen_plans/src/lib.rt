@@ -2,7 +2,7 @@
 //!
 //! ```rattle
 //! use cc_base::Collected;
-//! use cc_paths::MemoryFolder;
+//! use cc_candidates::MemoryFolder;
 //! use complgen_plans::{Given, carry_out};
 //! use complgen_scripts::{Plan, Refusal};
 //! use std::alloc::Global;

@@ -7,10 +7,9 @@ ghost use Rattle.complgen_plans.specs.Replies.{AreFound, EndsReply, FindsNone};
 
 use crate::word_at::WordAt;
 use cc_base::{Error, Sink};
-use cc_candidates::{Completers, CompletionCandidate};
+use cc_candidates::{Completers, CompletionCandidate, Folder};
 use cc_command::{Command, Release, discard};
 use cc_engine::complete;
-use cc_paths::Folder;
 use cc_replies::write_lines;
 use complgen_scripts::{Refusal, error_refusal, tree};
 use std::alloc::{AllocError, Global};

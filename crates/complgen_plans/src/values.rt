@@ -9,7 +9,7 @@ use crate::given::Given;
 use crate::given_replies::reply_with;
 use crate::word_at::WordAt;
 use cc_base::Sink;
-use cc_paths::Folder;
+use cc_candidates::Folder;
 use complgen_scripts::{Refusal, unreadable_values};
 use std::alloc::Global;
 

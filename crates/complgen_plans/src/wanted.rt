@@ -8,9 +8,9 @@ ghost use Rattle.complgen_plans.specs.Wanted.{EndsWanted, IsWanted, array_line, 
 ghost use Rattle.complgen_plans.specs.Wanted.{array_tokens, text_tokens};
 
 use crate::word_at::WordAt;
-use cc_asking::wanted_command;
 use cc_base::{Error, Sink, Text, put_all};
 use cc_command::Command;
+use cc_env::wanted_command;
 use complgen_scripts::{Refusal, error_refusal, tree};
 use json::{Token, Writer};
 use std::alloc::{AllocError, Global};

@@ -4,8 +4,8 @@ use Rattle.std.specs.Prelude.{Option, find, is_some, option_to_list}
 use Rattle.cc_arg.specs.declared.parts.ArgParts.{ArgParts as Arg}
 use Rattle.cc_arg.specs.ValueSources.{has_source}
 use Rattle.cc_command.specs.Tree.{Tree}
-use Rattle.cc_walk.specs.declared.state.State.{State}
-use Rattle.cc_walk.specs.Lookup.{positional_at}
+use Rattle.cc_engine.specs.declared.walking.state.State.{State}
+use Rattle.cc_engine.specs.Lookup.{positional_at}
 use Rattle.cc_engine.specs.Asked.{argument_within, arguments_of_lists, asked_argument, offered_positional, opened_argument, unless_dash}
 use Rattle.cc_engine.specs.Completion.{offered_match}
 use Rattle.cc_engine.specs.declared.open_lists.OpenLists.{OpenLists}

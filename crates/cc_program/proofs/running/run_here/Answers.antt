@@ -1,4 +1,4 @@
-use Rattle.cc_asking.specs.OwnAnswers.{AnswersCalled}
+use Rattle.cc_env.specs.OwnAnswers.{AnswersCalled}
 use Rattle.cc_program.proofs.SeenEnds.{seen_run}
 use Rattle.cc_program.proofs.running.run_here.Goals as goal
 

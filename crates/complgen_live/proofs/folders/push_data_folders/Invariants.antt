@@ -1,6 +1,6 @@
 use Rattle.std.proofs.Common.{◌≡◌, ◌++◌, drop, map, filter}
 use Rattle.std.specs.String.{string_bytes}
-use Rattle.cc_paths.specs.PathTexts.{is_absolute}
+use Rattle.cc_candidates.specs.PathTexts.{is_absolute}
 use Rattle.complgen_live.specs.Folders.{data_folder}
 use Rattle.complgen_live.proofs.folders.push_data_folders.Given as goal
 

@@ -1,3 +1,0 @@
-mod Examples
-mod Offers
-mod Together

@@ -1,3 +1,0 @@
-pub mod BashAgreement
-pub mod ParserAgreement
-pub mod Reached

@@ -1,0 +1,7 @@
+use Rattle.std.proofs.Common.{◌≡◌, ◌++◌, drop}
+use Rattle.std.specs.List.{flat_map}
+use Rattle.cc_engine.specs.Options.{longs_beginning}
+use Rattle.cc_engine.proofs.gathering.option_names.push_longs.Given as goal
+
+abbrev pub invariant-loop-argument : goal.invariant-loop-argument
+invariant-loop-argument l = l.found.items ++ flat_map (longs_beginning l.long) (drop l.argument-index l.arguments) ≡ l.initial.found.items ++ flat_map (longs_beginning l.long) l.arguments

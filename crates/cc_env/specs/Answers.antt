@@ -1,0 +1,124 @@
+-- The answer to a request: a text, or the words of a command for the shell to run.
+use Rattle.std.specs.Prelude.{◌≡◌, ℕ, Bool, List, map, Option, Result, Ok, Err}
+use Rattle.std.specs.Option.{option_copied}
+use Rattle.std.specs.String.{string_bytes}
+use Rattle.cc_arg.specs.declared.parts.ArgParts.{ArgParts as Arg}
+use Rattle.cc_base.specs.Collected.{collected_bytes}
+use Rattle.cc_base.specs.declared.error.Error.{Error}
+use Rattle.cc_base.specs.declared.error.Error.TheVariants.{Memory}
+use Rattle.cc_base.specs.declared.sources.CandidateSources.{Ghosts}
+use Rattle.cc_candidates.specs.declared.candidate.CompletionCandidate.{CompletionCandidate}
+use Rattle.cc_command.specs.Built.{built_tree}
+use Rattle.cc_command.specs.Tree.{Tree}
+use Rattle.cc_command.specs.ValueLists.{listed_tree}
+use Rattle.cc_engine.specs.Completion.{Completes}
+use Rattle.cc_engine.specs.Sources.{returned_of}
+use Rattle.cc_engine.specs.declared.sources.Sources.{Sources}
+use Rattle.cc_env.specs.Arguments.{words_after}
+use Rattle.cc_env.specs.SafeShells.{safe_spec}
+use Rattle.cc_env.specs.Steps.{MakesText, Names, program_names}
+use Rattle.cc_env.specs.declared.safe_shell.SafeShell.{SafeShell}
+use Rattle.cc_engine.specs.Values.{MayReturn}
+use Rattle.cc_candidates.specs.Folders.{FolderFacts}
+use Rattle.cc_replies.specs.GivenLines.{candidates_of_lines}
+use Rattle.cc_replies.specs.declared.environment.EnvValues.{EnvValues}
+use Rattle.cc_env.specs.Asking.{AsksOver, CannotAsk, command_words, next_step, values_mode}
+use Rattle.cc_env.specs.Given.{lines_list, with_lines}
+use Rattle.cc_env.specs.declared.asking.answers.Answer.{Answer}
+use Rattle.cc_env.specs.declared.asking.answers.Answer.TheVariants as answer_as
+use Rattle.cc_env.specs.declared.asking.answers.Call.{Call}
+use Rattle.cc_env.specs.declared.asking.asked.Step.{Step}
+use Rattle.cc_env.specs.declared.asking.asked.Step.TheVariants.{ReadLines, Reply, Run}
+
+-- ---- the request
+
+-- the parts of an answer to a request, apart from the command and the lines
+pub record Parts : Type 1 where
+  pub shell : SafeShell
+  -- the names in the registration of a program and a tree
+  pub names : List ℕ → Tree → Names
+  pub env : EnvValues
+  pub args : List (List ℕ)
+  -- commands of the tree may be run
+  pub trusted : Bool
+  -- the possible results of completers, lists and a folder
+  pub returned : MayReturn
+
+abbrev pub parts_of : {D C : Type 0} → Ghosts C CompletionCandidate → FolderFacts → Call
+    → Sources D C → Parts
+parts_of members facts call sources = record {
+  shell = call.program.shell.now;
+  names = program_names call.program (option_copied sources.current_dir);
+  env = call.env.now;
+  args = map string_bytes call.args.now;
+  trusted = call.trusted;
+  returned = returned_of members facts sources;
+}
+
+-- ---- the answer
+
+-- the content of an answer to the shell: a text, or the words of a command to run
+pub data Told : Type 0 where
+  text : List ℕ → Told
+  words : List (List ℕ) → Told
+
+abbrev pub seen : Answer → Told
+seen (answer_as.Text made) = text (collected_bytes made)
+seen (answer_as.Run command) = words command
+
+abbrev pub seen_answer : Result Answer Error → Result Told Error
+seen_answer (Ok answer) = Ok (seen answer)
+seen_answer (Err error) = Err error
+
+-- a text that was made, as an answer
+abbrev pub told : Result (List ℕ) Error → Result Told Error
+told (Ok made) = Ok (text made)
+told (Err error) = Err error
+
+-- the text over a command, as if no source outside the tree had values
+abbrev pub MakesAlone : Parts → Tree → Result (List ℕ) Error → Type 0
+MakesAlone parts tree result =
+    MakesText (λ made. made ≡ Ok tree) (safe_spec parts.shell) parts.names parts.env
+    (Completes parts.returned) parts.args result
+
+-- The text over a command in which each argument with the source of `asked` has these lines as its
+-- list.
+abbrev pub MakesOver : Parts → Arg → List ℕ → Tree → Result (List ℕ) Error → Type 0
+MakesOver parts asked given tree result =
+    MakesText (λ made. made ≡ Ok (listed_tree asked lines_list tree)) (safe_spec parts.shell)
+    parts.names parts.env
+    (Completes (with_lines parts.returned (candidates_of_lines asked.values_split given)))
+    parts.args result
+
+-- The answer by a step, where `Gives` is true of the lines that an argument may be given.
+pub data AnswersStep (parts : Parts) (Gives : Arg → List ℕ → Type 0) (tree : Tree)
+    : Step → Result Told Error → Type 0 where
+  -- no lines are asked for, or none can be had
+  replied : (result : Result (List ℕ) Error) → MakesAlone parts tree result
+      → AnswersStep parts Gives tree Reply (told result)
+  -- the shell is to run a command
+  runs : (argument : Arg)
+      → AnswersStep parts Gives tree (Run argument) (Ok (words (command_words argument)))
+  -- the reply over lines
+  over_lines : (argument : Arg) (given : List ℕ) (result : Result (List ℕ) Error)
+      → Gives argument given → MakesOver parts argument given tree result
+      → AnswersStep parts Gives tree (ReadLines argument) (told result)
+  -- out of memory
+  out_of_memory : (step : Step) → AnswersStep parts Gives tree step (Err Memory)
+
+-- the argument whose values are asked for, over the built command
+abbrev pub AsksFor : Parts → Tree → Option Arg → Type 0
+AsksFor parts tree asked =
+    AsksOver (values_mode parts.env) (built_tree tree) (words_after parts.args) asked
+
+-- the answer over a command
+pub data Answers (parts : Parts) (Gives : Arg → List ℕ → Type 0) (tree : Tree)
+    : Result Told Error → Type 0 where
+  -- no word can be asked for: memory ran out, or the last word is the program's name
+  not_asked : (error : Error)
+      → CannotAsk (values_mode parts.env) (built_tree tree) (words_after parts.args) error
+      → Answers parts Gives tree (Err error)
+  -- the answer by the argument that is asked for
+  answered : (asked : Option Arg) (result : Result Told Error) → AsksFor parts tree asked
+      → AnswersStep parts Gives tree (next_step parts.env parts.trusted asked) result
+      → Answers parts Gives tree result

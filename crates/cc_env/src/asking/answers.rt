@@ -1,0 +1,205 @@
+//! The answer to a request: a text, or the words of a command that lists values.
+
+ghost use Rattle.std.specs.Prelude.{◌≡◌, IfErr, IfOk};
+ghost use Rattle.cc_arg.specs.declared.parts.ArgParts.{ArgParts as Arg};
+ghost use Rattle.cc_base.specs.declared.sources.CandidateSources.{Ghosts};
+ghost use Rattle.cc_env.specs.Steps.{made_bytes};
+ghost use Rattle.cc_env.specs.Answers.{Answers, AnswersStep, MakesOver, parts_of};
+ghost use Rattle.cc_env.specs.Answers.{seen, seen_answer, told, words};
+ghost use Rattle.cc_env.specs.Asking.{command_words};
+
+use crate::arguments::words_after;
+use crate::asking::asked::{Step, asked_by, command_words, next_step};
+use crate::asking::given::{WithLines, lines_list};
+use crate::asking::line_source::{LineSource, lines_of};
+use crate::safe_shell::SafeShell;
+use crate::shell_program::ShellProgram;
+use cc_arg::Arg;
+use cc_base::{CandidateSources, Collected, Error, Items, Text};
+use cc_candidates::{CompletionCandidate, Folder};
+use cc_command::{Command, list_values};
+use cc_engine::Sources;
+use cc_replies::{EnvValues, GivenLines};
+use std::alloc::Global;
+
+/// A run of a program by a shell.
+#[derive(Drop)]
+pub struct Call<'r> {
+    /// The program as the shell runs it.
+    pub program: ShellProgram<'r, SafeShell>,
+    /// The arguments of the program, its name first. The words to complete follow a `--`.
+    pub args: &'r [String],
+    /// The values of the environment variables.
+    pub env: &'r EnvValues,
+    /// True if commands that the tree names may be run.
+    pub trusted: bool,
+}
+
+/// The answer to a request.
+#[derive(Drop)]
+pub enum Answer {
+    /// A reply, or a registration.
+    Text(Collected),
+    /// The words of a command for the shell to run. What they print are the values of an argument.
+    Run(Items<Text>),
+}
+
+/// Returns the answer to a request, over the command of the program. If no words follow a `--`, it
+/// is the registration.
+///
+/// If the request comes from a safe registration, and the last word asks for the values of an
+/// argument that come from outside the tree, these are needed first:
+///
+/// - If they come from a command, `_COMPLGEN_VALUES` decides. If it is `ask`, the answer is `Run`.
+///   If it is `stdin`, `lines` has the output of the command. Otherwise the argument has no values.
+///   It has none either if the variable `COMPLGEN_COMMANDS` is `0`, or if `call.trusted` is false.
+/// - If they come from a file or from the system, `lines` has them.
+///
+/// All other candidates come from `command` and `sources`.
+///
+/// # Errors
+///
+/// `NoArguments` if `call.args` is empty, `NoCompletion` if the word to complete is not there or is
+/// the program's name, and `Memory` if an allocation fails.
+pub fn answer_call<D, C, S>(
+    alloc: Global,
+    call: &Call<'_>,
+    mut command: Command,
+    sources: &Sources<'_, D, C>,
+    lines: &S,
+) -> Result<Answer, Error>
+where
+    D: Folder,
+    C: CandidateSources<Candidate = CompletionCandidate>,
+    S: LineSource,
+    ensures { Answers (parts_of C.CandidateSources (D.facts sources.now.folder.now) call.now
+        sources.now) (S.gives lines.now) command (seen_answer result) }
+{
+    match asked_by(alloc, &mut command, call.env, words_after(call.args)) {
+        Ok(asked) => {
+            let step = next_step(call.env, call.trusted, asked);
+            let answer = answer_step(alloc, call, command, sources, lines, &step);
+            drop(step);
+            answer
+        }
+        Err(error) => {
+            drop(command);
+            Err(error)
+        }
+    }
+}
+
+// Returns the answer over a built command, by this step.
+fn answer_step<D, C, S>(
+    alloc: Global,
+    call: &Call<'_>,
+    command: Command,
+    sources: &Sources<'_, D, C>,
+    lines: &S,
+    step: &Step,
+) -> Result<Answer, Error>
+where
+    D: Folder,
+    C: CandidateSources<Candidate = CompletionCandidate>,
+    S: LineSource,
+    ensures { AnswersStep (parts_of C.CandidateSources (D.facts sources.now.folder.now) call.now
+        sources.now) (S.gives lines.now) command step.now (seen_answer result) }
+{
+    match step {
+        Step::Reply => {
+            text_answer(
+                call.program
+                    .text(alloc, command, call.args, call.env, sources),
+            )
+        }
+        Step::Run(asked) => {
+            drop(command);
+            run_answer(alloc, asked)
+        }
+        Step::ReadLines(asked) => {
+            text_answer(text_of_lines(alloc, call, command, sources, lines, asked))
+        }
+    }
+}
+
+// Returns a text that was made, as an answer.
+fn text_answer(text: Result<Collected, Error>) -> Result<Answer, Error>
+    ensures { seen_answer result ≡ told (made_bytes text) }
+{
+    match text {
+        Ok(text) => Ok(Answer::Text(text)),
+        Err(error) => Err(error),
+    }
+}
+
+// Returns the words of the argument's command, as an answer.
+fn run_answer(alloc: Global, asked: &Arg) -> Result<Answer, Error>
+    ensures runs { IfOk result (λ answer. seen answer ≡ words (command_words asked.now)) }
+    ensures memory { IfErr result (λ error. error ≡ Error.Memory) }
+{
+    Ok(Answer::Run(command_words(alloc, asked)?))
+}
+
+// Returns the text over a command and the lines that are the values of `asked`.
+fn text_of_lines<D, C, S>(
+    alloc: Global,
+    call: &Call<'_>,
+    command: Command,
+    sources: &Sources<'_, D, C>,
+    lines: &S,
+    asked: &Arg,
+) -> Result<Collected, Error>
+where
+    D: Folder,
+    C: CandidateSources<Candidate = CompletionCandidate>,
+    S: LineSource,
+    ensures { AnswersStep (parts_of C.CandidateSources (D.facts sources.now.folder.now) call.now
+        sources.now) (S.gives lines.now) command (Step.ReadLines asked.now)
+        (told (made_bytes result)) }
+{
+    match lines_of(alloc, lines, asked) {
+        Ok(given) => text_over(alloc, call, command, sources, asked, given.as_slice()),
+        Err(error) => {
+            drop(command);
+            Err(error)
+        }
+    }
+}
+
+// Returns the text over a command in which the lines are the values of each argument whose values
+// come from where those of `asked` come from.
+fn text_over<D, C>(
+    alloc: Global,
+    call: &Call<'_>,
+    mut command: Command,
+    sources: &Sources<'_, D, C>,
+    asked: &Arg,
+    lines: &[u8],
+) -> Result<Collected, Error>
+where
+    D: Folder,
+    C: CandidateSources<Candidate = CompletionCandidate>,
+    ensures { MakesOver (parts_of C.CandidateSources (D.facts sources.now.folder.now) call.now
+        sources.now) asked.now lines.now command (made_bytes result) }
+{
+    list_values(&mut command, asked, lines_list());
+    match GivenLines::new(alloc, lines, asked.get_values_split()) {
+        Ok(given) => {
+            let completers = WithLines {
+                sources: sources.completers,
+                lines: &given,
+            };
+            let with_lines = Sources {
+                current_dir: sources.current_dir,
+                folder: sources.folder,
+                completers: &completers,
+            };
+            call.program
+                .text(alloc, command, call.args, call.env, &with_lines)
+        }
+        Err(_) => {
+            drop(command);
+            Err(Error::Memory)
+        }
+    }
+}

@@ -1,7 +1,0 @@
-use Rattle.std.proofs.Common.{◌≡◌, drop}
-use Rattle.std.specs.List.{list_any}
-use Rattle.cc_gather.specs.Finished.{is_shown}
-use Rattle.cc_gather.proofs.finishing.has_shown.Given as goal
-
-abbrev pub invariant-loop-candidate : goal.invariant-loop-candidate
-invariant-loop-candidate l = list_any is_shown (drop l.candidate-index l.candidates) ≡ list_any is_shown l.candidates

@@ -1,7 +1,0 @@
-use Rattle.std.proofs.Common.{◌≡◌, drop}
-use Rattle.std.specs.List.{list_any}
-use Rattle.cc_gather.specs.Numbers.{is_point}
-use Rattle.cc_gather.proofs.negative_numbers.has_point.Given as goal
-
-abbrev pub invariant-loop-byte : goal.invariant-loop-byte
-invariant-loop-byte l = list_any is_point (drop l.byte-index l.bytes) ≡ list_any is_point l.bytes

@@ -1,7 +1,0 @@
-use Rattle.std.proofs.Common.{◌≡◌, drop, find}
-use Rattle.cc_gather.specs.Lookup.{has_own_long}
-use Rattle.cc_gather.proofs.option_names.with_own_long.Given as goal
-
-abbrev pub invariant-loop-argument : goal.invariant-loop-argument
-invariant-loop-argument l =
-    find (has_own_long l.flag) (drop l.argument-index l.arguments) ≡ find (has_own_long l.flag) l.arguments

@@ -1,4 +1,0 @@
-pub mod Folders
-pub mod InMemory
-pub mod PathCandidates
-pub mod PathTexts

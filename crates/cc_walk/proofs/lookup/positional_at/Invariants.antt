@@ -1,6 +1,0 @@
-use Rattle.std.proofs.Common.{◌≡◌, drop, find}
-use Rattle.cc_walk.specs.Lookup.{is_at}
-use Rattle.cc_walk.proofs.lookup.positional_at.Given as goal
-
-abbrev pub invariant-loop-argument : goal.invariant-loop-argument
-invariant-loop-argument l = find (is_at l.position) (drop l.argument-index l.arguments) ≡ find (is_at l.position) l.arguments
