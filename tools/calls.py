@@ -35,8 +35,8 @@ CRATES = [
 ]
 # The crates that tests run: tests, programs, and the crates that only the program uses.
 RUN = ["cc_tests", "library_calls", "larder", "pantry", *(it for it in common.crate_lines() if it.startswith("complgen"))]
-# Each `write_complete` calls the first one. Nothing calls the second one.
-UNCALLED = {"write_complete_from", "try_complete_from"}
+# Each `write_complete` calls it.
+UNCALLED = {"write_complete_from"}
 LAW = {"Model", "Drop"}
 SHOWN = {"ThisError": "Error"}
 

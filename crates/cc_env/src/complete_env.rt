@@ -13,7 +13,7 @@ ghost use Rattle.cc_env.specs.Requested.{FindsShell, found_shell};
 ghost use Rattle.cc_env.specs.Steps.{MakesText, Tries, made_bytes, names_of};
 
 use crate::builtin::Builtin;
-use crate::env_completer::{EnvCompleter, LookupCompleter};
+use crate::env_completer::EnvCompleter;
 use crate::safe_shell::SafeShell;
 use crate::shell_program::ShellProgram;
 use crate::shells::Shells;
@@ -21,7 +21,7 @@ use crate::wanted::{known_shell, wanted_name};
 use cc_base::{CandidateSources, Collected, Error, Sink, Text, put_all};
 use cc_candidates::{Completers, Folder};
 use cc_command::{Command, Release};
-use cc_engine::{Lookup, Sources};
+use cc_engine::Sources;
 use cc_replies::EnvValues;
 use std::alloc::Global;
 
@@ -286,84 +286,6 @@ impl<'s, F: Fn(Global) -> Result<Command, Error> + Drop, E: EnvCompleter> Comple
         let made = (self.factory)(alloc)?;
         let program = self.shell_program(shell);
         program.text_of_sources(alloc, made, args.as_slice(), env, sources)
-    }
-}
-
-impl<'s, F, E> CompleteEnv<'s, F, E>
-where
-    F: Fn(Global) -> Result<Command, Error> + Drop,
-    E: LookupCompleter,
-{
-    /// Writes a registration or a reply, as `try_complete` does, from what `lookup` finds.
-    ///
-    /// # Errors
-    ///
-    /// Those of `try_complete`.
-    pub fn try_complete_from<L: Lookup, W: Sink>(
-        self,
-        alloc: Global,
-        args: Vec<String>,
-        env: &EnvValues,
-        lookup: &L,
-        out: &mut W,
-    ) -> Result<bool, Error>
-        requires { F.IsAlwaysCallable self.factory }
-        ensures { Tries W.taken W.failed E.spec self.entry.shells.0.now (λ shell. MakesText
-            (λ made. F.post self.entry.factory alloc made) (E.spec shell)
-            (names_of self.entry.variable.now self.entry.bin self.entry.completer
-            (L.current lookup.now)) env.now (Completes (L.may_return lookup.now))
-            (map string_bytes args.items))
-            (wanted_name (value_of self.entry.variable.now env.now)) out.old out.new result }
-    {
-        let completed = self.complete_from(alloc, args, env, lookup, out);
-        drop(self);
-        completed
-    }
-
-    // Writes a registration or a reply, as `try_complete_from` does.
-    fn complete_from<L: Lookup, W: Sink>(
-        &self,
-        alloc: Global,
-        args: Vec<String>,
-        env: &EnvValues,
-        lookup: &L,
-        out: &mut W,
-    ) -> Result<bool, Error>
-        requires { F.IsAlwaysCallable self.now.factory }
-        ensures { Tries W.taken W.failed E.spec self.now.shells.0.now (λ shell. MakesText
-            (λ made. F.post self.now.factory alloc made) (E.spec shell)
-            (names_of self.now.variable.now self.now.bin self.now.completer
-            (L.current lookup.now)) env.now (Completes (L.may_return lookup.now))
-            (map string_bytes args.items))
-            (wanted_name (value_of self.now.variable.now env.now)) out.old out.new result }
-    {
-        let Some(name) = wanted_name(env.get(self.variable)) else {
-            return Ok(false);
-        };
-        let shell = known_shell(alloc, &self.shells, name)?;
-        let text = self.make_text(alloc, shell, args, env, lookup)?;
-        put_all(out, text.as_slice())?;
-        Ok(true)
-    }
-
-    // Returns the text for a shell and the arguments of the program.
-    fn make_text<'p, L: Lookup>(
-        &'p self,
-        alloc: Global,
-        shell: &'p E,
-        args: Vec<String>,
-        env: &EnvValues,
-        lookup: &L,
-    ) -> Result<Collected, Error>
-        requires { F.IsAlwaysCallable self.now.factory }
-        ensures { MakesText (λ made. F.post self.now.factory alloc made) (E.spec shell.now)
-            (names_of self.now.variable.now self.now.bin self.now.completer (L.current lookup.now))
-            env.now (Completes (L.may_return lookup.now)) (map string_bytes args.items)
-            (made_bytes result) }
-    {
-        let command = (self.factory)(alloc)?;
-        let program = self.shell_program(shell);
-        program.text(alloc, command, args.as_slice(), env, lookup)
     }
 }
 

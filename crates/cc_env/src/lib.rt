@@ -4,23 +4,25 @@
 //!
 //! ```rattle
 //! use cc_base::{Error, Sink};
+//! use cc_candidates::{Completers, Folder};
 //! use cc_command::Command;
-//! use cc_engine::Lookup;
 //! use cc_env::CompleteEnv;
 //! use cc_replies::EnvValues;
 //! use std::alloc::Global;
 //!
-//! fn answers<F: Fn(Global) -> Result<Command, Error> + Drop, L: Lookup, W: Sink>(
+//! fn answers<F: Fn(Global) -> Result<Command, Error> + Drop, D: Folder, W: Sink>(
 //!     alloc: Global,
 //!     factory: F,
 //!     args: Vec<String>,
 //!     env: &EnvValues,
-//!     lookup: &L,
+//!     folder: &D,
+//!     completers: &Completers,
 //!     out: &mut W,
 //! ) -> Result<bool, Error>
 //!     requires { F.IsAlwaysCallable factory }
 //! {
-//!     CompleteEnv::safe(factory).try_complete_from(alloc, args, env, lookup, out)
+//!     let completion = CompleteEnv::safe(factory);
+//!     completion.try_complete(alloc, args, None, env, folder, completers, out)
 //! }
 //! ```
 #![tactic(auto)]
