@@ -1,14 +1,11 @@
 //! The answers to live requests, with the values of completers.
 
 mod asked;
-mod at_once;
 
 use crate::calls::Answer;
 use crate::engine::CompletionCandidate;
 use crate::sources::Sources;
 use asked::Asked;
-#[cfg(test)]
-pub(crate) use at_once::likely_and_asked;
 use clap::Command;
 use std::env;
 use std::ffi::OsString;
@@ -109,11 +106,6 @@ pub(crate) fn safe_answer(shell: &str, request: Request<'_>) -> io::Result<(u8, 
         Commands::Off if !sources.has_completers() => "",
         Commands::Off | Commands::Possible => ASK,
     };
-    if first == ASK {
-        if let Some((text, _)) = asked.over_likely_completer(sources, help)? {
-            return Ok((0, text));
-        }
-    }
     let words = match asked.call(Some(first))? {
         Answer::Text(text) => return Ok((0, text)),
         Answer::Run(words) => words,

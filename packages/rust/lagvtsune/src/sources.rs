@@ -28,11 +28,10 @@ struct Source {
     completer: Option<Completer>,
 }
 
-/// A completer that a request calls, the id of its argument, and its number among all sources.
+/// A completer that a request calls, and the id of its argument.
 pub(crate) struct Called<'s> {
     pub(crate) completer: &'s Completer,
     pub(crate) id: &'s str,
-    pub(crate) number: usize,
 }
 
 impl Sources {
@@ -87,12 +86,11 @@ impl Sources {
     }
 
     pub(crate) fn values_from(&self) -> Vec<ValuesFrom<'_>> {
-        let sources = self.values.iter().enumerate().map(|(number, source)| ValuesFrom {
+        let sources = self.values.iter().map(|source| ValuesFrom {
             path: &source.path,
             id: &source.id,
             words: &source.words,
             is_checked: source.completer.is_none(),
-            number,
         });
         sources.collect()
     }
@@ -112,25 +110,11 @@ impl Sources {
     /// Returns the completer that the words of a command mean, which the library returned. Returns
     /// `None` for the words of another command.
     pub(crate) fn called(&self, words: &[u8]) -> Option<Called<'_>> {
-        self.values.iter().enumerate().find_map(|(number, source)| {
+        self.values.iter().find_map(|source| {
             let own: String = source.words.iter().flat_map(|word| [word, "\x0b"]).collect();
             let completer = source.completer.as_ref().filter(|_| own.as_bytes() == words)?;
-            Some(Called { completer, id: &source.id, number })
+            Some(Called { completer, id: &source.id })
         })
-    }
-
-    /// Returns the completer of the argument with this id that the command at the end of `path` has
-    /// itself or inherits. Returns `None` if several arguments or none may be meant.
-    pub(crate) fn completer_at(&self, path: &[String], id: &str) -> Option<Called<'_>> {
-        let mut found = self
-            .values
-            .iter()
-            .enumerate()
-            .filter(|(_, source)| source.id == id && path.starts_with(&source.path));
-        let (Some((number, source)), None) = (found.next(), found.next()) else {
-            return None;
-        };
-        Some(Called { completer: source.completer.as_ref()?, id: &source.id, number })
     }
 
     /// Returns the external subcommands of the command at the end of `path`, if `word` may be one:

@@ -1,13 +1,11 @@
 //! Tests the library's functions with arbitrary bytes, and with allocations that are refused.
 
-use crate::answering::{cut_after_line, likely_and_asked, Request as Completion};
+use crate::answering::cut_after_line;
 use crate::calls::{self, slices};
-use crate::engine::{ArgValueCandidates, Completer, CompletionCandidate};
 use crate::folder::likely_folder;
 use crate::memory::in_chunks;
 use crate::native::{self, as_room, Names, Request, Returned};
 use crate::refusing::refused;
-use crate::sources::Sources;
 use crate::tree_file::{live_file, script_file, tree_file, Line, ValuesFrom};
 use crate::Shell;
 use clap::{value_parser, Arg, ArgAction, ArgGroup, Command, ValueEnum, ValueHint};
@@ -62,7 +60,7 @@ fn a_tree_file_has_what_only_a_built_command_says() {
 /// Returns the part of the tree file of a command that a line needs.
 fn live(command: &Command, sources: &[ValuesFrom<'_>], words: &[&str]) -> String {
     let line = Line { words, path: &[], external: &[], has_keys: false };
-    live_file(&mut command.clone(), sources, &line).0
+    live_file(&mut command.clone(), sources, &line)
 }
 
 #[test]
@@ -72,8 +70,7 @@ fn a_live_file_has_the_words_of_commands() {
     let command = Command::new("app").arg(level).subcommands([add, Command::new("list")]);
     let texts = |texts: &[&str]| texts.iter().map(|text| String::from(*text)).collect();
     let (path, words): (Vec<_>, Vec<_>) = (texts(&["add"]), texts(&["print \"it\"", ""]));
-    let source =
-        ValuesFrom { path: &path, id: "level", words: &words, is_checked: true, number: 0 };
+    let source = ValuesFrom { path: &path, id: "level", words: &words, is_checked: true };
     // Each request has the argument, whatever its words are, because the library checks the command.
     for line in [&[][..], &["list"], &["add"], &["x"]] {
         let text = live(&command, &[source], line);
@@ -575,65 +572,6 @@ fn a_live_file_answers_as_the_whole_one() {
         }
     }
     assert!(texts > 5_000 && smaller > 1_000, "{texts} {smaller}");
-}
-
-/// Returns completers for some of the arguments of a command, each with values of its own.
-fn random_sources(numbers: &mut Numbers, command: &Command) -> Sources {
-    let mut sources = Sources::default();
-    add_sources(numbers, command, &mut Vec::new(), &mut sources);
-    sources
-}
-
-fn add_sources(
-    numbers: &mut Numbers,
-    command: &Command,
-    path: &mut Vec<String>,
-    sources: &mut Sources,
-) {
-    for arg in command.get_arguments().filter(|_| numbers.below(2) == 0) {
-        let id = arg.get_id().to_string();
-        let own = format!("{id} {}", path.join(" "));
-        let values = move || ["a", "l", "x", &own].map(CompletionCandidate::new).to_vec();
-        let candidates = Completer::Candidates(ArgValueCandidates::new(values));
-        sources.add_completer(path.clone(), &id, candidates);
-    }
-    for child in command.get_subcommands() {
-        path.push(child.get_name().to_owned());
-        add_sources(numbers, child, path, sources);
-        path.pop();
-    }
-}
-
-#[test]
-fn a_completer_is_called_before_or_after_the_library_asks() {
-    let current_dir = std::env::current_dir().unwrap();
-    let mut numbers = Numbers(11);
-    let (mut early, mut over) = (0, 0);
-    for _ in 0..400 {
-        let command = random_command(&mut numbers, "app", 2);
-        let sources = random_sources(&mut numbers, &command);
-        for _ in 0..10 {
-            let count = numbers.below(5);
-            let typed = (0..=count).map(|_| TYPED[numbers.below(TYPED.len())]);
-            let line: Vec<_> = ["app"].into_iter().chain(typed).map(Into::into).collect();
-            let mut commands = [command.clone(), command.clone()];
-            let requests = commands.each_mut().map(|command| Completion {
-                command,
-                sources: &sources,
-                line: line.clone(),
-                current_dir: Some(&current_dir),
-                may_run: false,
-            });
-            let shell = LIVE_SHELLS[numbers.below(LIVE_SHELLS.len())];
-            let (likely, asked) = likely_and_asked(shell, requests);
-            early += usize::from(likely.is_some());
-            over += usize::from(asked.is_over_completer);
-            if let Some(text) = likely {
-                assert_eq!(text, asked.text, "{line:?} {command:?}");
-            }
-        }
-    }
-    assert!(early > 500 && over > 500, "{early} {over}");
 }
 
 #[test]

@@ -2,10 +2,8 @@
 
 use clap::builder::{PossibleValue, Str, ValueRange};
 use clap::{Arg, ArgAction, Command, Id, ValueHint};
-use std::cell::RefCell;
 use std::fmt::{self, Debug, Display, Write};
 use std::mem;
-use std::ops::Range;
 
 const NO_ORDER: usize = 999;
 
@@ -48,13 +46,7 @@ pub struct ValuesFrom<'v> {
     pub words: &'v [String],
     /// True if each live request needs the argument, because the library checks its words.
     pub is_checked: bool,
-    /// The number of the command among all.
-    pub number: usize,
 }
-
-/// The part of a tree file that names the command for the values of an argument, and the kind of the
-/// values: the number of the command, and the place of the part.
-pub type Sourced = (usize, Range<usize>);
 
 impl<'v> ValuesFrom<'v> {
     /// Returns the same, as seen from the subcommand with this name. Returns `None` if the argument
@@ -68,24 +60,20 @@ impl<'v> ValuesFrom<'v> {
 /// Returns the tree file of a command, whether it is built or not.
 #[allow(dead_code)] // the package itself needs parts of it
 pub fn tree_file(command: &Command) -> String {
-    written(&mut command.clone(), &[], None, Parts::Whole).0
+    written(&mut command.clone(), &[], None, Parts::Whole)
 }
 
 /// Returns the part of a tree file that a script needs.
 #[allow(dead_code)] // a program that only writes tree files includes this file
 pub fn script_file(command: &Command, parts: Parts) -> String {
-    written(&mut command.clone(), &[], None, parts).0
+    written(&mut command.clone(), &[], None, parts)
 }
 
-/// Returns the part of a tree file that a live request needs, with the places of the `sources` in it,
-/// and builds the commands on the way of the request. `sources` are commands that print values. Their
-/// words count instead of possible values.
+/// Returns the part of a tree file that a live request needs, and builds the commands on the way of
+/// the request. `sources` are commands that print values. Their words count instead of possible
+/// values.
 #[allow(dead_code)] // a program that only writes tree files includes this file
-pub fn live_file(
-    command: &mut Command,
-    sources: &[ValuesFrom<'_>],
-    line: &Line<'_>,
-) -> (String, Vec<Sourced>) {
+pub fn live_file(command: &mut Command, sources: &[ValuesFrom<'_>], line: &Line<'_>) -> String {
     written(command, sources, Some(line), Parts::Offered)
 }
 
@@ -94,15 +82,14 @@ fn written(
     sources: &[ValuesFrom<'_>],
     line: Option<&Line<'_>>,
     parts: Parts,
-) -> (String, Vec<Sourced>) {
+) -> String {
     let arg_count = command.get_arguments().count();
     let path = line.map(|line| line.path);
-    let sourced = RefCell::default();
-    let place = Place { arg_count, globals: &[], sources, sourced: &sourced, line, path, parts };
+    let place = Place { arg_count, globals: &[], sources, line, path, parts };
     let mut out = String::with_capacity(LEAST_ROOM);
     command_object(&mut out, command, &place);
     out.push('\n');
-    (out, sourced.into_inner())
+    out
 }
 
 /// The parts of a tree that are written. Each has the names, and how many values arguments take.
@@ -176,8 +163,6 @@ struct Place<'p> {
     globals: &'p [Id],
     /// The commands that print values, as seen from here.
     sources: &'p [ValuesFrom<'p>],
-    /// The places of such commands in the text that is written.
-    sourced: &'p RefCell<Vec<Sourced>>,
     /// The command line of a live request, which needs only part of the tree.
     line: Option<&'p Line<'p>>,
     /// The path of that line from here, if the words lead to here or further.
@@ -355,10 +340,10 @@ fn globals_of(command: &Command, above: &[Id]) -> Vec<Id> {
     above.iter().cloned().chain(own.map(|arg| arg.get_id().clone())).collect()
 }
 
-/// Returns the command that prints the values of an argument.
-fn source_for<'s>(arg: &Arg, sources: &'s [ValuesFrom<'_>]) -> Option<&'s ValuesFrom<'s>> {
+/// Returns the words of the command that prints the values of an argument; none without a command.
+fn words_for<'v>(arg: &Arg, sources: &[ValuesFrom<'v>]) -> &'v [String] {
     let found = sources.iter().find(|it| it.path.is_empty() && arg.get_id() == it.id);
-    found.filter(|it| !it.words.is_empty())
+    found.map_or(&[], |it| it.words)
 }
 
 fn command_aliases(object: &mut Object<'_>, command: &Command) {
@@ -484,20 +469,16 @@ fn arg_object(out: &mut String, arg: &Arg, position: usize, command: &Command, p
 
 /// Writes the values of an argument, or the words of the command that prints them.
 fn arg_values(object: &mut Object<'_>, arg: &Arg, place: &Place<'_>) {
-    let source = source_for(arg, place.sources);
-    let start = object.out.len();
-    match source {
-        Some(source) => object.list("values_from", source.words, |out, it| quote(out, it)),
-        None => object.list("possible_values", &arg.get_possible_values(), |out, value| {
+    let words = words_for(arg, place.sources);
+    if words.is_empty() {
+        object.list("possible_values", &arg.get_possible_values(), |out, value| {
             value_object(out, value, place.has_keys().then(|| value_key(arg, value)));
-        }),
+        });
     }
+    object.list("values_from", words, |out, it| quote(out, it));
     let hint = arg.get_value_hint();
     if hint != ValueHint::Unknown {
         object.word("value_hint", hint);
-    }
-    if let Some(source) = source {
-        place.sourced.borrow_mut().push((source.number, start..object.out.len()));
     }
 }
 

@@ -74,14 +74,6 @@ impl<'c> Walked<'c> {
         attached.or_else(|| positional_at(self.command, self.position))
     }
 
-    /// Returns the argument of which `word` is a value, or ends with one, if no other reading of the
-    /// word is likely.
-    pub(crate) fn likely_asked_by(&self, word: &str) -> Option<&'c Arg> {
-        let arg = self.asked_by(word)?;
-        let is_value = !word.starts_with('-') || attached_value(arg, word).is_some();
-        is_value.then_some(arg)
-    }
-
     /// Reads one more word. A word that names a subcommand leads to it, whatever precedes it.
     fn advance(self, word: &str) -> Walked<'c> {
         if let Some(child) = self.command.find_subcommand(word) {

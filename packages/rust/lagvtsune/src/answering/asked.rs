@@ -5,7 +5,7 @@ use crate::calls::{self, Answer, LiveRequest};
 use crate::engine::{lines, ordered, CompletionCandidate};
 use crate::folder::{likely_folder, Listing};
 use crate::sources::{as_external, Called, Sources};
-use crate::tree_file::{live_file, Line, Sourced};
+use crate::tree_file::{live_file, Line};
 use crate::walk::Walked;
 use clap::Command;
 use std::env;
@@ -16,7 +16,7 @@ use std::path::Path;
 
 /// The user's home directory, and the variable in which the library expects the current directory.
 const HOME: &str = "HOME";
-pub(super) const CURRENT_DIR: &str = "PWD";
+const CURRENT_DIR: &str = "PWD";
 
 /// A text over the values of a completer, and these values.
 pub(super) type OverCompleter = Option<(Vec<u8>, Vec<CompletionCandidate>)>;
@@ -25,17 +25,11 @@ pub(super) type OverCompleter = Option<(Vec<u8>, Vec<CompletionCandidate>)>;
 pub(super) struct Asked<'r> {
     pub(super) request: LiveRequest,
     /// The command, of which the nodes on the way of the words are built.
-    pub(super) command: &'r Command,
+    command: &'r Command,
     /// The words before the one to complete, without the program's name.
-    pub(super) before: Vec<String>,
+    before: Vec<String>,
     /// The word to complete.
-    pub(super) word: String,
-    /// The names of the subcommands to which the words lead.
-    pub(super) path: Vec<String>,
-    /// The places in the tree of the sources of values.
-    pub(super) sourced: Vec<Sourced>,
-    /// The values of a completer that was called already, and its number among all sources.
-    pub(super) known: Option<(usize, Vec<CompletionCandidate>)>,
+    word: String,
     external: Vec<CompletionCandidate>,
 }
 
@@ -48,8 +42,7 @@ impl<'r> Asked<'r> {
         let word = texts.get(index).cloned().unwrap_or_default();
         let named = usize::from(!command.is_no_binary_name_set());
         let before = texts.get(named..index).unwrap_or_default().to_vec();
-        let LiveTree { tree, path, sourced, external } =
-            live_tree(command, sources, (&before, &word), has_keys);
+        let (tree, external) = live_tree(command, sources, (&before, &word), has_keys);
         let home = env::var(HOME).ok().filter(|path| !path.is_empty());
         let current_dir = current_dir.and_then(Path::to_str);
         let likely = likely_folder(&word, home.as_deref(), current_dir);
@@ -65,9 +58,6 @@ impl<'r> Asked<'r> {
             command,
             before,
             word,
-            path,
-            sourced,
-            known: None,
             external,
         };
         let folders = [(HOME, home.as_deref()), (CURRENT_DIR, current_dir)];
@@ -93,10 +83,6 @@ impl<'r> Asked<'r> {
         if !sources.has_completers() {
             return Ok(None);
         }
-        let likely = self.over_likely_completer(sources, key)?;
-        if likely.is_some() {
-            return Ok(likely);
-        }
         match self.call(Some(ASK))? {
             Answer::Run(words) => self.over_completer(sources, &words, key),
             _ => Ok(None),
@@ -114,16 +100,13 @@ impl<'r> Asked<'r> {
         let Some(called) = sources.called(words) else {
             return Ok(None);
         };
-        let candidates = match self.known.take() {
-            Some((number, candidates)) if number == called.number => candidates,
-            _ => self.candidates(&called),
-        };
+        let candidates = self.candidates(&called);
         let text = self.text_over(&candidates, lines(&candidates, shown))?;
         Ok(Some((text, candidates)))
     }
 
     /// Calls a completer.
-    pub(super) fn candidates(&self, called: &Called<'_>) -> Vec<CompletionCandidate> {
+    fn candidates(&self, called: &Called<'_>) -> Vec<CompletionCandidate> {
         let walked = Walked::of(self.command, self.before.iter().map(String::as_str));
         let arg = walked.argument(called.id);
         let (value, index) = arg.map_or((&*self.word, 0), |arg| walked.value(arg, &self.word));
@@ -140,7 +123,7 @@ impl<'r> Asked<'r> {
         candidates: &[CompletionCandidate],
         lines: Vec<u8>,
     ) -> io::Result<Vec<u8>> {
-        if are_all_hidden(candidates) {
+        if !candidates.is_empty() && candidates.iter().all(CompletionCandidate::is_hide_set) {
             let others = self.text(STDIN)?;
             if !others.is_empty() {
                 return Ok(others);
@@ -160,21 +143,11 @@ impl<'r> Asked<'r> {
     /// Calls the library, in this mode of a safe registration. If it needs the names in a directory,
     /// reads them.
     pub(super) fn call(&mut self, mode: Option<&str>) -> io::Result<Answer> {
-        match mode {
-            Some(mode) => self.call_in(mode, Asked::call_twice),
-            None => self.call_twice(),
-        }
-    }
-
-    /// Makes a call in this mode of a safe registration.
-    pub(super) fn call_in(
-        &mut self,
-        mode: &str,
-        call: impl FnOnce(&mut Self) -> io::Result<Answer>,
-    ) -> io::Result<Answer> {
         let length = self.request.variables.len();
-        self.set(VALUES, mode.as_bytes());
-        let answer = call(self);
+        if let Some(mode) = mode {
+            self.set(VALUES, mode.as_bytes());
+        }
+        let answer = self.call_twice();
         self.request.variables.truncate(length);
         answer
     }
@@ -205,28 +178,13 @@ impl<'r> Asked<'r> {
     }
 }
 
-/// Returns whether there are candidates, and all of them are hidden.
-pub(super) fn are_all_hidden(candidates: &[CompletionCandidate]) -> bool {
-    !candidates.is_empty() && candidates.iter().all(CompletionCandidate::is_hide_set)
-}
-
-/// The part of a tree that a line needs, and what it was made for.
-struct LiveTree {
-    tree: String,
-    /// The names of the subcommands to which the words lead.
-    path: Vec<String>,
-    /// The places in the tree of the sources of values.
-    sourced: Vec<Sourced>,
-    /// The candidates for external subcommands.
-    external: Vec<CompletionCandidate>,
-}
-
+/// Returns the part of the tree that a line needs, and the candidates for external subcommands.
 fn live_tree(
     command: &mut Command,
     sources: &Sources,
     (before, word): (&[String], &str),
     has_keys: bool,
-) -> LiveTree {
+) -> (String, Vec<CompletionCandidate>) {
     let words: Vec<&str> = before.iter().map(String::as_str).collect();
     let reached = words.iter().fold((&*command, Vec::new()), |(node, path), word| {
         let Some(child) = node.find_subcommand(word) else {
@@ -235,8 +193,8 @@ fn live_tree(
         (child, path.into_iter().chain([child.get_name()]).collect())
     });
     let (node, path) = reached;
-    let owned: Vec<String> = path.into_iter().map(str::to_owned).collect();
-    let path: Vec<&str> = owned.iter().map(String::as_str).collect();
+    let path: Vec<String> = path.into_iter().map(str::to_owned).collect();
+    let path: Vec<&str> = path.iter().map(String::as_str).collect();
     let external = match node.is_allow_external_subcommands_set() {
         true => sources.external_at(node, &path, (&words, word)),
         false => Vec::new(),
@@ -247,8 +205,7 @@ fn live_tree(
     });
     let shown: Vec<_> = shown.collect();
     let line = Line { words: &words, path: &path, external: &shown, has_keys };
-    let (tree, sourced) = live_file(command, &sources.values_from(), &line);
-    LiveTree { tree, path: owned, sourced, external }
+    (live_file(command, &sources.values_from(), &line), external)
 }
 
 /// Returns the value and the key of an item as zsh reads it: without the backslashes before `\` and
