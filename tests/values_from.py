@@ -9,7 +9,8 @@ Their programs write the words that they receive into a file. No shell may evalu
 The parts:
 
 - protocol: requests without a shell. The words of a command and status 3, the reply over given lines, older
-  registrations, `COMPLGEN_COMMANDS`, a relative `COMPLGEN_PATH`, and keys of bad form;
+  registrations, `COMPLGEN_COMMANDS`, a relative `COMPLGEN_PATH`, keys of bad form, and what is a user, a host and a
+  program in files of the system (those in /etc need `unshare` and the right to mount);
 - random: requests without a shell, over random lines. The replies to fish are compared with those of a model of
   the rules. Replies to the other shells have no control characters. --runs makes more than 1,000, and --seed
   others;
@@ -35,6 +36,7 @@ import json
 import os
 import random
 import re
+import shlex
 import shutil
 import signal
 import statistics
@@ -100,12 +102,13 @@ class Protocol:
     def __init__(self, scratch):
         self.scratch, self.good, self.bad = scratch, 0, 0
 
-    def answer(self, words, given=b"", **variables):
-        """Returns the status and the output of a request."""
+    def answer(self, words, given=b"", within=lambda call: call, **variables):
+        """Returns the status and the output of a request. Within changes the words of the call."""
         environment = {**self.scratch.environment, "COMPLETE": "fish", **variables}
+        call = within([os.path.join(self.scratch.bin, "complgen"), "--", *words])
         ran = subprocess.run(
-            ["complgen", "--", *words], input=given, env=environment, cwd=self.scratch.path, timeout=LONGEST,
-            executable=os.path.join(self.scratch.bin, "complgen"), stdout=subprocess.PIPE, stderr=subprocess.PIPE)
+            call, executable=shutil.which(call[0]), input=given, env=environment, cwd=self.scratch.path,
+            timeout=LONGEST, stdout=subprocess.PIPE, stderr=subprocess.PIPE)
         return ran.returncode, ran.stdout, ran.stderr
 
     def expect(self, what, expected, got):
@@ -164,6 +167,7 @@ def try_protocol(scratch):
     scratch.program(tree("plain", positional(possible_values=[{"name": "value"}]), color))
     try_modes(protocol)
     try_lines(scratch, protocol)
+    try_system(scratch, protocol)
     for at, keys in enumerate(BAD_FORMS):
         scratch.program(tree("bad", positional(**keys)))
         status, out, message = protocol.answer(["bad", ""], _COMPLGEN_VALUES="ask")
@@ -215,6 +219,107 @@ def try_lines(scratch, protocol):
         scratch.program(tree("lines", positional(**keys)))
         status, out, _ = protocol.answer(["lines", ""], given, _COMPLGEN_VALUES="stdin")
         protocol.expect(f"lines {given!r} split at {split!r}", (0, reply.encode()), (status, out))
+
+
+# ---- the files of the system
+
+# Contents of `/etc/passwd`, and the lines that fish gets: a name, and the full name without what follows a comma.
+# NIS, comments, and lines without a colon or a name have no user.
+USERS = (
+    ("root:x:0:0:The root,,:/root:/bin/sh\n", "root\tThe root\n"),
+    ("a:x:1:1::/:/bin/sh\nb:x", "a\nb\n"),
+    ("+:::::\n+d:x:1:1:D:/:\n-e:x:1:1:E:/:\n# f:x\ng\nh+i-#:x\n", "h+i-#\n"),
+    (":x:0:0:None:/:\n\nc:x:2:2:C D:/:\n", "c\tC D\n"),
+    ("", ""),
+)
+
+# Contents of `/etc/hosts`, and the names in it: the words after the address, without a comment.
+TABLES = (
+    ("127.0.0.1 localhost\n::1\tip6-localhost  ip6-loopback\n", "localhost\nip6-localhost\nip6-loopback\n"),
+    ("# a comment\n1.2.3.4 # b\n  10.0.0.1 db # the database\n", "db\n"),
+    ("", ""),
+)
+
+# Contents of `~/.ssh/known_hosts`, and the names in it: no hashed name, no pattern, and no line with a marker.
+KNOWN = (
+    ("a.example,10.0.0.1 ssh-ed25519 AAAA\n[b.example]:2222 ssh-rsa AAAA\n", "a.example\n10.0.0.1\nb.example\n"),
+    ("|1|abc=|def= ssh-rsa AAAA\n@revoked c.example ssh-rsa AAAA\n# d\n\ne ssh-rsa AAAA\n", "e\n"),
+    ("*.f,g,h? ssh-rsa AAAA\n!i,j ssh-rsa AAAA\n[*.k]:22,[l]:* ssh-rsa AAAA\n@cert-authority *.m ssh-rsa AAAA\n",
+     "g\nj\nl\n"),
+)
+
+# Contents of `~/.ssh/config`, and the names in it: the words after `Host`, in any case, but for patterns.
+CONFIGS = (
+    ("Host a b.example\n  HostName 10.0.0.1\nhost=c\n\tHOST = d\n", "a\nb.example\nc\nd\n"),
+    ("Host * !e f?\n# Host g\nMatch host h\nHost *.i j\n", "j\n"),
+)
+
+# Names of executable files, and whether they are offered: none with a control character.
+PROGRAMS = (("run-a", True), ("[", True), (".run-b", True), ("run c", True), ("two\nlines", False),
+            ("with\ttab", False), ("with\rreturn", False), ("with\x7fdelete", False))
+
+
+def try_system(scratch, protocol):
+    """Tries what is a user, a host and a program, over files."""
+    home = os.path.join(scratch.path, "home-of-hosts")
+    os.makedirs(os.path.join(home, ".ssh"))
+    scratch.program(group("system", {
+        "user": {"value_hint": "Username"}, "host": {"value_hint": "Hostname"},
+        "program": {"value_hint": "CommandName"},
+    }))
+    empty = written(os.path.join(home, "empty"))
+    if is_mountable(empty, "/etc/hosts"):
+        try_files_of_etc(protocol, home)
+    else:
+        print("  protocol: the rows of /etc/passwd and /etc/hosts are skipped, since nothing can be mounted over them")
+    try_programs(scratch, protocol)
+
+
+def written(path, text=""):
+    """Writes a file, and returns its path."""
+    write(path, text)
+    return path
+
+
+def is_mountable(source, place):
+    """Returns whether a process of its own can see a file in the place of another."""
+    return shutil.which("unshare") and subprocess.run(
+        covered({place: source}, ["true"]), stdout=subprocess.DEVNULL, stderr=subprocess.DEVNULL).returncode == 0
+
+
+def covered(files, words):
+    """Returns the words of a call that sees these files in the places of others."""
+    mounts = [f"mount --bind {shlex.quote(source)} {shlex.quote(place)}" for place, source in files.items()]
+    return ["unshare", "--mount", "sh", "-c", " && ".join([*mounts, 'exec "$@"']), "sh", *words]
+
+
+def try_files_of_etc(protocol, home):
+    passwd, table = (written(os.path.join(home, name)) for name in ("passwd", "hosts"))
+    known, config = (written(os.path.join(home, ".ssh", name)) for name in ("known_hosts", "config"))
+    for child, place, rows in (("user", passwd, USERS), ("host", table, TABLES), ("host", known, KNOWN),
+                               ("host", config, CONFIGS)):
+        for text, names in rows:
+            write(place, text)
+            status, out, _ = protocol.answer(
+                ["system", child, ""], _COMPLGEN_VALUES="ask", HOME=home,
+                within=lambda call: covered({"/etc/passwd": passwd, "/etc/hosts": table}, call))
+            protocol.expect(f"{os.path.basename(place)} with {text!r}", (0, names.encode()), (status, out))
+        write(place, "")
+
+
+def try_programs(scratch, protocol):
+    """Tries which names are programs, and that relative directories in PATH have none."""
+    folder, here = os.path.join(scratch.path, "programs"), os.path.join(scratch.path, "relative")
+    for at in (folder, here):
+        os.mkdir(at)
+    for name, _ in PROGRAMS:
+        os.chmod(written(os.path.join(folder, name), "#!/bin/sh\n"), 0o755)
+    write(os.path.join(folder, "no-program"), "")
+    os.chmod(written(os.path.join(here, "run-here"), "#!/bin/sh\n"), 0o755)
+    path = f":relative::{folder}:./relative:."
+    status, out, _ = protocol.answer(["system", "program", ""], _COMPLGEN_VALUES="ask", PATH=path)
+    offered = sorted(name.encode() for name, is_offered in PROGRAMS if is_offered)
+    protocol.expect("programs", (0, offered), (status, sorted(out.splitlines())))
 
 
 # ---- random lines

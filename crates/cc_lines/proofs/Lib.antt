@@ -1,5 +1,2 @@
-mod Examples
 mod FirstLines
-pub mod Parts
-pub mod ReadBack
 mod ValueFilesExamples

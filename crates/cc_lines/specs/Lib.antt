@@ -1,9 +1,2 @@
-pub mod Commands
-pub mod Hosts
-pub mod Marks
-pub mod Names
-pub mod Patterns
-pub mod SshConfig
 pub mod SystemLines
-pub mod Users
 pub mod ValueFiles

@@ -2,14 +2,10 @@
 //! which the shell passes on, the contents of a file, or the names of users, hosts and commands.
 #![tactic(auto)]
 
-mod commands;
-mod config;
 mod hosts;
-mod known;
 mod mark;
 mod names;
 mod passwd;
-mod patterns;
 mod system_lines;
 mod value_files;
 

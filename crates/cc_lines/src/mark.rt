@@ -1,9 +1,6 @@
 //! Parts of a text between marks.
 
-ghost use Rattle.std.specs.Prelude.{◌≡◌, ◌≤◌, length};
-ghost use Rattle.std.specs.List.{after_first, before_first, position_or_len};
-ghost use Rattle.cc_base.specs.Bytes.{is_blank};
-ghost use Rattle.cc_lines.specs.Marks.{from_first, is_mark};
+ghost use Rattle.std.specs.Prelude.{◌≤◌, length};
 
 /// The bytes at which a text is taken apart.
 #[derive(Clone, Copy, Drop)]
@@ -27,15 +24,14 @@ pub(crate) enum Mark {
 }
 
 impl Mark {
-    #[tactic(auto, unfolding(crate::specs::Marks::is_mark))]
-    fn is(self, byte: u8) -> bool
-        ensures { result ≡ is_mark self byte }
-    {
+    /// Returns whether the byte is such a mark.
+    pub(crate) fn is(self, byte: u8) -> bool {
+        let blank = matches!(byte, b' ' | b'\t' | b'\n');
         match self {
             Mark::Feed => byte == b'\n',
-            Mark::Blank => is_blank(byte),
-            Mark::Visible => !is_blank(byte),
-            Mark::Setting => is_blank(byte) || byte == b'=',
+            Mark::Blank => blank,
+            Mark::Visible => !blank,
+            Mark::Setting => blank || byte == b'=',
             Mark::Colon => byte == b':',
             Mark::Comma => byte == b',',
             Mark::Hash => byte == b'#',
@@ -44,41 +40,27 @@ impl Mark {
     }
 }
 
-fn is_blank(byte: u8) -> bool
-    ensures { result ≡ is_blank byte }
-{
-    matches!(byte, b' ' | b'\t' | b'\n')
-}
-
 /// Returns the text before the first mark, or the whole text if it has no mark.
-pub(crate) fn before(mark: Mark, text: &[u8]) -> &[u8]
-    ensures { result.now ≡ before_first (is_mark mark) text.now }
-{
+pub(crate) fn before(mark: Mark, text: &[u8]) -> &[u8] {
     &text[..first(mark, text)]
 }
 
 /// Returns the text from the first mark on, or an empty text if it has no mark.
-pub(crate) fn from(mark: Mark, text: &[u8]) -> &[u8]
-    ensures { result.now ≡ from_first (is_mark mark) text.now }
-{
+pub(crate) fn from(mark: Mark, text: &[u8]) -> &[u8] {
     &text[first(mark, text)..]
 }
 
 /// Returns the text after the first mark, or an empty text if it has no mark.
-pub(crate) fn after(mark: Mark, text: &[u8]) -> &[u8]
-    ensures { result.now ≡ after_first (is_mark mark) text.now }
-{
-    let at = first(mark, text);
-    if at == text.len() {
-        return &text[at..];
+pub(crate) fn after(mark: Mark, text: &[u8]) -> &[u8] {
+    match from(mark, text) {
+        [_, rest @ ..] => rest,
+        [] => b"",
     }
-    &text[at + 1..]
 }
 
 // Returns the index of the first mark, or the length of the text if it has no mark.
 fn first(mark: Mark, text: &[u8]) -> usize
-    ensures within { result ≤ length text.now }
-    ensures index { result ≡ position_or_len (is_mark mark) text.now }
+    ensures { result ≤ length text.now }
 {
     for at in 0..text.len() {
         if mark.is(text[at]) {

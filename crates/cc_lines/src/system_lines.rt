@@ -4,10 +4,8 @@
 ghost use Rattle.std.specs.Prelude.{◌≡◌, IfOk, [], false};
 ghost use Rattle.cc_arg.specs.ValueSources.{is_listed};
 
-use crate::commands::{command_names, path_folders};
-use crate::config::hosts_of_config;
-use crate::hosts::hosts_of_table;
-use crate::known::hosts_known;
+use crate::hosts::{push_config, push_known, push_table};
+use crate::names::push_program;
 use crate::passwd::users;
 use crate::value_files::{first_lines, values_path};
 use cc_arg::{Arg, ValueHint};
@@ -79,35 +77,46 @@ impl<R: Files + Input, D: Folder> SystemLines<'_, R, D> {
         }
     }
 
-    // Returns the names of the hosts in the files of the system and of the user.
+    // Returns the names of the hosts in the table of the system, those that ssh knows, and those in
+    // its configuration.
     fn hosts(&self, alloc: Global) -> Result<Vec<u8>, AllocError> {
-        let table = self.contents(alloc, "/etc/hosts")?;
-        let known = self.lines_of_file(alloc, "~/.ssh/known_hosts")?;
-        let config = self.lines_of_file(alloc, "~/.ssh/config")?;
-        hosts_of_files(alloc, table.as_slice(), known.as_slice(), config.as_slice())
+        let mut lines = Vec::new(alloc);
+        push_table(&mut lines, self.contents(alloc, "/etc/hosts")?.as_slice())?;
+        push_known(&mut lines, self.lines_of_file(alloc, "~/.ssh/known_hosts")?.as_slice())?;
+        push_config(&mut lines, self.lines_of_file(alloc, "~/.ssh/config")?.as_slice())?;
+        Ok(lines)
     }
 
     // Returns the names of the executable files in the directories of `PATH`, in their order.
+    //
+    // Shells take an empty part for the current directory. It is left out, and so are relative
+    // paths: the current directory may belong to someone else, and the names in it are not to be
+    // offered.
     fn commands(&self, alloc: Global) -> Result<Vec<u8>, AllocError> {
-        let mut commands = Vec::new(alloc);
-        let path = self.env.get("PATH").unwrap_or("");
-        for folder in path_folders(alloc, path)? {
-            let names = self.executables(alloc, folder)?;
-            push_lines(&mut commands, command_names(alloc, names.as_slice()))?;
-        }
-        Ok(commands)
-    }
-
-    // Returns the names of the executable files in a directory.
-    fn executables(&self, alloc: Global, folder: &str) -> Result<Vec<String>, AllocError> {
-        let mut found = Vec::new(alloc);
-        for name in self.names(alloc, folder)? {
-            let path = join(alloc, folder, name.as_str())?;
-            if self.folder.is_executable(path.as_str()) {
-                found.push(name)?;
+        let mut lines = Vec::new(alloc);
+        for folder in self.env.get("PATH").unwrap_or("").split(':') {
+            if folder.starts_with('/') {
+                self.push_programs(alloc, folder, &mut lines)?;
             }
         }
-        Ok(found)
+        Ok(lines)
+    }
+
+    // Adds the names of the executable files in a directory.
+    fn push_programs(
+        &self,
+        alloc: Global,
+        folder: &str,
+        lines: &mut Vec<u8>,
+    ) -> Result<(), AllocError> {
+        let names = self.names(alloc, folder)?;
+        for name in names.as_slice() {
+            let path = join(alloc, folder, name.as_str())?;
+            if self.folder.is_executable(path.as_str()) {
+                push_program(lines, name.as_str())?;
+            }
+        }
+        Ok(())
     }
 
     // Returns the names in a directory; none if it cannot be read.
@@ -131,25 +140,6 @@ impl<R: Files + Input, D: Folder> SystemLines<'_, R, D> {
             Err(_) => Ok(Vec::new(alloc)),
         }
     }
-}
-
-// Returns the names of the hosts in the table of the system, those that ssh knows, and those in its
-// configuration.
-fn hosts_of_files(
-    alloc: Global,
-    table: &[u8],
-    known: &[u8],
-    config: &[u8],
-) -> Result<Vec<u8>, AllocError> {
-    let mut hosts = hosts_of_table(alloc, table)?;
-    push_lines(&mut hosts, hosts_known(alloc, known))?;
-    push_lines(&mut hosts, hosts_of_config(alloc, config))?;
-    Ok(hosts)
-}
-
-// Adds more lines, if they could be made.
-fn push_lines(lines: &mut Vec<u8>, more: Result<Vec<u8>, AllocError>) -> Result<(), AllocError> {
-    lines.append(&mut more?)
 }
 
 // Returns the lines of a source, up to the limit. After an error, what was read before it counts.
