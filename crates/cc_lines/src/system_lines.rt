@@ -82,8 +82,14 @@ impl<R: Files + Input, D: Folder> SystemLines<'_, R, D> {
     fn hosts(&self, alloc: Global) -> Result<Vec<u8>, AllocError> {
         let mut lines = Vec::new(alloc);
         push_table(&mut lines, self.contents(alloc, "/etc/hosts")?.as_slice())?;
-        push_known(&mut lines, self.lines_of_file(alloc, "~/.ssh/known_hosts")?.as_slice())?;
-        push_config(&mut lines, self.lines_of_file(alloc, "~/.ssh/config")?.as_slice())?;
+        push_known(
+            &mut lines,
+            self.lines_of_file(alloc, "~/.ssh/known_hosts")?.as_slice(),
+        )?;
+        push_config(
+            &mut lines,
+            self.lines_of_file(alloc, "~/.ssh/config")?.as_slice(),
+        )?;
         Ok(lines)
     }
 
