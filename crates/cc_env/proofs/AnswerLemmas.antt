@@ -17,10 +17,10 @@ use Rattle.cc_engine.specs.Values.{MayReturn}
 use Rattle.cc_replies.specs.declared.environment.EnvValues.{EnvValues}
 use Rattle.cc_env.specs.Answers.{Answers, AnswersStep, Parts, Told, answered, not_asked, out_of_memory, over_lines, replied, runs, seen, seen_answer, words}
 use Rattle.cc_env.specs.Asking.{AsksOver, CannotAsk, command_words, next_step, values_mode}
-use Rattle.cc_env.specs.Given.{lines_list, with_lines}
+use Rattle.cc_env.specs.WithLines.{lines_list, with_lines}
 use Rattle.cc_env.specs.declared.asking.answers.Answer.{Answer}
-use Rattle.cc_env.specs.declared.asking.asked.Step.{Step}
-use Rattle.cc_env.specs.declared.asking.asked.Step.TheVariants.{Run}
+use Rattle.cc_env.specs.declared.asking.asked.AnswerStep.{AnswerStep}
+use Rattle.cc_env.specs.declared.asking.asked.AnswerStep.TheVariants.{Run}
 
 -- The text over a command that is built already is the text over the command of which it was built,
 -- since each of them is built first.
@@ -74,7 +74,7 @@ listed_built asked tree whole =
 -- the answer by a step over the built command is that over the command
 pub step_of_built : (parts : Parts) (Gives : Arg → List ℕ → Type 0) (tree : Tree)
     → built_tree (built_tree tree) ≡ built_tree tree
-    → {step : Step} {result : Result Told Error}
+    → {step : AnswerStep} {result : Result Told Error}
     → AnswersStep parts Gives (built_tree tree) step result
     → AnswersStep parts Gives tree step result
 step_of_built parts Gives tree whole (replied result makes) =
@@ -111,7 +111,7 @@ asked_failed parts Gives tree after error same fails =
 
 -- the answer by the step of a request, over the built command
 pub answered_built : (parts : Parts) (Gives : Arg → List ℕ → Type 0) (tree built : Tree)
-    (after : List (List ℕ)) (asked : Option Arg) (step : Step) (result : Result Told Error)
+    (after : List (List ℕ)) (asked : Option Arg) (step : AnswerStep) (result : Result Told Error)
     → after ≡ words_after parts.args
     → AsksOver (values_mode parts.env) (built_tree tree) after asked
     → built ≡ built_tree tree → built_tree built ≡ built

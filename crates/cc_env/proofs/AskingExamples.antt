@@ -6,7 +6,7 @@ use Rattle.cc_arg.specs.declared.value_hint.ValueHint.TheVariants.{Username}
 use Rattle.cc_arg.specs.Arguments.{new_arg}
 use Rattle.cc_env.specs.Asking.{command_of, step_of, turns_off}
 use Rattle.cc_env.specs.RunWords.{words_read, written_words}
-use Rattle.cc_env.specs.declared.asking.asked.Step.TheVariants.{ReadLines, Reply, Run}
+use Rattle.cc_env.specs.declared.asking.asked.AnswerStep.TheVariants.{ReadLines, Reply, Run}
 
 -- ---- the step
 

@@ -16,7 +16,7 @@ use Rattle.cc_engine.specs.Completion.{Completes, Refuses, is_in_range}
 use Rattle.cc_engine.specs.Values.{MayReturn}
 use Rattle.cc_replies.specs.GivenLines.{candidates_of_lines}
 use Rattle.cc_env.specs.Completion.{CompletesWith, LeavesListed, RefusesWith, tree_for}
-use Rattle.cc_env.specs.Given.{lines_list, with_lines}
+use Rattle.cc_env.specs.WithLines.{lines_list, with_lines}
 
 module _ (words passed : List (String Global)) (same : passed ≡ words) (index : ℕ) (old mid : Tree)
     (is : mid ≡ built_tree old) (whole : built_tree mid ≡ mid) where

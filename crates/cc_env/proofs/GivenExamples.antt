@@ -3,7 +3,7 @@ use Rattle.std.proofs.Common.{◌≡◌, List, [], ◌∷◌, Some, codes, refl}
 use Rattle.cc_arg.specs.Arguments.{new_arg}
 use Rattle.cc_candidates.specs.Candidate.{new_candidate}
 use Rattle.cc_candidates.specs.declared.candidate.CompletionCandidate.{CompletionCandidate}
-use Rattle.cc_env.specs.Given.{lists_with, passed_lines}
+use Rattle.cc_env.specs.WithLines.{lists_with, passed_lines}
 
 abbrev main : CompletionCandidate
 main = new_candidate (codes "main")

@@ -23,12 +23,12 @@ use Rattle.cc_candidates.specs.Folders.{FolderFacts}
 use Rattle.cc_replies.specs.GivenLines.{candidates_of_lines}
 use Rattle.cc_replies.specs.declared.environment.EnvValues.{EnvValues}
 use Rattle.cc_env.specs.Asking.{AsksOver, CannotAsk, command_words, next_step, values_mode}
-use Rattle.cc_env.specs.Given.{lines_list, with_lines}
+use Rattle.cc_env.specs.WithLines.{lines_list, with_lines}
 use Rattle.cc_env.specs.declared.asking.answers.Answer.{Answer}
 use Rattle.cc_env.specs.declared.asking.answers.Answer.TheVariants as answer_as
 use Rattle.cc_env.specs.declared.asking.answers.Call.{Call}
-use Rattle.cc_env.specs.declared.asking.asked.Step.{Step}
-use Rattle.cc_env.specs.declared.asking.asked.Step.TheVariants.{ReadLines, Reply, Run}
+use Rattle.cc_env.specs.declared.asking.asked.AnswerStep.{AnswerStep}
+use Rattle.cc_env.specs.declared.asking.asked.AnswerStep.TheVariants.{ReadLines, Reply, Run}
 
 -- ---- the request
 
@@ -92,7 +92,7 @@ MakesOver parts asked given tree result =
 
 -- The answer by a step, where `Gives` is true of the lines that an argument may be given.
 pub data AnswersStep (parts : Parts) (Gives : Arg → List ℕ → Type 0) (tree : Tree)
-    : Step → Result Told Error → Type 0 where
+    : AnswerStep → Result Told Error → Type 0 where
   -- no lines are asked for, or none can be had
   replied : (result : Result (List ℕ) Error) → MakesAlone parts tree result
       → AnswersStep parts Gives tree Reply (told result)
@@ -104,7 +104,7 @@ pub data AnswersStep (parts : Parts) (Gives : Arg → List ℕ → Type 0) (tree
       → Gives argument given → MakesOver parts argument given tree result
       → AnswersStep parts Gives tree (ReadLines argument) (told result)
   -- out of memory
-  out_of_memory : (step : Step) → AnswersStep parts Gives tree step (Err Memory)
+  out_of_memory : (step : AnswerStep) → AnswersStep parts Gives tree step (Err Memory)
 
 -- the argument whose values are asked for, over the built command
 abbrev pub AsksFor : Parts → Tree → Option Arg → Type 0

@@ -8,8 +8,8 @@ use Rattle.cc_engine.specs.Asked.{Asks}
 use Rattle.cc_engine.specs.Completion.{is_in_range}
 use Rattle.cc_replies.specs.Environment.{value_of}
 use Rattle.cc_replies.specs.declared.environment.EnvValues.{EnvValues}
-use Rattle.cc_env.specs.declared.asking.asked.Step.{Step}
-use Rattle.cc_env.specs.declared.asking.asked.Step.TheVariants.{Reply, Run, ReadLines}
+use Rattle.cc_env.specs.declared.asking.asked.AnswerStep.{AnswerStep}
+use Rattle.cc_env.specs.declared.asking.asked.AnswerStep.TheVariants.{Reply, Run, ReadLines}
 
 -- ---- the argument
 
@@ -73,27 +73,27 @@ may_run env trusted = trusted && not (turns_off (value_of (codes "COMPLGEN_COMMA
 -- ---- the step
 
 -- the step for an argument with a command that may run: the registration runs it, or has run it
-abbrev pub step_of_mode : Option (List ℕ) → Arg → Step
+abbrev pub step_of_mode : Option (List ℕ) → Arg → AnswerStep
 step_of_mode None asked = Reply
 step_of_mode (Some mode) asked =
     if bytes_eq mode (codes "ask") then Run asked
     else if bytes_eq mode (codes "stdin") then ReadLines asked else Reply
 
-abbrev pub step_of_command : Bool → Option (List ℕ) → Arg → Step
+abbrev pub step_of_command : Bool → Option (List ℕ) → Arg → AnswerStep
 step_of_command true mode asked = step_of_mode mode asked
 step_of_command false mode asked = Reply
 
 -- the step for an argument, by its command if it has one; other sources are read at once
-abbrev pub step_of_source : Option (List (List ℕ)) → Bool → Option (List ℕ) → Arg → Step
+abbrev pub step_of_source : Option (List (List ℕ)) → Bool → Option (List ℕ) → Arg → AnswerStep
 step_of_source (Some command) allowed mode asked = step_of_command allowed mode asked
 step_of_source None allowed mode asked = ReadLines asked
 
-abbrev pub step_of : Bool → Option (List ℕ) → Option Arg → Step
+abbrev pub step_of : Bool → Option (List ℕ) → Option Arg → AnswerStep
 step_of allowed mode None = Reply
 step_of allowed mode (Some asked) = step_of_source asked.values_from allowed mode asked
 
 -- the step of a request
-abbrev pub next_step : EnvValues → Bool → Option Arg → Step
+abbrev pub next_step : EnvValues → Bool → Option Arg → AnswerStep
 next_step env trusted asked = step_of (may_run env trusted) (values_mode env) asked
 
 -- the words of an argument's command

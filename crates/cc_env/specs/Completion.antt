@@ -11,7 +11,7 @@ use Rattle.cc_engine.specs.Asked.{Asks}
 use Rattle.cc_engine.specs.Completion.{Completes, Refuses}
 use Rattle.cc_engine.specs.Values.{MayReturn}
 use Rattle.cc_replies.specs.GivenLines.{candidates_of_lines}
-use Rattle.cc_env.specs.Given.{lines_list, with_lines}
+use Rattle.cc_env.specs.WithLines.{lines_list, with_lines}
 
 -- the tree in which each argument with the source of the one that is asked for has the list of the
 -- lines

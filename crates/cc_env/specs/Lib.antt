@@ -11,7 +11,7 @@ pub mod WantedWords
 pub mod Answers
 pub mod Asking
 pub mod Completion
-pub mod Given
+pub mod WithLines
 pub mod OwnAnswers
 pub mod OwnEnds
 pub mod RunWords

@@ -7,15 +7,15 @@
 mod answers;
 mod asked;
 mod completion;
-mod given;
 mod line_source;
 mod own_answers;
+mod with_lines;
 mod writing;
 
 pub use crate::asking::answers::{Answer, Call, answer_call};
 pub use crate::asking::asked::wanted_command;
 pub use crate::asking::completion::complete_with_lines;
-pub use crate::asking::given::WithLines;
 pub use crate::asking::line_source::{LineSource, PassedLines};
 pub use crate::asking::own_answers::{Called, answer_own, try_complete_asking};
+pub use crate::asking::with_lines::WithLines;
 pub use crate::asking::writing::{write_answer, write_run_words};

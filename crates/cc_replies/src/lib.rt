@@ -19,7 +19,7 @@ mod bash_words;
 mod columns;
 mod cursor;
 mod environment;
-mod lines;
+mod given_lines;
 mod powershell_words;
 mod readable;
 mod reply;
@@ -33,7 +33,7 @@ pub use crate::bash_list::write_bash_list;
 pub use crate::bash_words::write_bash_words;
 pub use crate::cursor::{Cursor, OpenQuote};
 pub use crate::environment::EnvValues;
-pub use crate::lines::GivenLines;
+pub use crate::given_lines::GivenLines;
 pub use crate::powershell_words::write_powershell_words;
 pub use crate::readable::{
     are_readable_entries, are_readable_lines, are_readable_values, are_readable_zsh_items,

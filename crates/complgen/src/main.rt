@@ -26,7 +26,7 @@ const NOT_UTF8: &str = "words: not UTF-8\n";
 const MOST_ROOM: u64 = 1 << 24;
 
 fn main(rt: HostRuntime) -> ExitCode {
-    match carry_out(&rt) {
+    match respond(&rt) {
         Ok(status) => ExitCode::from(status),
         Err(refusal) => ExitCode::from(report(&rt, &refusal)),
     }
@@ -34,7 +34,7 @@ fn main(rt: HostRuntime) -> ExitCode {
 
 // Replies to a shell, or carries out what the command line asks for. Returns the exit status. Most
 // environment variables are read only for a reply.
-fn carry_out<R: Env + Files + Input + Print + Eprint + AllocGlobal>(rt: &R) -> Result<u8, Refusal> {
+fn respond<R: Env + Files + Input + Print + Eprint + AllocGlobal>(rt: &R) -> Result<u8, Refusal> {
     let words = words(rt)?;
     let env = variables(rt, &["COMPLETE"])?;
     if is_shell_request(&env, words.as_slice()) {

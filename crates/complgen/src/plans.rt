@@ -4,7 +4,7 @@ use crate::contents;
 use crate::output::{buffered, flush};
 use cc_candidates::{Folder, RealFolder};
 use cc_replies::home;
-use complgen_plans::{Given, carry_out};
+use complgen_plans::{Inputs, carry_out};
 use complgen_scripts::{Plan, Refusal};
 use std::alloc::AllocError;
 use std::env::Env;
@@ -23,22 +23,22 @@ pub(crate) fn carry_out_plan<R: Env + Files + Print + AllocGlobal>(
     let tree = contents(rt, plan.tree())?;
     let values = values(rt, plan)?;
     let folder = RealFolder::new(rt, home_for(rt, plan)?);
-    let given = Given {
+    let inputs = Inputs {
         tree: tree.as_ref().map(Vec::as_slice),
         values: values.as_ref().map(Vec::as_slice),
         folder: &folder,
     };
-    print(rt, plan, &given)
+    print(rt, plan, &inputs)
 }
 
-// Carries out `plan` over what is given, and prints what it writes.
+// Carries out `plan` over the inputs, and prints what it writes.
 fn print<R: Files + Print + AllocGlobal, D: Folder>(
     rt: &R,
     plan: &Plan,
-    given: &Given<'_, D>,
+    inputs: &Inputs<'_, D>,
 ) -> Result<u8, Refusal> {
     let mut out = buffered(rt)?;
-    let status = carry_out(rt, rt.alloc(), plan, given, &mut out)?;
+    let status = carry_out(rt, rt.alloc(), plan, inputs, &mut out)?;
     flush(&mut out)?;
     Ok(status)
 }

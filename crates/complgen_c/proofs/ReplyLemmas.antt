@@ -3,7 +3,7 @@ use Rattle.std.proofs.Common.{◌≡◌, ◌∙◌, ap, map, subst, ℕ, List, O
 use Rattle.std.specs.Option.{option_copied}
 use Rattle.std.specs.String.{string_bytes}
 use Rattle.cc_env.specs.Answers.{Told}
-use Rattle.cc_env.specs.Given.{passed_lines}
+use Rattle.cc_env.specs.WithLines.{passed_lines}
 use Rattle.cc_base.specs.declared.error.Error.TheVariants.{Memory}
 use Rattle.cc_candidates.specs.Folders.{FolderFacts}
 use Rattle.cc_replies.specs.Environment.{value_of}

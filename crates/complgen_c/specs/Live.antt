@@ -2,7 +2,7 @@
 use Rattle.std.specs.Prelude.{◌≡◌, ◌≢◌, ℕ, true, List, Option, None, Some, Result, Ok, Err, codes}
 use Rattle.cc_env.specs.Answers.{Told}
 use Rattle.cc_env.specs.Answers as told
-use Rattle.cc_env.specs.Given.{passed_lines}
+use Rattle.cc_env.specs.WithLines.{passed_lines}
 use Rattle.cc_env.specs.RunWords.{written_words}
 use Rattle.cc_base.specs.declared.error.Error.TheVariants.{Memory}
 use Rattle.cc_engine.specs.Paths.{PathsOf}

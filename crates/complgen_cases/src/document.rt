@@ -17,7 +17,7 @@ use std::alloc::{AllocError, Global};
 pub(crate) struct Document {
     alloc: Global,
     title: String,
-    place: Place,
+    part: Part,
     /// The lines that are not read at their places.
     pub strays: Vec<String>,
     /// The files, in order.
@@ -49,9 +49,9 @@ pub(crate) struct Case {
     pub wanted: Vec<String>,
 }
 
-// The place of a line in a document.
+// The part of a document that a line belongs to.
 #[derive(Clone, Copy, PartialEq, Eq)]
-enum Place {
+enum Part {
     Prose,
     File,
     // A block of cases before its first command.
@@ -69,7 +69,7 @@ impl Document {
         let mut document = Document {
             alloc,
             title: String::new(alloc),
-            place: Place::Prose,
+            part: Part::Prose,
             strays: Vec::new(alloc),
             files: Vec::new(alloc),
             cases: Vec::new(alloc),
@@ -91,24 +91,24 @@ impl Document {
     }
 
     fn push(&mut self, line: &str) -> Result<(), AllocError> {
-        match self.place {
-            Place::Prose => self.push_prose(line),
+        match self.part {
+            Part::Prose => self.push_prose(line),
             _ if line == "```" => {
-                self.place = Place::Prose;
+                self.part = Part::Prose;
                 Ok(())
             }
-            Place::File => self.push_to_file(line),
-            Place::Console | Place::Case => self.push_to_console(line),
+            Part::File => self.push_to_file(line),
+            Part::Console | Part::Case => self.push_to_console(line),
         }
     }
 
     fn push_prose(&mut self, line: &str) -> Result<(), AllocError> {
         if let Some(name) = file_name(line) {
-            self.place = Place::File;
+            self.part = Part::File;
             return self.push_file(name);
         }
         if line == "```console" {
-            self.place = Place::Console;
+            self.part = Part::Console;
             return Ok(());
         }
         if line.starts_with("```") {
@@ -146,10 +146,10 @@ impl Document {
 
     fn push_to_console(&mut self, line: &str) -> Result<(), AllocError> {
         if let Some(command) = line.strip_prefix("$ ") {
-            self.place = Place::Case;
+            self.part = Part::Case;
             return self.push_case(command);
         }
-        if self.place == Place::Console {
+        if self.part == Part::Console {
             return self.push_stray(line);
         }
         match self.cases.last_mut() {

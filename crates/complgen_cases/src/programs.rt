@@ -8,7 +8,7 @@ use cc_env::{CompleteEnv, EnvCompleter};
 use cc_quote::posix_word;
 use cc_replies::EnvValues;
 use complgen_command_line::plan;
-use complgen_plans::{Given, carry_out};
+use complgen_plans::{Inputs, carry_out};
 use complgen_scripts::{Plan, Refusal};
 use complgen_tree_file::read_tree;
 use std::alloc::{AllocError, Global};
@@ -132,12 +132,12 @@ fn carry_out_words<R: Files>(
     if matches!(&plan, Plan::Scripts { .. }) {
         return Ok(WRITES_FILES);
     }
-    let given = Given {
+    let inputs = Inputs {
         tree: document.file(plan.tree()),
         values: plan.values().and_then(|path| document.file(path)),
         folder: &folders(),
     };
-    carry_out(files, alloc, &plan, &given, out)
+    carry_out(files, alloc, &plan, &inputs, out)
 }
 
 // Returns the output of a program that completes itself.

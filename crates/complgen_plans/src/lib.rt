@@ -3,7 +3,7 @@
 //! ```rattle
 //! use cc_base::Collected;
 //! use cc_candidates::MemoryFolder;
-//! use complgen_plans::{Given, carry_out};
+//! use complgen_plans::{Inputs, carry_out};
 //! use complgen_scripts::{Plan, Refusal};
 //! use std::alloc::Global;
 //! use std::rt::Files;
@@ -15,20 +15,20 @@
 //!     tree: &[u8],
 //! ) -> Result<Vec<u8>, Refusal> {
 //!     let mut out = Collected::new(alloc);
-//!     let given = Given {
+//!     let inputs = Inputs {
 //!         tree: Some(tree),
 //!         values: None,
 //!         folder: &MemoryFolder::new(&[], &[]),
 //!     };
-//!     carry_out(files, alloc, plan, &given, &mut out)?;
+//!     carry_out(files, alloc, plan, &inputs, &mut out)?;
 //!     Ok(out.into_vec())
 //! }
 //! ```
 #![tactic(auto)]
 
 mod checks;
-mod given;
 mod given_replies;
+mod inputs;
 mod page;
 mod plans;
 mod registrations;
@@ -37,5 +37,5 @@ mod values;
 mod wanted;
 mod word_at;
 
-pub use crate::given::Given;
+pub use crate::inputs::Inputs;
 pub use crate::plans::carry_out;

@@ -6,7 +6,7 @@ ghost use Rattle.cc_engine.specs.Paths.{PathsOf};
 ghost use Rattle.complgen_plans.specs.Ends.{Ends, ReadsBack};
 
 use crate::checks::write_findings;
-use crate::given::Given;
+use crate::inputs::Inputs;
 use crate::page::write_man_page;
 use crate::registrations::register;
 use crate::replies::reply;
@@ -20,7 +20,7 @@ use complgen_scripts::{Plan, Refusal, TreeFile, script, scripts};
 use std::alloc::Global;
 use std::rt::Files;
 
-/// Carries out `plan` over the bytes in `given`, and writes its output to `out`. Returns the exit
+/// Carries out `plan` over the bytes in `inputs`, and writes its output to `out`. Returns the exit
 /// status: 1 if `check` finds an error or a warning, and otherwise 0.
 ///
 /// Looks up the shell of a script or a registration before it parses the tree. Only `scripts` makes
@@ -33,25 +33,25 @@ pub fn carry_out<R: Files, D: Folder, W: Sink>(
     files: &R,
     alloc: Global,
     plan: &Plan,
-    given: &Given<'_, D>,
+    inputs: &Inputs<'_, D>,
     out: &mut W,
 ) -> Result<u8, Refusal>
-    ensures ends { Ends W.taken W.failed (PathsOf (D.facts given.now.folder.now) (Some (codes ".")))
-        plan.now (option_copied given.now.tree) (option_copied given.now.values)
+    ensures ends { Ends W.taken W.failed (PathsOf (D.facts inputs.now.folder.now) (Some (codes ".")))
+        plan.now (option_copied inputs.now.tree) (option_copied inputs.now.values)
         out.old out.new result }
-    ensures read_back { IfOk result (ReadsBack plan.now (option_copied given.now.tree)) }
+    ensures read_back { IfOk result (ReadsBack plan.now (option_copied inputs.now.tree)) }
 {
     match plan {
         Plan::Script(shell, bin, _) => {
             let (shell, bin) = (shell.as_str(), bin.as_str());
-            script(alloc, shell, bin, given.tree, Release::AtExit, out).and(Ok(0))
+            script(alloc, shell, bin, inputs.tree, Release::AtExit, out).and(Ok(0))
         }
         Plan::Register(shell, bin, _) => {
-            register(alloc, shell.as_str(), bin.as_str(), given.tree, out).and(Ok(0))
+            register(alloc, shell.as_str(), bin.as_str(), inputs.tree, out).and(Ok(0))
         }
         Plan::Candidates(index, _, words) => {
             let word = word_at(words.as_slice(), *index);
-            reply(alloc, word, given.tree, given.folder, out).and(Ok(0))
+            reply(alloc, word, inputs.tree, inputs.folder, out).and(Ok(0))
         }
         Plan::CandidatesWith {
             values,
@@ -60,23 +60,23 @@ pub fn carry_out<R: Files, D: Folder, W: Sink>(
             ..
         } => {
             let word = word_at(words.as_slice(), *index);
-            write_candidates(alloc, values.as_str(), word, given, out).and(Ok(0))
+            write_candidates(alloc, values.as_str(), word, inputs, out).and(Ok(0))
         }
         Plan::Wanted(index, _, words) => {
             let word = word_at(words.as_slice(), *index);
-            write_wanted(alloc, word, given.tree, out).and(Ok(0))
+            write_wanted(alloc, word, inputs.tree, out).and(Ok(0))
         }
         Plan::Check { bin, json, tree } => {
             let bin = text_of(bin);
-            let tree = tree_file(tree.as_str(), given.tree);
+            let tree = tree_file(tree.as_str(), inputs.tree);
             write_findings(alloc, bin, *json, tree, out)
         }
         Plan::Man { bin, tree } => {
-            let tree = tree_file(tree.as_str(), given.tree);
+            let tree = tree_file(tree.as_str(), inputs.tree);
             write_man_page(alloc, bin.as_str(), tree, out).and(Ok(0))
         }
         Plan::Scripts { bin, out_dir, tree } => {
-            let tree = tree_file(tree.as_str(), given.tree);
+            let tree = tree_file(tree.as_str(), inputs.tree);
             scripts(files, alloc, bin.as_str(), out_dir.as_str(), tree, out).and(Ok(0))
         }
     }

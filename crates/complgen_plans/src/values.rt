@@ -5,8 +5,8 @@ ghost use Rattle.std.specs.Option.{option_copied};
 ghost use Rattle.cc_engine.specs.Paths.{PathsOf};
 ghost use Rattle.complgen_plans.specs.Ends.{EndsValues};
 
-use crate::given::Given;
 use crate::given_replies::reply_with;
+use crate::inputs::Inputs;
 use crate::word_at::WordAt;
 use cc_base::Sink;
 use cc_candidates::Folder;
@@ -24,15 +24,15 @@ pub(crate) fn write_candidates<D: Folder, W: Sink>(
     alloc: Global,
     path: &str,
     word: WordAt<'_>,
-    given: &Given<'_, D>,
+    inputs: &Inputs<'_, D>,
     out: &mut W,
 ) -> Result<(), Refusal>
-    ensures { EndsValues W.taken W.failed (PathsOf (D.facts given.now.folder.now) (Some (codes ".")))
+    ensures { EndsValues W.taken W.failed (PathsOf (D.facts inputs.now.folder.now) (Some (codes ".")))
         path.now (map string_bytes word.entry.words.now) word.entry.index
-        (option_copied given.now.tree) out.old out.new (option_copied given.now.values) result }
+        (option_copied inputs.now.tree) out.old out.new (option_copied inputs.now.values) result }
 {
-    let Some(lines) = given.values else {
+    let Some(lines) = inputs.values else {
         return Err(unreadable_values(alloc, path));
     };
-    reply_with(alloc, word, lines, given.tree, given.folder, out)
+    reply_with(alloc, word, lines, inputs.tree, inputs.folder, out)
 }

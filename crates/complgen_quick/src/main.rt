@@ -30,7 +30,7 @@ struct Wanted<'w> {
 }
 
 fn main(rt: HostRuntime) -> ExitCode {
-    match carry_out(&rt) {
+    match print_script(&rt) {
         Ok(()) => ExitCode::SUCCESS,
         Err(refusal) => {
             let _ = rt.eprint(refusal.text.as_str());
@@ -40,7 +40,7 @@ fn main(rt: HostRuntime) -> ExitCode {
 }
 
 // Prints the script that the words ask for.
-fn carry_out<R: Env + Files + Print + AllocGlobal>(rt: &R) -> Result<(), Refusal> {
+fn print_script<R: Env + Files + Print + AllocGlobal>(rt: &R) -> Result<(), Refusal> {
     let Ok(words) = env::args(rt) else {
         return Err(Refusal::from_static(2, NOT_UTF8));
     };

@@ -31,14 +31,14 @@ use std::process::ExitCode;
 use std::rt::Files;
 
 fn main(rt: HostRuntime) -> ExitCode {
-    match carry_out(&rt) {
+    match make_call(&rt) {
         Ok(()) => ExitCode::SUCCESS,
         // An error outside the call.
         Err(_) => ExitCode::from(3),
     }
 }
 
-fn carry_out<R: Env + Files + Print + AllocGlobal>(rt: &R) -> Result<(), Error> {
+fn make_call<R: Env + Files + Print + AllocGlobal>(rt: &R) -> Result<(), Error> {
     let words = env::args(rt).map_err(|_| Error::Memory)?;
     let words: Vec<String> = words.collect(rt.alloc())?;
     match words.as_slice() {

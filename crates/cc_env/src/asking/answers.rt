@@ -9,9 +9,9 @@ ghost use Rattle.cc_env.specs.Answers.{seen, seen_answer, told, words};
 ghost use Rattle.cc_env.specs.Asking.{command_words};
 
 use crate::arguments::words_after;
-use crate::asking::asked::{Step, asked_by, command_words, next_step};
-use crate::asking::given::{WithLines, lines_list};
+use crate::asking::asked::{AnswerStep, asked_by, command_words, next_step};
 use crate::asking::line_source::{LineSource, lines_of};
+use crate::asking::with_lines::{WithLines, lines_list};
 use crate::safe_shell::SafeShell;
 use crate::shell_program::ShellProgram;
 use cc_arg::Arg;
@@ -96,7 +96,7 @@ fn answer_step<D, C, S>(
     command: Command,
     sources: &Sources<'_, D, C>,
     lines: &S,
-    step: &Step,
+    step: &AnswerStep,
 ) -> Result<Answer, Error>
 where
     D: Folder,
@@ -106,17 +106,17 @@ where
         sources.now) (S.gives lines.now) command step.now (seen_answer result) }
 {
     match step {
-        Step::Reply => {
+        AnswerStep::Reply => {
             text_answer(
                 call.program
                     .text(alloc, command, call.args, call.env, sources),
             )
         }
-        Step::Run(asked) => {
+        AnswerStep::Run(asked) => {
             drop(command);
             run_answer(alloc, asked)
         }
-        Step::ReadLines(asked) => {
+        AnswerStep::ReadLines(asked) => {
             text_answer(text_of_lines(alloc, call, command, sources, lines, asked))
         }
     }
@@ -154,7 +154,7 @@ where
     C: CandidateSources<Candidate = CompletionCandidate>,
     S: LineSource,
     ensures { AnswersStep (parts_of C.CandidateSources (D.facts sources.now.folder.now) call.now
-        sources.now) (S.gives lines.now) command (Step.ReadLines asked.now)
+        sources.now) (S.gives lines.now) command (AnswerStep.ReadLines asked.now)
         (told (made_bytes result)) }
 {
     match lines_of(alloc, lines, asked) {

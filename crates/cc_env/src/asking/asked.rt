@@ -24,7 +24,7 @@ const COMMANDS: &str = "COMPLGEN_COMMANDS";
 
 /// The way in which a request is answered.
 #[derive(Drop)]
-pub enum Step {
+pub enum AnswerStep {
     /// The reply, without values from outside the tree.
     Reply,
     /// The words of the argument's command, for the shell to run.
@@ -121,33 +121,33 @@ fn asked_at_last(
 ///
 /// The command of an argument is only run if its tree is `trusted` and the user has not turned
 /// commands off.
-pub(crate) fn next_step(env: &EnvValues, trusted: bool, asked: Option<Arg>) -> Step
+pub(crate) fn next_step(env: &EnvValues, trusted: bool, asked: Option<Arg>) -> AnswerStep
     ensures { result ≡ next_step env.now trusted asked }
 {
     let Some(asked) = asked else {
-        return Step::Reply;
+        return AnswerStep::Reply;
     };
     if asked.get_values_from().is_none() {
-        return Step::ReadLines(asked);
+        return AnswerStep::ReadLines(asked);
     }
     if may_run(env, trusted) {
         step_of_mode(env.get(VALUES), asked)
     } else {
         drop(asked);
-        Step::Reply
+        AnswerStep::Reply
     }
 }
 
 // Returns the step for an argument with a command that may run.
-fn step_of_mode(mode: Option<&str>, asked: Arg) -> Step
+fn step_of_mode(mode: Option<&str>, asked: Arg) -> AnswerStep
     ensures { result ≡ step_of_mode (option_copied mode.entry) asked }
 {
     match mode {
-        Some("ask") => Step::Run(asked),
-        Some("stdin") => Step::ReadLines(asked),
+        Some("ask") => AnswerStep::Run(asked),
+        Some("stdin") => AnswerStep::ReadLines(asked),
         _ => {
             drop(asked);
-            Step::Reply
+            AnswerStep::Reply
         }
     }
 }

@@ -10,9 +10,9 @@ ghost use Rattle.cc_engine.specs.Sources.{returned_of};
 ghost use Rattle.cc_engine.specs.Finished.{Differ};
 ghost use Rattle.cc_replies.specs.GivenLines.{candidates_of_lines};
 ghost use Rattle.cc_env.specs.Completion.{CompletesWith, LeavesListed, RefusesWith};
-ghost use Rattle.cc_env.specs.Given.{lines_list, with_lines};
+ghost use Rattle.cc_env.specs.WithLines.{lines_list, with_lines};
 
-use crate::asking::given::{WithLines, lines_list};
+use crate::asking::with_lines::{WithLines, lines_list};
 use cc_arg::Arg;
 use cc_base::{CandidateSources, Error};
 use cc_candidates::{CompletionCandidate, Folder};

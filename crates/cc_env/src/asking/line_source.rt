@@ -30,7 +30,7 @@ pub struct PassedLines<'l> {
 }
 
 impl LineSource for PassedLines<'_> {
-    ghost use Rattle.cc_env.specs.Given.{passed_lines};
+    ghost use Rattle.cc_env.specs.WithLines.{passed_lines};
 
     ghost gives = { λ passed asked lines. lines ≡ passed_lines passed.bytes.now asked };
 

@@ -1,9 +1,0 @@
-use Rattle.std.proofs.Common.{◌≡◌, length}
-use Rattle.cc_replies.specs.GivenLines.{without_last_blanks}
-use Rattle.cc_replies.proofs.lines.without_last_blanks.Given as goal
-
-abbrev pub invariant-loop-last : goal.invariant-loop-last
-invariant-loop-last l = without_last_blanks l.rest ≡ without_last_blanks l.text
-
-abbrev pub decreases-loop-last : goal.decreases-loop-last
-decreases-loop-last l = length l.rest
