@@ -2,6 +2,7 @@
 """Runs every test that needs only the proved programs and installed shells.
 
     tests/all.py [--at-once N] [NAME..]      without a name: all, as in tests/all.py hostile live
+    tests/all.py --left-out                  prints what it never runs, and the commands that do
 
 It also runs the tools that compare documents with the code. The programs are the proved ones, or those that the
 variables COMPLGEN, LARDER and LIBRARY_CALLS name. It installs nothing, and takes less than 15 minutes on four
@@ -35,6 +36,21 @@ SAFE_PARTS = ("values", "files", "folders", "words", "typed", "random", "places"
               "descriptions")
 VALUE_PARTS = ("branches", "words", "many", "ends", "off", "order", "files", "examples", "hints")
 
+# What this script and tests/run leave out: the command, and why.
+LEFT_OUT = (
+    ("tests/genuine.py", "compares with the genuine clap_complete: needs cargo, and debootstrap once"),
+    ("tests/from_clap.py", "compares scripts with clap: needs cargo and clap 4"),
+    ("tests/original.py --genuine", "runs tests of clap_complete: needs the archive, cargo, and debootstrap once"),
+    ("tests/rust.py", "the archive and the Rust package: needs rt, cargo and clap 4"),
+    ("tests/registrations.py", "the archive's registrations: needs the archive and cc"),
+    ("tests/release.py", "the files of a release: needs those that release/make.py makes"),
+    ("tests/compare.py OLD NEW", "two builds do the same: needs another build of complgen"),
+    ("tests/first-minutes", "its part with rt, which compiles complgen several times"),
+    ("tests/safe_live.py --only ten-thousand --only start", "measures times: needs a machine of its own"),
+    ("tests/in_suite SUITE -- tests/safe_live.py", "the shells of another Debian: needs root and debootstrap"),
+    ("tools/faults.py", "all planted faults of more-faults/: needs rt, and most of an hour"),
+)
+
 
 class Test(NamedTuple):
     """A script with its words, and the reason to skip it, or an empty text."""
@@ -46,8 +62,12 @@ class Test(NamedTuple):
 def main() -> int:
     parser = argparse.ArgumentParser(usage=common.usage(__doc__))
     parser.add_argument("--at-once", type=int, default=os.cpu_count())
+    parser.add_argument("--left-out", action="store_true")
     parser.add_argument("names", nargs="*", metavar="NAME")
     options = parser.parse_args()
+    if options.left_out:
+        print("\n".join(f"not run: {words:<52} {why}" for words, why in LEFT_OUT))
+        return 0
     for name in PROGRAMS:
         print(f"{name}: {state_of(common.default_program(name))}", flush=True)
     tests = [test for test in listed() if not options.names or name_of(test) in options.names]
@@ -82,19 +102,7 @@ def listed() -> List[Test]:
         tested([], [], "tools/keys.py", "--check"), tested([], [], "tools/rows.py"), tested([], [], "release/declarations.py"),
         tested(complgen, ["bash", "zsh"], "tools/demo.py", "--check"),
     ]
-    skipped = [
-        ("tests/safe_live.py --only ten-thousand --only start", "measures times, so it needs a machine of its own"),
-        ("tests/first-minutes", "the rest needs rt, and compiles complgen several times"),
-        ("tests/compare.py", "needs another build of complgen"),
-        ("tests/from_clap.py", "needs cargo and clap 4"),
-        ("tests/registrations.py", "needs the archive and cc"),
-        ("tests/rust.py", "needs rt, cargo and clap 4"),
-        ("tests/original.py", "needs the archive, cargo, clap 4 and the sources of clap_complete"),
-        ("tests/genuine.py", "needs cargo, and debootstrap once"),
-        ("tests/release.py", "needs the files that release/make.py makes"),
-        ("tools/faults.py", "needs rt, and most of an hour"),
-    ]
-    return runs + [Test(words.split(), why) for words, why in skipped]
+    return runs + [Test(words.split(), why) for words, why in LEFT_OUT]
 
 
 def tested(programs: List[str], tools: List[str], *words: str) -> Test:

@@ -27,8 +27,8 @@ The parts:
 - examples: the tree files in examples/values, with a makefile, and programs in the place of docker and just;
 - hints: users, hosts and programs.
 
-The script prints a line for each exception, and for each part and shell. The status is 0 if there is no
-exception.
+The script prints a line for each exception, and for each part and shell. Without git, it skips `branches`, and
+without `seq` the part `many`; a line says so. The status is 0 if there is no exception.
 """
 
 import argparse
@@ -814,9 +814,14 @@ TRIES = {"branches": try_branches, "words": try_words, "many": try_many, "ends":
          "files": try_files, "examples": try_examples, "hints": try_hints}
 
 
-def make_all(scratch):
-    make_repositories(scratch)
-    make_git(scratch)
+# The program without which a part is skipped.
+NEEDS = {"branches": "git", "many": "seq"}
+
+
+def make_all(scratch, parts):
+    if "branches" in parts:
+        make_repositories(scratch)
+        make_git(scratch)
     make_words(scratch)
     scratch.program(tree("many", positional(values_from=["seq", "-f", "value-%05.0f", "10000"])))
     make_ends(scratch)
@@ -855,14 +860,13 @@ def arguments():
 
 def main():
     options = arguments()
-    parts = options.only or PARTS
-    if not common.is_installed("git"):
-        parts = [part for part in parts if part != "branches"]
-        print("branches: git is not installed, skipped")
+    parts = [part for part in options.only or PARTS if part not in NEEDS or common.is_installed(NEEDS[part])]
+    for part in set(options.only or PARTS).difference(parts):
+        print(f"{part}: {NEEDS[part]} is not installed, skipped")
     scratch = TreeScratch(common.program("complgen"))
     good = True
     try:
-        make_all(scratch)
+        make_all(scratch, parts)
         if "protocol" in parts:
             good &= try_protocol(scratch)
         if "random" in parts:

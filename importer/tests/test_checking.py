@@ -30,6 +30,14 @@ class Checking(Room):
             self.assertEqual((1, "", messages), self.run_importer("--texts", "-", "app", input=b"  -x  X\n"), lines)
             self.assertFalse(os.path.exists(self.trees))
 
+    def test_not_built(self):
+        """A clone without a proved program checks nothing, so it rejects nothing."""
+        message = "app: cannot check: complgen is not built; ./complgen --prove in the clone builds it\n"
+        for text in ("without a proof only `script` runs", "no proved program is up to date, and rt is not on the PATH"):
+            self.script("complgen", f"echo 'complgen: {text}' >&2; exit 1")
+            self.assertEqual((1, "", message), self.run_importer("app"), text)
+            self.assertFalse(os.path.exists(self.trees))
+
     def test_file_that_exists(self):
         """A tree file stays as it was if the new one is rejected."""
         self.script("complgen", 'grep -q newer "$2" || exit 0; echo "1:1: error: newer"; exit 1')
