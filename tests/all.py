@@ -100,7 +100,7 @@ def listed() -> List[Test]:
         tested([], ["git"], "tests/first-minutes", "--without-rt"), tested([], [], "tools/documents.py"),
         tested([], [], "tools/calls.py", "--check"), tested([], [], "tools/clauses.py", "--check"),
         tested([], [], "tools/keys.py", "--check"), tested([], [], "tools/rows.py"), tested([], [], "release/declarations.py"),
-        tested(complgen, ["bash", "zsh"], "tools/demo.py", "--check"),
+        tested(complgen, ["bash", "zsh", "fish"], "tools/demo.py", "--check"),
     ]
     return runs + [Test(words.split(), why) for words, why in LEFT_OUT]
 

@@ -1,43 +1,51 @@
 #!/usr/bin/env python3
-"""Draws docs/demo.svg: what bash and zsh show when a user presses Tab.
+"""Draws the pictures of the pages from sessions of real shells.
 
     tools/demo.py [--write | --check]
 
-It starts bash and zsh in a pseudo terminal, with the registration that `complgen` writes and a tree file for a program
-`app`. It types `app --color=` and Tab, and `app x` and Tab in a directory with the file `x$(touch hit)`. Then it draws
-the two screens. So the picture shows what the shells printed. Grey texts at the right are added: they show what was
-typed.
+- docs/demo.svg, of the README: a tree file of ten lines, and what bash, zsh and fish show for it when a user types
+  `app --color=` and Tab.
+- docs/file-name.svg, of docs/SECURITY.md: what bash and zsh do with `app x` and Tab in a directory with the file
+  `x$(touch hit)`.
 
-Without an option, it prints the screens. --write draws the picture. --check compares the picture with a new session,
-and ends with status 1 if they differ. It needs the proved `complgen`, bash and zsh. tests/shells.py runs the shells.
+It starts the shells in a pseudo terminal, with the registration that `complgen` writes, and draws their screens. So
+the pictures show what the shells printed. Grey texts at the right are added: they show which keys followed.
+
+Without an option, it prints the screens. --write draws the pictures. --check compares the pictures with new sessions,
+and ends with status 1 if they differ. A picture that other versions of the shells drew is not compared. It needs the
+proved `complgen`, bash, zsh and fish. tests/shells.py runs the shells.
 """
 
 from __future__ import annotations
 
 import argparse
+import functools
 import html
-import json
 import os
 import re
+import subprocess
 import sys
 import time
-from typing import Callable, Dict, List, NamedTuple, Optional, Tuple, Type
+from typing import Any, Callable, Dict, List, NamedTuple, Optional, Sequence, Tuple, Type
 
 sys.path.append(os.path.join(os.path.dirname(os.path.realpath(__file__)), "..", "tests"))
 import common
 import shells
 
-PICTURE = os.path.join(common.TOP, "docs", "demo.svg")
-ROWS, COLUMNS = 16, 80
+ROWS, COLUMNS = 16, 48
 FILE = "x$(touch hit)"
-TREE = {"name": "app", "args": [
-    {"id": "color", "long": "color", "possible_values": [
-        {"name": "auto", "help": "Where the output is a terminal"},
-        {"name": "always", "help": "Also into files and pipes"},
-        {"name": "never", "help": "Not at all"},
-    ]},
-    {"id": "file", "value_hint": "AnyPath"},
-]}
+TREE = """{"name": "app", "args": [
+  {"id": "color", "long": "color",
+   "help": "When to use colours",
+   "possible_values": [
+     {"name": "auto", "help": "On a terminal"},
+     {"name": "always", "help": "Into files too"},
+     {"name": "never", "help": "Not at all"}]},
+  {"id": "file",
+   "help": "What to read",
+   "value_hint": "AnyPath"}]}
+"""
+VALUES = ("auto", "always", "never")
 # The parts of a text of a terminal: a control sequence, a command to the terminal, a short escape, a control
 # character, other text.
 PARTS = re.compile(
@@ -54,10 +62,17 @@ class Typed(NamedTuple):
     text: str
 
 
+class Session(NamedTuple):
+    """The lines of a screen, and what was typed."""
+
+    lines: List[str]
+    typed: List[Typed]
+
+
 # ---- a terminal
 
 class Screen:
-    """The part of a terminal that bash and zsh use. It refuses all other sequences."""
+    """The part of a terminal that the shells use. It refuses all other sequences."""
 
     def __init__(self) -> None:
         self.row, self.column, self.rest = 0, 0, b""
@@ -109,6 +124,7 @@ class Screen:
         known: Dict[str, Callable[[int], None]] = {
             "A": lambda rows: self.move(-(rows or 1), 0), "B": lambda rows: self.move(rows or 1, 0),
             "C": lambda cells: self.move(0, cells or 1), "D": lambda cells: self.move(0, -(cells or 1)),
+            "G": lambda column: self.move(0, (column or 1) - 1 - self.column),
             "H": lambda _: self.move(-self.row, -self.column), "J": self.erase_rows, "K": self.erase_cells,
             "P": self.delete, "@": self.insert,
         }
@@ -182,13 +198,13 @@ class Shown(shells.Shell):
         """Types a text at the prompt, and Tabs. Keeps the row of it."""
         self.send(text)
         self.expect(lambda lines: lines[-1] == self.prompt + text)
-        self.typed.append(Typed(len(self.lines()) - 1, f"{text} [Tab]" if tabs == 1 else f"{text} [Tab] [Tab]"))
+        self.typed.append(Typed(len(self.lines()) - 1, "[Tab]" if tabs == 1 else "[Tab] [Tab]"))
         self.send("\t" * tabs)
 
     def colours(self) -> None:
         """Has the shell list values."""
         self.type("app --color=", self.tabs)
-        self.expect(lambda lines: all(any(it in line for line in lines) for it in ("auto", "always", "never")))
+        self.expect(lambda lines: all(any(it in line for line in lines) for it in VALUES))
 
     def file(self) -> None:
         """Has the shell insert the name of the file, runs the command, and lists the directory."""
@@ -200,87 +216,110 @@ class Shown(shells.Shell):
         self.send("ls\r")
         self.expect(lambda lines: lines[-1] == self.prompt.rstrip() and lines[-3] == self.prompt + "ls")
 
-    def play(self) -> None:
-        """Types what the picture shows."""
-        raise NotImplementedError
-
 
 class ShownBash(Shown, shells.Bash):
     """bash. It lists at the second Tab, and then shows the command line again."""
 
     prompt, prompt_line, tabs = "bash$ ", "PS1='bash$ '", 2
 
-    def play(self) -> None:
-        self.colours()
-        self.send(shells.CLEAR_LINE)
-        self.expect(lambda lines: lines[-1] == self.prompt.rstrip())
-        self.file()
-
 
 class ShownZsh(Shown, shells.Zsh):
-    """zsh. It lists below the command line, so the list comes last."""
+    """zsh. It lists below the command line."""
 
     prompt, prompt_line = "zsh% ", "PS1='zsh%% '"
 
-    def play(self) -> None:
-        self.file()
-        self.colours()
+
+class ShownFish(Shown, shells.Fish):
+    """fish. It lists below the command line."""
+
+    prompt, prompt_line = "fish> ", "function fish_prompt; printf 'fish> '; end"
 
 
-def session(kind: Type[Shown], complgen: str) -> Tuple[List[str], List[Typed]]:
-    """Runs a session. Returns the lines of its screen, and what was typed."""
+def session(kind: Type[Shown], play: Callable[[Any], None], complgen: str) -> Session:
+    """Runs a session."""
     scratch = shells.TreeScratch(complgen)
     scratch.columns = COLUMNS
     with scratch:
         scratch.script("app", "#!/bin/sh\nprintf 'received: %s\\n' \"$@\"\n")
         os.unlink(os.path.join(scratch.bin, "touch"))  # the session has the system's
-        shells.write(os.path.join(scratch.trees, "app.json"), json.dumps(TREE))
+        shells.write(os.path.join(scratch.trees, "app.json"), TREE)
         shells.write(os.path.join(scratch.here, FILE), "")
         shell = kind(scratch, scratch.written(kind.name))
         with shell:
             shell.begin()
-            shell.play()
+            play(shell)
         if os.listdir(scratch.here) != [FILE]:
             raise shells.Ended(f"{shell.name}: something ran: {os.listdir(scratch.here)}")
-        return shell.lines(), shell.typed
+        return Session(shell.lines(), shell.typed)
 
 
-def sessions(complgen: str) -> List[Tuple[List[str], List[Typed]]]:
+def sessions(kinds: Sequence[Type[Shown]], play: Callable[[Any], None], complgen: str) -> List[Session]:
     """Runs the session of each shell, once more if a shell does not do what is expected."""
-    found, kinds = [], (ShownBash, ShownZsh)  # type: List[Tuple[List[str], List[Typed]]], Tuple[Type[Shown], ...]
+    found = []
     for kind in kinds:
         try:
-            found.append(session(kind, complgen))
+            found.append(session(kind, play, complgen))
         except shells.Ended:
-            found.append(session(kind, complgen))
+            found.append(session(kind, play, complgen))
     return found
 
 
 # ---- the picture
 
-LINE, MARGIN, WIDTH = 20, 16, 760
+LINE, MARGIN, LETTER = 19, 14, 7.85
+LEFT = 14 + int(max(map(len, TREE.split("\n"))) * LETTER) + 14
+RIGHT = 14 + int(COLUMNS * LETTER) + 14
 HEAD = """<svg xmlns="http://www.w3.org/2000/svg" width="{width}" height="{height}" viewBox="0 0 {width} {height}" \
 role="img">
-<title>Tab completion in bash and zsh</title>
+<title>{title}</title>
+<desc>{versions}</desc>
 <style>
-  text {{ font: 14px ui-monospace, "DejaVu Sans Mono", Menlo, Consolas, monospace; fill: #e6e6e6; white-space: pre }}
-  .typed {{ fill: #9aa0a6; text-anchor: end }}
+  text {{ font: 13px ui-monospace, "DejaVu Sans Mono", Menlo, Consolas, monospace; fill: #e6e6e6; white-space: pre }}
+  .typed, .name {{ fill: #9aa0a6 }}
+  .typed {{ text-anchor: end }}
 </style>
 """
 
 
-def drawn(found: List[Tuple[List[str], List[Typed]]]) -> str:
-    """Returns the picture of screens, one below the other."""
+def picture(title: str, text: str, found: List[Session]) -> str:
+    """Returns the picture of a file, and of screens at its right, one below the other."""
+    x = LEFT + MARGIN if text else 0
     top, parts = 0, []
-    for lines, typed in found:
-        height = 2 * MARGIN + LINE * len(lines)
-        parts.append(f'<rect y="{top}" width="{WIDTH}" height="{height}" rx="8" fill="#1f2328"/>')
-        for at, line in enumerate(lines):
-            parts.append(text_at(MARGIN, base(top, at), line, ""))
-        for row, text in typed:
-            parts.append(text_at(WIDTH - MARGIN, base(top, row), f"typed: {text}", ' class="typed"'))
+    for screen in found:
+        height = 2 * MARGIN + LINE * len(screen.lines)
+        parts.append(f'<rect x="{x}" y="{top}" width="{RIGHT}" height="{height}" rx="8" fill="#1f2328"/>')
+        for at, line in enumerate(screen.lines):
+            parts.append(text_at(x + MARGIN, base(top, at), line, ""))
+        for row, typed in screen.typed:
+            parts.append(text_at(x + RIGHT - MARGIN, base(top, row), typed, ' class="typed"'))
         top += height + MARGIN
-    return HEAD.format(width=WIDTH, height=top - MARGIN) + "\n".join(parts) + "\n</svg>\n"
+    height = top - MARGIN
+    if text:
+        parts.append(f'<rect width="{LEFT}" height="{height}" rx="8" fill="#1f2328"/>')
+        for at, line in enumerate(["app.json", "", *text.split("\n")]):
+            parts.append(text_at(MARGIN, base(0, at), line, "" if at else ' class="name"'))
+    head = HEAD.format(width=x + RIGHT, height=height, title=title, versions=versions())
+    return head + "\n".join(parts) + "\n</svg>\n"
+
+
+@functools.lru_cache(maxsize=None)
+def versions() -> str:
+    """Returns the versions of the shells, which may list in another way."""
+    found = []
+    for name in ("bash", "zsh", "fish"):
+        text = subprocess.run([name, "--version"], stdout=subprocess.PIPE, check=True, text=True).stdout
+        found.append(f"{name} {re.findall(r'[0-9]+(?:[.][0-9]+)+', text)[0]}")
+    return ", ".join(found)
+
+
+def pictures(complgen: str) -> Dict[str, Tuple[str, List[Session]]]:
+    """Returns the pictures by their paths, each with its sessions."""
+    shown = sessions((ShownBash, ShownZsh, ShownFish), Shown.colours, complgen)
+    safe = sessions((ShownBash, ShownZsh), Shown.file, complgen)
+    return {
+        "docs/demo.svg": (picture("A tree file, and Tab in bash, zsh and fish", TREE, shown), shown),
+        "docs/file-name.svg": (picture("A hostile file name in bash and zsh", "", safe), safe),
+    }
 
 
 def base(top: int, row: int) -> int:
@@ -298,20 +337,24 @@ def main() -> int:
     way.add_argument("--write", action="store_true")
     way.add_argument("--check", action="store_true")
     options = parser.parse_args()
-    found = sessions(common.program("complgen"))
-    if options.write:
-        shells.write(PICTURE, drawn(found))
-        print(os.path.relpath(PICTURE))
-        return 0
-    if not options.check:
-        print("\n\n".join("\n".join(lines) for lines, _ in found))
-        return 0
-    if os.path.exists(PICTURE) and shells.read(PICTURE) == drawn(found):
-        print("docs/demo.svg shows the sessions")
-        return 0
-    print("\n\n".join("\n".join(lines) for lines, _ in found))
-    print("docs/demo.svg does not show these screens: run tools/demo.py --write")
-    return 1
+    differing = 0
+    for name, (drawn, found) in pictures(common.program("complgen")).items():
+        path = os.path.join(common.TOP, name)
+        if options.write:
+            shells.write(path, drawn)
+            print(name)
+            continue
+        old = shells.read(path) if os.path.exists(path) else ""
+        if options.check and old and f"<desc>{versions()}</desc>" not in old:
+            print(f"{name} was drawn with other shells than {versions()}, so it is not compared")
+            continue
+        is_equal = old == drawn
+        if not options.check or not is_equal:
+            print("\n\n".join("\n".join(screen.lines) for screen in found))
+        if options.check:
+            print(f"{name} {'shows the sessions' if is_equal else 'differs: run tools/demo.py --write'}")
+            differing += not is_equal
+    return 1 if differing else 0
 
 
 if __name__ == "__main__":

@@ -1,0 +1,107 @@
+#!/usr/bin/env python3
+"""Measures the milliseconds of a Tab in programs that have a completion of their own: by it, and by `complgen`.
+
+    bench/beside_own.py [--shells bash,zsh,fish] [--runs N] [--programs gh,hcloud,restic]
+
+The programs are those of Debian's packages gh, hcloud-cli and restic. Their own completion starts the program at each
+Tab. For `complgen`, `complgen-import --walk` makes a tree file of each program first. tests/shells.py runs the shells
+in a pseudo terminal, with an empty home. The columns are these:
+
+- none: a file name, which the shell completes by itself. That is the cost of the shell and of the measurement, and
+  both other columns contain it;
+- complgen: the end of a subcommand's name, by live completion from the tree file;
+- own: the same, by the script that the program writes.
+
+A time is the median of N runs, by default 30, from the Tab until the shell has written its command line into a file.
+The last line has the versions of the programs. The status is 1 if a line was not completed as expected, or if no
+program is installed.
+"""
+
+import argparse
+import os
+import shutil
+import subprocess
+import sys
+
+HERE = os.path.dirname(os.path.realpath(__file__))
+sys.path += [os.path.join(HERE, "..", "tools"), os.path.join(HERE, "..", "tests"), HERE]
+import common
+import shells
+from git_tab import ONLY, measure
+
+# The line to type, the end of the completed line, and the words that print the program's own script and its version.
+PROGRAMS = {
+    "gh": ("gh issue lis", "list", ["completion", "-s", "{}"], ["--version"]),
+    "hcloud": ("hcloud server lis", "list", ["completion", "{}"], ["version"]),
+    "restic": ("restic snapsh", "snapshots", ["generate", "--{}-completion", "/dev/stdout"], ["version"]),
+}
+NONE = ("nothing odd-fi", "odd-file")
+BASH_COMPLETION = "/usr/share/bash-completion/bash_completion"
+
+
+def main():
+    options = arguments()
+    names = [name for name in options.programs.split(",") if common.is_installed(name)]
+    scratch = shells.TreeScratch(common.program("complgen"))
+    good = bool(names)
+    try:
+        shells.write(os.path.join(scratch.here, "odd-file"), "")
+        for name in names:
+            make_tree(scratch, name)
+        print(f"{'shell':<8}{'program':<9}" + "".join(f"{it:>10}" for it in ("none", "complgen", "own")), flush=True)
+        for shell in options.shells.split(","):
+            for name in names if common.is_installed(shell) else []:
+                good &= measure_program(scratch, shell, name, options.runs)
+        print("; ".join(version(name) for name in names))
+    finally:
+        scratch.remove()
+    return 0 if good else 1
+
+
+def arguments():
+    parser = argparse.ArgumentParser(usage=common.usage(__doc__))
+    parser.add_argument("--shells", default="bash,zsh,fish")
+    parser.add_argument("--programs", default=",".join(PROGRAMS))
+    parser.add_argument("--runs", type=int, default=30)
+    return parser.parse_args()
+
+
+def make_tree(scratch, name):
+    """Imports a program."""
+    words = [os.path.join(common.TOP, "complgen-import"), "--walk", "--out-dir", scratch.trees, name]
+    environment = {**os.environ, "COMPLGEN": common.program("complgen")}
+    ran = subprocess.run([sys.executable, *words], env=environment, stdout=subprocess.PIPE, check=True, text=True)
+    print(ran.stdout.strip(), flush=True)
+
+
+def measure_program(scratch, shell, name, runs):
+    """Prints the line of a program in a shell. Returns whether each line was completed as expected."""
+    typed, end, words, _ = PROGRAMS[name]
+    terminal = shells.started(shell, scratch, scratch.written(shell), ONLY.get(shell, ""))
+    times, good = measure(terminal, {"none": NONE, "complgen": (typed, end)}, runs)
+    terminal.close()
+    own = subprocess.run([name, *(word.format(shell) for word in words)], env=scratch.environment, cwd=scratch.here,
+                         stdout=subprocess.PIPE, stderr=subprocess.DEVNULL, check=True, text=True).stdout
+    terminal = shells.started(shell, scratch, own, setup_of_own(shell))
+    found, as_expected = measure(terminal, {"own": (typed, end)}, runs)
+    terminal.close()
+    times.update(found)
+    print(f"{shell:<8}{name:<9}" + "".join(f"{times[it]:10.1f}" for it in ("none", "complgen", "own")), flush=True)
+    return good and as_expected
+
+
+def setup_of_own(shell):
+    """Returns what a program's own script needs: in bash the functions of bash-completion."""
+    if shell == "bash" and os.path.exists(BASH_COMPLETION):
+        return f"source {BASH_COMPLETION}"
+    return ONLY.get(shell, "")
+
+
+def version(name):
+    """Returns a program's name and the first line of what it prints about its version."""
+    ran = subprocess.run([name, *PROGRAMS[name][3]], stdout=subprocess.PIPE, stderr=subprocess.STDOUT, text=True)
+    return f"{os.path.basename(shutil.which(name))}: {ran.stdout.strip().splitlines()[0]}"
+
+
+if __name__ == "__main__":
+    sys.exit(main())
