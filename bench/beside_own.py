@@ -29,11 +29,12 @@ import common
 import shells
 from git_tab import ONLY, measure
 
-# The line to type, the end of the completed line, and the words that print the program's own script and its version.
+# The line to type, the end of the completed line, and the words that print the program's own script, or write it into
+# the file `own`, and those that print its version.
 PROGRAMS = {
     "gh": ("gh issue lis", "list", ["completion", "-s", "{}"], ["--version"]),
     "hcloud": ("hcloud server lis", "list", ["completion", "{}"], ["version"]),
-    "restic": ("restic snapsh", "snapshots", ["generate", "--{}-completion", "/dev/stdout"], ["version"]),
+    "restic": ("restic snapsh", "snapshots", ["generate", "--{}-completion", "own"], ["version"]),
 }
 NONE = ("nothing odd-fi", "odd-file")
 BASH_COMPLETION = "/usr/share/bash-completion/bash_completion"
@@ -80,14 +81,24 @@ def measure_program(scratch, shell, name, runs):
     terminal = shells.started(shell, scratch, scratch.written(shell), ONLY.get(shell, ""))
     times, good = measure(terminal, {"none": NONE, "complgen": (typed, end)}, runs)
     terminal.close()
-    own = subprocess.run([name, *(word.format(shell) for word in words)], env=scratch.environment, cwd=scratch.here,
-                         stdout=subprocess.PIPE, stderr=subprocess.DEVNULL, check=True, text=True).stdout
-    terminal = shells.started(shell, scratch, own, setup_of_own(shell))
+    terminal = shells.started(shell, scratch, own_script(scratch, shell, [name, *words]), setup_of_own(shell))
     found, as_expected = measure(terminal, {"own": (typed, end)}, runs)
     terminal.close()
     times.update(found)
     print(f"{shell:<8}{name:<9}" + "".join(f"{times[it]:10.1f}" for it in ("none", "complgen", "own")), flush=True)
     return good and as_expected
+
+
+def own_script(scratch, shell, words):
+    """Returns the script that a program writes for a shell."""
+    ran = subprocess.run([word.format(shell) for word in words], env=scratch.environment, cwd=scratch.path,
+                         stdin=subprocess.DEVNULL, stdout=subprocess.PIPE, stderr=subprocess.DEVNULL, check=True, text=True)
+    path = os.path.join(scratch.path, "own")
+    if not os.path.exists(path):
+        return ran.stdout
+    text = shells.read(path)
+    os.unlink(path)
+    return text
 
 
 def setup_of_own(shell):

@@ -36,6 +36,9 @@ names. With --trees, they are the files NAME.json of a directory, for example th
 A list of the dropped lines by their reasons follows. --show prints single findings: missed, wrong, value, commands,
 unclean, unstated. --programs prints the table for each program. --jobs is the number of programs that are compared at
 the same time. The status is 0.
+
+The truth has gaps: a name counts as wrong if the program accepts it outside the captured parser, as some programs of
+GNU do. `import_beside.py` compares a changed importer with the version before.
 """
 
 import argparse

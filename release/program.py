@@ -25,7 +25,7 @@ COMPLETIONS = {
 }
 DEBIAN_ZSH = "zsh/vendor-completions/_{}"
 DEBIAN_PYTHON = "/usr/bin/python3"
-TOP_DOCUMENTS = ("README.md", "CHANGELOG.md", "NOTICE", "LICENSE-MIT", "LICENSE-APACHE")
+TOP_DOCUMENTS = ("README.md", "NOTICE", "LICENSE-MIT", "LICENSE-APACHE")
 # How a title begins: `complgen man` writes the name as it is, and no date.
 TITLE = '.TH "{}" "1" "{}" '
 
