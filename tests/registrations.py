@@ -4,10 +4,14 @@
     tests/registrations.py [--archive FOLDER]
 
 It links the archive as a shared library, and calls that by packages/python/lagvtsune. For each shell it
-makes the registrations of the safe set and of the original's, with plain names and with names full of signs.
-It takes the texts of the original's set from docs/TEXTS.md, and those of the safe set from the files of
-tests/registrations.d. It fills in the names as the tables of docs/TEXTS.md say. --archive names the directory
-of the archive. Without it, that is crates/complgen_c/out, where `rt lib` leaves it.
+makes the registrations of the safe set and of the original's, with plain names, with names full of signs, and
+with names that are no identifiers. It takes the texts of the original's set from docs/TEXTS.md, and those of
+the safe set from the files of tests/registrations.d. It fills in the names as the tables of docs/TEXTS.md say.
+--archive names the directory of the archive. Without it, that is crates/complgen_c/out, where `rt lib` leaves
+it.
+
+Each shell also prints the names as the safe set writes them. It has to print the names themselves. A line
+names each shell that is not installed.
 
 It prints each text that differs, and a summary. The status is 0 if all are equal. It needs `cc`.
 """
@@ -19,6 +23,7 @@ import difflib
 import importlib
 import os
 import re
+import shutil
 import subprocess
 import sys
 import tempfile
@@ -43,7 +48,18 @@ class Names(NamedTuple):
 
 
 PLAIN = Names("COMPLETE", "my-app", "my-app", "/usr/bin/my-app")
-SIGNS = Names("ASK-é", "my app;é", "it's $(x) \\ `y` \"", "/opt/a b's\n\"$HOME\" `z` \\ \u2019=,")
+SIGNS = Names("ASK-é", "my app;é", "it's $(x) \\ `y` \"", "/a b's\n\"$HOME\" `z` \\ \u2018;x;\u2019\u201a\u201b=,")
+DIGITS = Names("7z", "", "7z", "\u2018\u2019'\u2018")
+ALL_NAMES = (PLAIN, SIGNS, DIGITS)
+
+# The words with which a shell runs a text that prints a quoted word.
+PRINTS = {
+    "bash": (["bash", "--norc", "-c"], "printf %s {}"),
+    "zsh": (["zsh", "-f", "-c"], "printf %s {}"),
+    "fish": (["fish", "--no-config", "-c"], "printf %s {}"),
+    "elvish": (["elvish", "-norc", "-c"], "print {}"),
+    "powershell": (["pwsh", "-NoProfile", "-Command"], "[Console]::Out.Write({})"),
+}
 
 
 # ---- how the tables of the document quote
@@ -65,15 +81,15 @@ def bash_double(text: str) -> str:
 
 
 def elvish(text: str) -> str:
-    return "'" + text.replace("'", "''").replace("\n", " ") + "'"
+    return "'" + text.replace("'", "''") + "'"
 
 
 def powershell(text: str) -> str:
-    return "'" + re.sub("['\u2019]", r"'\g<0>", text).replace("\n", " ") + "'"
+    return "'" + re.sub("['\u2018\u2019\u201a\u201b]", r"'\g<0>", text) + "'"
 
 
 def identifier(text: str) -> str:
-    return re.sub(rb"[^A-Za-z0-9_]", b"_", text.encode()).decode()
+    return re.sub(r"^(?=[0-9]|$)", "_", re.sub(rb"[^A-Za-z0-9_]", b"_", text.encode()).decode())
 
 
 SAFE: Dict[str, Quote] = {"bash": posix, "zsh": posix, "fish": fish, "elvish": elvish, "powershell": powershell}
@@ -103,10 +119,13 @@ def main() -> int:
         sets = ((safe_texts(), True, filled_safe), (original_texts(), False, filled_original))
         equal = [
             is_equal(library, shell, safe, names, re.sub(r"«(\w+)»", lambda found: fill(shell, names)[found[1]], text))
-            for texts, safe, fill in sets for shell, text in texts.items() for names in (PLAIN, SIGNS)
+            for texts, safe, fill in sets for shell, text in texts.items() for names in ALL_NAMES
         ]
     print(f"{len(equal)} registrations, {equal.count(False)} differ from the stated texts")
-    return 0 if len(equal) == 4 * len(common.LIVE_SHELLS) and all(equal) else 1
+    quoted = sorted({text for names in ALL_NAMES for text in (names.bin, names.completer)})
+    printed = [is_printed(shell, text) for shell in shells() for text in quoted]
+    print(f"{len(printed)} quoted names, {printed.count(False)} are printed otherwise")
+    return 0 if len(equal) == 2 * len(ALL_NAMES) * len(common.LIVE_SHELLS) and all(equal + printed) else 1
 
 
 def loaded(archive: str, work: str) -> ModuleType:
@@ -143,6 +162,23 @@ def is_equal(library: ModuleType, shell: str, safe: bool, names: Names, expected
     rows = difflib.unified_diff(expected.splitlines(), made.splitlines(), "stated", shell, lineterm="", n=0)
     print("\n".join(rows), end="" if made == expected else "\n")
     return made == expected
+
+
+# ---- the quoted names in true shells
+
+def shells() -> list[str]:
+    """Returns the shells that are installed, and prints a line for each of the others."""
+    missing = [shell for shell, (words, _) in PRINTS.items() if not shutil.which(words[0])]
+    print("".join(f"{shell} is not installed\n" for shell in missing), end="")
+    return [shell for shell in PRINTS if shell not in missing]
+
+
+def is_printed(shell: str, text: str) -> bool:
+    """Tells whether the shell prints the text that it reads from its quoted form, and prints what it does."""
+    words, form = PRINTS[shell]
+    printed = subprocess.run([*words, form.format(SAFE[shell](text))], stdout=subprocess.PIPE).stdout.decode()
+    print(f"{shell}: {text!r} is printed as {printed!r}\n" if printed != text else "", end="")
+    return printed == text
 
 
 if __name__ == "__main__":

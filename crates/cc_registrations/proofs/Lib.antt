@@ -1,3 +1,4 @@
+pub mod AllQuotesReading
 pub mod BashReadings
 pub mod ElvishReadings
 mod Examples

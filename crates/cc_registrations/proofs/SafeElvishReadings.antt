@@ -6,11 +6,10 @@ use Rattle.cc_base.specs.Found.{after, after_mark, between, cut_at, up_to, with_
 use Rattle.cc_base.specs.Joined.{joined}
 use Rattle.cc_base.proofs.Finding.{past_free, past_lacking}
 use Rattle.cc_quote.specs.ElvishQuote.{elvish_word_of}
-use Rattle.cc_quote.specs.QuotedWord.{line_feeds_as_spaces}
-use Rattle.cc_registrations.specs.Names.{before_space, elvish_quoted, ending_at, identifier, is_identifier_byte, quoted_by, spaced}
+use Rattle.cc_registrations.specs.Names.{before_space, elvish_quoted, ending_at, identifier, if_identifier, is_identifier_byte, quoted_by, spaced}
 use Rattle.cc_registrations.specs.SafeElvish.{names_begin, function_head, call_begins, call_ends, registration_front, safe_elvish, safe_elvish_names, safe_elvish_binaries, safe_elvish_function, safe_elvish_variable, safe_elvish_completer, SafeElvishReads}
-use Rattle.cc_registrations.proofs.Identifiers.{identifier_lacks}
-use Rattle.cc_registrations.proofs.ListedNames.{ReadsWords, listed}
+use Rattle.cc_registrations.proofs.Identifiers.{identifier_found, identifier_lacks}
+use Rattle.cc_registrations.proofs.ListedNames.{ReadsWords, listed, map_same}
 use Rattle.cc_registrations.proofs.QuotedNames.{elvish_quoted_before, elvish_ends_at_bracket, elvish_ends_at_space}
 use Rattle.cc_registrations.proofs.Regrouped.{regroup_seven}
 
@@ -33,7 +32,7 @@ module _ (variable name : List ℕ) (bins : List (List ℕ)) (completer : List �
   unfolding safe_elvish registration_front
   in_turn = regroup_seven names_begin names function_head v call_begins (elvish_quoted completer) call_ends
 
-  reads : ReadsWords elvish_quoted line_feeds_as_spaces (quoted_by elvish_word_of) (codes " ") close_bracket (drop 1 function)
+  reads : ReadsWords elvish_quoted (λ text. text) (quoted_by elvish_word_of) (codes " ") close_bracket (drop 1 function)
   unfolding after function_head
   reads = record {
     before_more = λ word more. elvish_quoted_before space more (elvish_ends_at_space more) word;
@@ -44,11 +43,11 @@ module _ (variable name : List ℕ) (bins : List (List ℕ)) (completer : List �
     is_some = omega arith;
   }
 
-  names_found : safe_elvish_names (safe_elvish variable name bins completer) ≡ Some (map line_feeds_as_spaces bins, drop 1 function)
+  names_found : safe_elvish_names (safe_elvish variable name bins completer) ≡ Some (bins, drop 1 function)
   unfolding safe_elvish_names after_mark after with_front cut_at names_begin function_head
-  names_found = ap safe_elvish_names in_turn ∙ ap (option_and_then (ending_at (codes "]"))) (listed reads bins)
+  names_found = ap safe_elvish_names in_turn ∙ ap (option_and_then (ending_at (codes "]"))) (listed reads bins) ∙ ap (λ words. Some (words, drop 1 function)) (map_same bins)
 
-  binaries_found : safe_elvish_binaries (safe_elvish variable name bins completer) ≡ Some (map line_feeds_as_spaces bins)
+  binaries_found : safe_elvish_binaries (safe_elvish variable name bins completer) ≡ Some bins
   unfolding safe_elvish_binaries
   binaries_found = ap (option_map (λ listed. listed.0)) names_found
 
@@ -60,11 +59,12 @@ module _ (variable name : List ℕ) (bins : List (List ℕ)) (completer : List �
   unfolding safe_elvish_variable between up_to after_mark after with_front cut_at function_head call_begins is_identifier_byte
   variable_found =
       let ending = codes "=elvish " in
-      ap (option_and_then (between (codes " e:env ") ending)) function_found
-      ∙ ap (option_map (λ c. c.0)) (past_lacking equals (drop 1 ending) v (call_begins ++ completed) (identifier_lacks equals variable refl))
-      ∙ ap Some (append-nil v)
+      ap (λ found. option_and_then if_identifier (option_and_then (between (codes " e:env ") ending) found)) function_found
+      ∙ ap (λ found. option_and_then if_identifier (option_map (λ c. c.0) found)) (past_lacking equals (drop 1 ending) v (call_begins ++ completed) (identifier_lacks equals variable refl))
+      ∙ ap if_identifier (append-nil v)
+      ∙ identifier_found variable
 
-  completer_found : safe_elvish_completer (safe_elvish variable name bins completer) ≡ Some (line_feeds_as_spaces completer)
+  completer_found : safe_elvish_completer (safe_elvish variable name bins completer) ≡ Some completer
   unfolding safe_elvish_completer word_after after_mark after with_front cut_at word_by without_blanks function_head call_begins call_ends elvish_quoted is_identifier_byte
   completer_found =
       let mark = codes "=$values " in

@@ -5,12 +5,11 @@ use Rattle.cc_base.specs.Bytes.{space}
 use Rattle.cc_base.specs.Found.{after, after_mark, between, cut_at, up_to, with_front, without_blanks, word_after, word_by}
 use Rattle.cc_base.specs.Joined.{joined}
 use Rattle.cc_base.proofs.Finding.{past_free, past_lacking}
-use Rattle.cc_quote.specs.PowershellQuote.{powershell_word_of}
-use Rattle.cc_quote.specs.QuotedWord.{line_feeds_as_spaces}
-use Rattle.cc_registrations.specs.Names.{before_space, ending_at, identifier, is_identifier_byte, powershell_quoted, quoted_by, spaced}
+use Rattle.cc_registrations.specs.AllQuotes.{all_quotes_word_of}
+use Rattle.cc_registrations.specs.Names.{before_space, ending_at, identifier, if_identifier, is_identifier_byte, powershell_quoted, quoted_by, spaced}
 use Rattle.cc_registrations.specs.SafePowershell.{names_begin, script_head, variable_kept, call_begins, call_ends, registration_head, call, registration_tail, safe_powershell, safe_powershell_names, safe_powershell_binaries, safe_powershell_script, safe_powershell_variable, safe_powershell_completer, SafePowershellReads}
-use Rattle.cc_registrations.proofs.Identifiers.{identifier_lacks}
-use Rattle.cc_registrations.proofs.ListedNames.{ReadsWords, listed}
+use Rattle.cc_registrations.proofs.Identifiers.{identifier_found, identifier_lacks}
+use Rattle.cc_registrations.proofs.ListedNames.{ReadsWords, listed, map_same}
 use Rattle.cc_registrations.proofs.QuotedNames.{powershell_quoted_before, powershell_ends_at_comma, powershell_ends_at_space}
 use Rattle.cc_registrations.proofs.Regrouped.{regroup_nine}
 
@@ -37,7 +36,7 @@ module _ (variable name : List ℕ) (bins : List (List ℕ)) (completer : List �
   unfolding safe_powershell registration_head call
   in_turn = regroup_nine names_begin names script_head v variable_kept v call_begins (powershell_quoted completer) (registration_tail variable)
 
-  reads : ReadsWords powershell_quoted line_feeds_as_spaces (quoted_by powershell_word_of) (codes ", ") space (drop 1 script)
+  reads : ReadsWords powershell_quoted (λ text. text) (quoted_by all_quotes_word_of) (codes ", ") space (drop 1 script)
   unfolding after script_head
   reads = record {
     before_more = λ word more. powershell_quoted_before 44 (space ∷ more) (powershell_ends_at_comma (space ∷ more)) word;
@@ -48,11 +47,11 @@ module _ (variable name : List ℕ) (bins : List (List ℕ)) (completer : List �
     is_some = omega arith;
   }
 
-  names_found : safe_powershell_names (safe_powershell variable name bins completer) ≡ Some (map line_feeds_as_spaces bins, drop 14 script)
+  names_found : safe_powershell_names (safe_powershell variable name bins completer) ≡ Some (bins, drop 14 script)
   unfolding safe_powershell_names after_mark after with_front cut_at names_begin script_head
-  names_found = ap safe_powershell_names in_turn ∙ ap (option_and_then (ending_at (codes " -ScriptBlock "))) (listed reads bins)
+  names_found = ap safe_powershell_names in_turn ∙ ap (option_and_then (ending_at (codes " -ScriptBlock "))) (listed reads bins) ∙ ap (λ words. Some (words, drop 14 script)) (map_same bins)
 
-  binaries_found : safe_powershell_binaries (safe_powershell variable name bins completer) ≡ Some (map line_feeds_as_spaces bins)
+  binaries_found : safe_powershell_binaries (safe_powershell variable name bins completer) ≡ Some bins
   unfolding safe_powershell_binaries
   binaries_found = ap (option_map (λ listed. listed.0)) names_found
 
@@ -63,17 +62,18 @@ module _ (variable name : List ℕ) (bins : List (List ℕ)) (completer : List �
   variable_found : safe_powershell_variable (safe_powershell variable name bins completer) ≡ Some v
   unfolding safe_powershell_variable between up_to after_mark after with_front cut_at script_head variable_kept is_identifier_byte
   variable_found =
-      ap (option_and_then (between (codes "$env:") (codes ","))) script_found
-      ∙ ap (option_map (λ c. c.0)) (past_lacking 44 [] v (variable_kept ++ called) (identifier_lacks 44 variable refl))
-      ∙ ap Some (append-nil v)
+      ap (λ found. option_and_then if_identifier (option_and_then (between (codes "$env:") (codes ",")) found)) script_found
+      ∙ ap (λ found. option_and_then if_identifier (option_map (λ c. c.0) found)) (past_lacking 44 [] v (variable_kept ++ called) (identifier_lacks 44 variable refl))
+      ∙ ap if_identifier (append-nil v)
+      ∙ identifier_found variable
 
-  completer_found : safe_powershell_completer (safe_powershell variable name bins completer) ≡ Some (line_feeds_as_spaces completer)
+  completer_found : safe_powershell_completer (safe_powershell variable name bins completer) ≡ Some completer
   unfolding safe_powershell_completer word_after after_mark after with_front cut_at word_by without_blanks script_head variable_kept call_begins call_ends registration_tail powershell_quoted is_identifier_byte
   completer_found =
       let mark = codes "| &" in
       let rest = drop 1 (registration_tail variable) in
       let head = drop 14 script_head in
-      let reader = before_space (quoted_by powershell_word_of) in
+      let reader = before_space (quoted_by all_quotes_word_of) in
       ap (option_and_then (word_after reader mark)) script_found
       ∙ ap (λ found. option_and_then (word_by reader) (option_map (λ c. c.1) found))
       (past_free mark head (v ++ (variable_kept ++ called)) refl

@@ -4,10 +4,11 @@ use Rattle.std.specs.Option.{option_and_then}
 use Rattle.cc_base.specs.Bytes.{line_feed}
 use Rattle.cc_base.specs.Found.{after, after_mark, between, up_to, word_after, word_by}
 use Rattle.cc_base.specs.Joined.{joined}
-use Rattle.cc_registrations.specs.Names.{ending_at, identifier, listed_by}
+use Rattle.cc_registrations.specs.Names.{ending_at, identifier, if_identifier, listed_by}
 use Rattle.cc_registrations.specs.Quoted.{quoted}
 use Rattle.cc_registrations.specs.SafeText.{ReadsSafely, SafeMarks, function_front, function_text, names_line, safe_binaries, safe_completer, safe_function, safe_name, safe_names, safe_text, safe_variable}
 use Rattle.cc_registrations.specs.declared.safe_text.SafeFrame.{SafeFrame}
+use Rattle.cc_registrations.proofs.Identifiers.{identifier_found}
 use Rattle.cc_registrations.proofs.ListedNames.{ReadsWords, listed, map_same}
 use Rattle.cc_registrations.proofs.Regrouped.{regroup_twelve}
 
@@ -55,8 +56,9 @@ module _ {frame : SafeFrame} {marks : SafeMarks} (fits : IsMarked frame marks) (
   unfolding safe_name between
   name_found =
       ap (safe_name marks) in_turn
-      ∙ ap (option_and_then (up_to marks.name_ends)) (fits.begins_name (identifier name ++ listing))
-      ∙ fits.ends_name name (names ++ line_feed ∷ function)
+      ∙ ap (λ found. option_and_then if_identifier (option_and_then (up_to marks.name_ends) found)) (fits.begins_name (identifier name ++ listing))
+      ∙ ap (option_and_then if_identifier) (fits.ends_name name (names ++ line_feed ∷ function))
+      ∙ identifier_found name
 
   names_found : safe_names marks text ≡ Some (bins, function)
   unfolding safe_names after
@@ -81,9 +83,10 @@ module _ {frame : SafeFrame} {marks : SafeMarks} (fits : IsMarked frame marks) (
   variable_found : safe_variable marks text ≡ Some (identifier variable)
   unfolding safe_variable between
   variable_found =
-      ap (option_and_then (between marks.variable_begins marks.variable_ends)) function_found
-      ∙ ap (option_and_then (up_to marks.variable_ends)) (fits.begins_variable name called)
-      ∙ fits.ends_variable variable completed
+      ap (λ found. option_and_then if_identifier (option_and_then (between marks.variable_begins marks.variable_ends) found)) function_found
+      ∙ ap (λ found. option_and_then if_identifier (option_and_then (up_to marks.variable_ends) found)) (fits.begins_variable name called)
+      ∙ ap (option_and_then if_identifier) (fits.ends_variable variable completed)
+      ∙ identifier_found variable
 
   completer_found : safe_completer marks text ≡ Some completer
   unfolding safe_completer word_after

@@ -1,3 +1,4 @@
+pub mod AllQuotes
 pub mod BashRegistration
 pub mod ElvishRegistration
 pub mod FishRegistration

@@ -1,12 +1,12 @@
 -- Names in a registration.
-use Rattle.std.specs.Prelude.{ℕ, suc, zero, Bool, ◌||◌, ◌==◌, if◌then◌else◌, List, [], ◌∷◌, ◌++◌, map, length, Option, Some, None, option_map, codes}
-use Rattle.std.specs.Char.{is_ascii_alphanumeric}
+use Rattle.std.specs.Prelude.{ℕ, suc, zero, Bool, false, not, ◌&&◌, ◌||◌, ◌==◌, if◌then◌else◌, List, [], ◌∷◌, ◌++◌, map, length, Option, Some, None, option_map, codes}
+use Rattle.std.specs.Char.{is_ascii_alphanumeric, is_ascii_digit}
+use Rattle.std.specs.List.{list_all}
 use Rattle.std.specs.Option.{option_and_then}
 use Rattle.cc_base.specs.Bytes.{dash, single_quote, underscore}
 use Rattle.cc_base.specs.Found.{after}
-use Rattle.cc_quote.specs.ElvishQuote.{elvish_escaped}
 use Rattle.cc_quote.specs.Escapes.{replace_byte}
-use Rattle.cc_quote.specs.PowershellQuote.{powershell_escaped}
+use Rattle.cc_registrations.specs.AllQuotes.{all_escaped}
 
 -- a name with `_` for each `-`
 abbrev pub underscored : List ℕ → List ℕ
@@ -22,18 +22,35 @@ is_identifier_byte byte = is_ascii_alphanumeric byte || byte == underscore
 unfoldable pub identifier_byte : ℕ → ℕ
 identifier_byte byte = if is_identifier_byte byte then byte else underscore
 
+-- the text before the bytes: `_` if the text is empty or begins with a digit
+unfoldable pub identifier_front : List ℕ → List ℕ
+identifier_front [] = codes "_"
+identifier_front (byte ∷ _) = if is_ascii_digit byte then codes "_" else []
+
 -- a text as an identifier
 abbrev pub identifier : List ℕ → List ℕ
-identifier text = map identifier_byte text
+identifier text = identifier_front text ++ map identifier_byte text
+
+-- whether a text is an identifier: it is not empty, does not begin with a digit, and has only such
+-- bytes
+unfoldable pub is_identifier : List ℕ → Bool
+is_identifier [] = false
+is_identifier (byte ∷ text) =
+    not (is_ascii_digit byte) && list_all is_identifier_byte (byte ∷ text)
+
+-- a text, if it is an identifier
+unfoldable pub if_identifier : List ℕ → Option (List ℕ)
+if_identifier text = if is_identifier text then Some text else None
 
 -- ---- names one after another
 
--- a text between two `'`, for Elvish and for PowerShell
+-- a text between two `'`, for Elvish: `''` for each `'`
 unfoldable pub elvish_quoted : List ℕ → List ℕ
-elvish_quoted text = codes "'" ++ elvish_escaped text ++ codes "'"
+elvish_quoted text = codes "'" ++ replace_byte single_quote (codes "''") text ++ codes "'"
 
+-- the same for PowerShell: a `'` before each quote
 unfoldable pub powershell_quoted : List ℕ → List ℕ
-powershell_quoted text = codes "'" ++ powershell_escaped text ++ codes "'"
+powershell_quoted text = codes "'" ++ all_escaped text ++ codes "'"
 
 -- some words, with one more word before them
 abbrev pub with_word : List ℕ → Option (List (List ℕ) × List ℕ) → Option (List (List ℕ) × List ℕ)

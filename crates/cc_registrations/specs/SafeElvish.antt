@@ -4,8 +4,7 @@ use Rattle.std.specs.Option.{option_and_then}
 use Rattle.cc_base.specs.Found.{after_mark, between, word_after}
 use Rattle.cc_base.specs.Joined.{joined}
 use Rattle.cc_quote.specs.ElvishQuote.{elvish_word_of}
-use Rattle.cc_quote.specs.QuotedWord.{line_feeds_as_spaces}
-use Rattle.cc_registrations.specs.Names.{before_space, elvish_quoted, ending_at, identifier, listed_by, quoted_by}
+use Rattle.cc_registrations.specs.Names.{before_space, elvish_quoted, ending_at, identifier, if_identifier, listed_by, quoted_by}
 
 -- ---- the text
 
@@ -79,10 +78,11 @@ safe_elvish_binaries text = option_map (λ listed. listed.0) (safe_elvish_names 
 unfoldable pub safe_elvish_function : List ℕ → Option (List ℕ)
 safe_elvish_function text = option_map (λ listed. listed.1) (safe_elvish_names text)
 
--- the variable: in the function, what `e:env` sets to `elvish`
+-- the variable: in the function, the identifier that `e:env` sets to `elvish`
 unfoldable pub safe_elvish_variable : List ℕ → Option (List ℕ)
 safe_elvish_variable text =
-    option_and_then (between (codes " e:env ") (codes "=elvish ")) (safe_elvish_function text)
+    option_and_then if_identifier
+    (option_and_then (between (codes " e:env ") (codes "=elvish ")) (safe_elvish_function text))
 
 -- the completer: in the function, the quoted word after the last variable that is set
 unfoldable pub safe_elvish_completer : List ℕ → Option (List ℕ)
@@ -90,15 +90,15 @@ safe_elvish_completer text =
     option_and_then (word_after (before_space (quoted_by elvish_word_of)) (codes "=$values "))
     (safe_elvish_function text)
 
--- The registration reads back: the variable as an identifier, the programs and the completer with a
--- space for each line feed. This holds for any of them.
+-- The registration reads back: the variable as an identifier, the programs and the completer
+-- unchanged. This holds for any of them.
 pub record SafeElvishReads (variable name : List ℕ) (bins : List (List ℕ)) (completer : List ℕ)
     : Type 0 where
   pub variable_read :
       safe_elvish_variable (safe_elvish variable name bins completer) ≡ Some (identifier variable)
   pub completer_read :
       safe_elvish_completer (safe_elvish variable name bins completer)
-      ≡ Some (line_feeds_as_spaces completer)
+      ≡ Some completer
   pub binaries_read :
       safe_elvish_binaries (safe_elvish variable name bins completer)
-      ≡ Some (map line_feeds_as_spaces bins)
+      ≡ Some bins

@@ -3,9 +3,8 @@ use Rattle.std.specs.Prelude.{⊤, ◌≡◌, ℕ, List, ◌++◌, Option, Some,
 use Rattle.std.specs.Option.{option_and_then}
 use Rattle.cc_base.specs.Found.{after_mark, between, word_after}
 use Rattle.cc_base.specs.Joined.{joined}
-use Rattle.cc_quote.specs.PowershellQuote.{powershell_word_of}
-use Rattle.cc_quote.specs.QuotedWord.{line_feeds_as_spaces}
-use Rattle.cc_registrations.specs.Names.{before_space, ending_at, identifier, listed_by, powershell_quoted, quoted_by}
+use Rattle.cc_registrations.specs.AllQuotes.{all_quotes_word_of}
+use Rattle.cc_registrations.specs.Names.{before_space, ending_at, identifier, if_identifier, listed_by, powershell_quoted, quoted_by}
 
 -- ---- the text
 
@@ -118,7 +117,7 @@ safe_powershell variable name bins completer =
 unfoldable pub safe_powershell_names : List ℕ → Option (List (List ℕ) × List ℕ)
 safe_powershell_names text =
     option_and_then (ending_at (codes " -ScriptBlock "))
-    (option_and_then (listed_by (quoted_by powershell_word_of) (codes ", "))
+    (option_and_then (listed_by (quoted_by all_quotes_word_of) (codes ", "))
     (after_mark (codes "-CommandName ") text))
 
 -- the programs
@@ -129,19 +128,20 @@ safe_powershell_binaries text = option_map (λ listed. listed.0) (safe_powershel
 unfoldable pub safe_powershell_script : List ℕ → Option (List ℕ)
 safe_powershell_script text = option_map (λ listed. listed.1) (safe_powershell_names text)
 
--- the variable: in the script, from the first `$env:` up to `,`
+-- the variable: in the script, the identifier from the first `$env:` up to `,`
 unfoldable pub safe_powershell_variable : List ℕ → Option (List ℕ)
 safe_powershell_variable text =
-    option_and_then (between (codes "$env:") (codes ",")) (safe_powershell_script text)
+    option_and_then if_identifier
+    (option_and_then (between (codes "$env:") (codes ",")) (safe_powershell_script text))
 
 -- the completer: in the script, the quoted word after the first `| &`
 unfoldable pub safe_powershell_completer : List ℕ → Option (List ℕ)
 safe_powershell_completer text =
-    option_and_then (word_after (before_space (quoted_by powershell_word_of)) (codes "| &"))
+    option_and_then (word_after (before_space (quoted_by all_quotes_word_of)) (codes "| &"))
     (safe_powershell_script text)
 
--- The registration reads back: the variable as an identifier, the programs and the completer with a
--- space for each line feed. This holds for any of them.
+-- The registration reads back: the variable as an identifier, the programs and the completer
+-- unchanged. This holds for any of them.
 pub record SafePowershellReads (variable name : List ℕ) (bins : List (List ℕ))
     (completer : List ℕ) : Type 0 where
   pub variable_read :
@@ -149,7 +149,7 @@ pub record SafePowershellReads (variable name : List ℕ) (bins : List (List ℕ
       ≡ Some (identifier variable)
   pub completer_read :
       safe_powershell_completer (safe_powershell variable name bins completer)
-      ≡ Some (line_feeds_as_spaces completer)
+      ≡ Some completer
   pub binaries_read :
       safe_powershell_binaries (safe_powershell variable name bins completer)
-      ≡ Some (map line_feeds_as_spaces bins)
+      ≡ Some bins

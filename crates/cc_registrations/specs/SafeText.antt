@@ -3,7 +3,7 @@ use Rattle.std.specs.Prelude.{◌≡◌, ℕ, List, ◌++◌, Option, Some, map,
 use Rattle.std.specs.Option.{option_and_then}
 use Rattle.cc_base.specs.Found.{after_mark, between, word_after}
 use Rattle.cc_base.specs.Joined.{joined}
-use Rattle.cc_registrations.specs.Names.{ending_at, identifier, listed_by}
+use Rattle.cc_registrations.specs.Names.{ending_at, identifier, if_identifier, listed_by}
 use Rattle.cc_registrations.specs.Quoted.{quoted}
 use Rattle.cc_registrations.specs.declared.safe_text.SafeFrame.{SafeFrame}
 
@@ -49,9 +49,10 @@ pub record SafeMarks : Type 0 where
   -- the word with which a text begins, and the rest
   pub word_of : List ℕ → Option (List ℕ × List ℕ)
 
--- the name, which is part of the function's name
+-- the name, which is an identifier and part of the function's name
 unfoldable pub safe_name : SafeMarks → List ℕ → Option (List ℕ)
-safe_name marks text = between marks.name_begins marks.name_ends text
+safe_name marks text =
+    option_and_then if_identifier (between marks.name_begins marks.name_ends text)
 
 -- the programs, which are the last words of the first line, and the text after that line
 unfoldable pub safe_names : SafeMarks → List ℕ → Option (List (List ℕ) × List ℕ)
@@ -67,10 +68,11 @@ safe_binaries marks text = option_map (λ listed. listed.0) (safe_names marks te
 unfoldable pub safe_function : SafeMarks → List ℕ → Option (List ℕ)
 safe_function marks text = option_map (λ listed. listed.1) (safe_names marks text)
 
--- the variable
+-- the variable, which is an identifier
 unfoldable pub safe_variable : SafeMarks → List ℕ → Option (List ℕ)
 safe_variable marks text =
-    option_and_then (between marks.variable_begins marks.variable_ends) (safe_function marks text)
+    option_and_then if_identifier
+    (option_and_then (between marks.variable_begins marks.variable_ends) (safe_function marks text))
 
 -- the completer
 unfoldable pub safe_completer : SafeMarks → List ℕ → Option (List ℕ)

@@ -17,6 +17,7 @@
 //! ```
 #![tactic(auto)]
 
+mod all_quotes;
 mod bash;
 mod elvish;
 mod fish;

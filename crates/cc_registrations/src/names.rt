@@ -1,8 +1,9 @@
 //! Names in a registration.
 
-ghost use Rattle.std.specs.Prelude.{◌≡◌, ◌++◌};
+ghost use Rattle.std.specs.Prelude.{◌≡◌, ◌++◌, map};
 ghost use Rattle.cc_base.specs.Writes.{Writes, as_write};
-ghost use Rattle.cc_registrations.specs.Names.{identifier, identifier_byte, underscored};
+ghost use Rattle.cc_registrations.specs.Names.{identifier, identifier_byte, identifier_front};
+ghost use Rattle.cc_registrations.specs.Names.{underscored};
 
 use cc_base::{Error, Sink, put_all, put_text};
 use cc_quote::{Replace, put_escaped};
@@ -20,10 +21,18 @@ pub(crate) fn put_underscored<W: Sink>(sink: &mut W, name: &str) -> Result<(), E
 }
 
 /// Writes `text` as an identifier, with `_` for each byte that is not an ASCII letter, a digit or
-/// `_`.
-#[tactic(auto, using(crate::proofs::InLoops::in_bytes))]
+/// `_`, and before a digit at the start. An empty text becomes `_`.
 pub(crate) fn put_identifier<W: Sink>(sink: &mut W, text: &str) -> Result<(), Error>
     ensures { Writes W.taken W.failed result sink.old sink.new (identifier text.now) }
+{
+    put_text(sink, identifier_front(text))?;
+    put_identifier_bytes(sink, text)
+}
+
+// Writes the byte of an identifier for each byte of `text`.
+#[tactic(auto, using(crate::proofs::InLoops::in_bytes))]
+fn put_identifier_bytes<W: Sink>(sink: &mut W, text: &str) -> Result<(), Error>
+    ensures { Writes W.taken W.failed result sink.old sink.new (map identifier_byte text.now) }
 {
     for byte in text.as_bytes() {
         put_all(sink, &[identifier_byte(*byte)])?;
@@ -41,6 +50,18 @@ pub(crate) fn put_identifier_after<W: Sink>(
 {
     put_text(sink, before)?;
     put_identifier(sink, text)
+}
+
+// Returns `_` if `text` is empty or begins with a digit, and otherwise no text.
+#[tactic(auto, unfolding(crate::specs::Names::identifier_front))]
+fn identifier_front(text: &str) -> &'static str
+    ensures { result.now ≡ identifier_front text.now }
+{
+    match text.as_bytes() {
+        [] => "_",
+        [byte, ..] if byte.is_ascii_digit() => "_",
+        _ => "",
+    }
 }
 
 // Returns the byte, or `_` if it may not occur in an identifier.

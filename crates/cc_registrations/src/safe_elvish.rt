@@ -41,7 +41,8 @@ const CALL_ENDS: &str = " -- $@words
 
 /// Writes the safe registration for Elvish, with which the shell asks `completer` for candidates of
 /// the programs `bins`. `variable` requests completions. It is written as an identifier, with `_`
-/// for each byte that is not an ASCII letter, a digit or `_`. The text does not use `name`.
+/// for each byte that is not an ASCII letter, a digit or `_`, and before a digit at the start. An
+/// empty one becomes `_`. The text does not use `name`.
 ///
 /// # Errors
 ///

@@ -75,8 +75,8 @@ const SCRIPT_ENDS: &str = ", $env:_COMPLGEN_VALUES, $env:_COMPLGEN_QUOTE = $befo
 
 /// Writes the safe registration for PowerShell, with which the shell asks `completer` for
 /// candidates of the programs `bins`. `variable` requests completions. It is written as an
-/// identifier, with `_` for each byte that is not an ASCII letter, a digit or `_`. The text does
-/// not use `name`.
+/// identifier, with `_` for each byte that is not an ASCII letter, a digit or `_`, and before a
+/// digit at the start. An empty one becomes `_`. The text does not use `name`.
 ///
 /// # Errors
 ///

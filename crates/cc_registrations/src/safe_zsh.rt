@@ -72,7 +72,7 @@ fn frame() -> SafeFrame<'static>
 /// Writes the safe registration for zsh, with which the shell asks `completer` for candidates of
 /// the programs `bins`. `variable` requests completions, and `name` is part of the function's name.
 /// Both are written as identifiers, with `_` for each byte that is not an ASCII letter, a digit or
-/// `_`.
+/// `_`, and before a digit at the start. An empty one becomes `_`.
 ///
 /// # Errors
 ///

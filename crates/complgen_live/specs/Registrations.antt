@@ -20,7 +20,7 @@ abbrev pub registration_of : SafeShell → List ℕ → List (List ℕ) → List
 registration_of safe completer names =
     safe_registration safe.shell variable own_name names completer
 
--- what the registration reads back to: its variable, its completer, and the names if they are plain
+-- what the registration reads back to: its variable, its completer and the names
 abbrev pub RegistrationReads : SafeShell → List ℕ → List (List ℕ) → Type 0
 RegistrationReads safe completer names = SafeReads safe.shell variable own_name names completer
 

@@ -54,9 +54,10 @@ extern "C" {
     /// - `completer` is the program that the shell runs: a name that is looked up in `PATH`, or a
     ///   path.
     ///
-    /// The safe set quotes `bin` and `completer`, and writes the other two with `_` for each byte
-    /// that is not an ASCII letter, a digit or `_`. The original's set writes `variable` and `name`
-    /// without quotes, and in bash also `bin`. So pass only plain names there.
+    /// The safe set quotes `bin` and `completer`, and writes the other two as identifiers: with `_`
+    /// for each byte that is not an ASCII letter, a digit or `_`, and before a digit at the start.
+    /// An empty one becomes `_`. The original's set writes `variable` and `name` without quotes,
+    /// and in bash also `bin`. So pass only plain names there.
     ///
     /// The `status` is:
     ///

@@ -1,7 +1,7 @@
 use Rattle.std.proofs.Common.{drop, map}
 use Rattle.cc_base.proofs.WrittenTexts.{GoesOn}
 use Rattle.cc_registrations.specs.Names.{identifier_byte}
-use Rattle.cc_registrations.proofs.names.put_identifier.Given as goal
+use Rattle.cc_registrations.proofs.names.put_identifier_bytes.Given as goal
 
 abbrev pub invariant-loop-byte : goal.invariant-loop-byte
 invariant-loop-byte g l =
