@@ -1,8 +1,8 @@
 //! Answers requests of shells: writes the registration of all programs that have a tree file, the
 //! candidates for a word of one of them, or the words of a command that lists them.
 
-use crate::contents;
 use crate::output::{buffered, flush};
+use crate::{as_bytes, contents};
 use cc_base::{Error, Sink};
 use cc_candidates::{Folder, RealFolder};
 use cc_command::Release;
@@ -90,10 +90,12 @@ fn write_requested<R: Env + Files + Input + Eprint + AllocGlobal, D: Folder, W: 
     out: &mut W,
 ) -> Result<u8, Refusal> {
     let current = env::current_dir(rt).ok();
-    let current_dir = current.as_ref().map(|path| path.as_str());
-    let called = request_words(words).and_then(|words| words.first());
-    let Some(word) = called else {
-        let program = words.first().map_or("complgen", |program| program.as_str());
+    let current_dir = match &current {
+        Some(path) => Some(path.as_str()),
+        None => None,
+    };
+    let Some([word, ..]) = request_words(words) else {
+        let program = called_as(words);
         return match write_known(rt, env, program, current_dir, folder, folders, out) {
             Ok(()) => Ok(0),
             Err(error) => Err(error_refusal(rt.alloc(), &error)),
@@ -101,6 +103,14 @@ fn write_requested<R: Env + Files + Input + Eprint + AllocGlobal, D: Folder, W: 
     };
     let file = tree_file(rt, folders, word.as_str())?;
     write_answer(rt, env, words, &file, current_dir, folder, out)
+}
+
+// Returns the name by which the program was called.
+fn called_as(words: &[String]) -> &str {
+    match words {
+        [program, ..] => program.as_str(),
+        [] => "complgen",
+    }
 }
 
 // Writes the answer to a request for candidates, over a tree file. Returns the exit status.
@@ -115,7 +125,7 @@ fn write_answer<'r, R: Files + Input + AllocGlobal, D: Folder, W: Sink>(
 ) -> Result<u8, Refusal> {
     let path = tree.path.as_str();
     let origin = Origin::File(path);
-    let file = tree.bytes.as_ref().map(Vec::as_slice);
+    let file = as_bytes(&tree.bytes);
     let request = Request {
         env,
         words,
@@ -193,11 +203,10 @@ fn tree_file<R: Files + AllocGlobal>(
 ) -> Result<TreeFile, AllocError> {
     let alloc = rt.alloc();
     for path in tree_paths(alloc, folders, word)? {
-        if let Some(bytes) = contents(rt, path.as_str()).map_err(|_| AllocError)? {
-            return Ok(TreeFile {
-                path,
-                bytes: Some(bytes),
-            });
+        match contents(rt, path.as_str()) {
+            Ok(None) => {}
+            Ok(bytes) => return Ok(TreeFile { path, bytes }),
+            Err(_) => return Err(AllocError),
         }
     }
     built_in(alloc, word)

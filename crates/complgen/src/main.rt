@@ -62,11 +62,22 @@ fn contents<R: Files + AllocGlobal>(rt: &R, path: &str) -> Result<Option<Vec<u8>
     }
 }
 
+// Returns the bytes of a file that could be read.
+fn as_bytes(contents: &Option<Vec<u8>>) -> Option<&[u8]> {
+    match contents {
+        Some(bytes) => Some(bytes.as_slice()),
+        None => None,
+    }
+}
+
 // Returns the bytes of the file at `path`. The list has room for them from the start, because
 // growing it takes 3 % of the instructions of a script.
 fn read_whole<R: Files + AllocGlobal>(rt: &R, path: &str) -> io::Result<Vec<u8>> {
     let mut file = fs::open(rt, path)?;
-    let size = file.metadata().map_or(0, |about| about.len());
+    let size = match file.metadata() {
+        Ok(about) => about.len(),
+        Err(_) => 0,
+    };
     // One byte more shows the end of the file without another growth.
     let room = size.min(MOST_ROOM) as usize + 1;
     let mut bytes = Vec::with_capacity(rt.alloc(), room)?;

@@ -1,7 +1,7 @@
 //! Carries out the plans of the command line over the files of the machine.
 
-use crate::contents;
 use crate::output::{buffered, flush};
+use crate::{as_bytes, contents};
 use cc_candidates::{Folder, RealFolder};
 use cc_replies::home;
 use complgen_plans::{Inputs, carry_out};
@@ -24,8 +24,8 @@ pub(crate) fn carry_out_plan<R: Env + Files + Print + AllocGlobal>(
     let values = values(rt, plan)?;
     let folder = RealFolder::new(rt, home_for(rt, plan)?);
     let inputs = Inputs {
-        tree: tree.as_ref().map(Vec::as_slice),
-        values: values.as_ref().map(Vec::as_slice),
+        tree: as_bytes(&tree),
+        values: as_bytes(&values),
         folder: &folder,
     };
     print(rt, plan, &inputs)

@@ -139,7 +139,12 @@ fn write_titled_values<'a, W: Sink>(
 fn has_shown_value(values: &[PossibleValue]) -> bool
     ensures { result ≡ list_any is_shown_value values.now }
 {
-    values.iter().any(|value| is_shown_value(value))
+    for value in values {
+        if is_shown_value(value) {
+            return true;
+        }
+    }
+    false
 }
 
 fn is_shown_value(value: &PossibleValue) -> bool

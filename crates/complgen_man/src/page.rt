@@ -172,7 +172,12 @@ fn write_titled_options<W: Sink>(sink: &mut W, root: &Command) -> Result<(), Err
 fn has_shown_argument(arguments: &[Arg]) -> bool
     ensures { result ≡ list_any is_shown_argument arguments.now }
 {
-    arguments.iter().any(|argument| !argument.is_hide_set())
+    for argument in arguments {
+        if !argument.is_hide_set() {
+            return true;
+        }
+    }
+    false
 }
 
 #[tactic(auto, unfolding(crate::specs::Page::commands_section))]

@@ -54,7 +54,12 @@ fn options_mark(arguments: &[Arg]) -> &'static str
 fn has_shown_option(arguments: &[Arg]) -> bool
     ensures { result ≡ list_any is_shown_option arguments.now }
 {
-    arguments.iter().any(|argument| is_shown_option(argument))
+    for argument in arguments {
+        if is_shown_option(argument) {
+            return true;
+        }
+    }
+    false
 }
 
 // Returns the placeholder for subcommands, or an empty text if all of them are hidden.
