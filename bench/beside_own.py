@@ -1,7 +1,7 @@
 #!/usr/bin/env python3
 """Measures the milliseconds of a Tab in programs that have a completion of their own: by it, and by `complgen`.
 
-    bench/beside_own.py [--shells bash,zsh,fish] [--runs N] [--programs gh,hcloud,restic]
+    bench/beside_own.py [--shells bash,zsh,fish] [--runs N] [--programs gh,hcloud,restic] [--typed]
 
 The programs are those of Debian's packages gh, hcloud-cli and restic. Their own completion starts the program at each
 Tab. For `complgen`, `complgen-import --walk` makes a tree file of each program first. tests/shells.py runs the shells
@@ -13,8 +13,14 @@ in a pseudo terminal, with an empty home. The columns are these:
 - own: the same, by the script that the program writes.
 
 A time is the median of N runs, by default 30, from the Tab until the shell has written its command line into a file.
-The last line has the versions of the programs. The status is 1 if a line was not completed as expected, or if no
-program is installed.
+The last line has the versions of the programs.
+
+With --typed, nothing is measured. The command line begins with the program and the word `$(touch hit)`, and the columns
+say whether a Tab at the word behind them ran `touch hit`: by live completion, by the script of `complgen`, and by the
+program's own script.
+
+The status is 1 if a line was not completed as expected, if `touch hit` ran by `complgen`, or if no program is
+installed.
 """
 
 import argparse
@@ -49,10 +55,14 @@ def main():
         shells.write(os.path.join(scratch.here, "odd-file"), "")
         for name in names:
             make_tree(scratch, name)
-        print(f"{'shell':<8}{'program':<9}" + "".join(f"{it:>10}" for it in ("none", "complgen", "own")), flush=True)
+        columns = ("live", "script", "own") if options.typed else ("none", "complgen", "own")
+        print(f"{'shell':<8}{'program':<9}" + "".join(f"{it:>10}" for it in columns), flush=True)
         for shell in options.shells.split(","):
             for name in names if common.is_installed(shell) else []:
-                good &= measure_program(scratch, shell, name, options.runs)
+                if options.typed:
+                    good &= type_command(scratch, shell, name)
+                else:
+                    good &= measure_program(scratch, shell, name, options.runs)
         print("; ".join(version(name) for name in names))
     finally:
         scratch.remove()
@@ -64,6 +74,7 @@ def arguments():
     parser.add_argument("--shells", default="bash,zsh,fish")
     parser.add_argument("--programs", default=",".join(PROGRAMS))
     parser.add_argument("--runs", type=int, default=30)
+    parser.add_argument("--typed", action="store_true")
     return parser.parse_args()
 
 
@@ -87,6 +98,25 @@ def measure_program(scratch, shell, name, runs):
     times.update(found)
     print(f"{shell:<8}{name:<9}" + "".join(f"{times[it]:10.1f}" for it in ("none", "complgen", "own")), flush=True)
     return good and as_expected
+
+
+def type_command(scratch, shell, name):
+    """Prints whether a typed command runs at a Tab. Returns whether it did not by `complgen`."""
+    path = os.path.join(scratch.trees, name + ".json")
+    script = scratch.printed("script", "--shell", shell, "--bin", name, path)
+    loaded = {
+        "live": (scratch.written(shell), ONLY.get(shell, "")), "script": (script, ONLY.get(shell, "")),
+        "own": (own_script(scratch, shell, [name, *PROGRAMS[name][2]]), setup_of_own(shell)),
+    }
+    ran = {}
+    for column, (text, setup) in loaded.items():
+        terminal = shells.started(shell, scratch, text, setup)
+        scratch.marks(scratch.here, ["odd-file"])
+        terminal.tab(f"{name} $(touch hit) --he")
+        terminal.close()
+        ran[column] = bool(scratch.marks(scratch.here, ["odd-file"]))
+    print(f"{shell:<8}{name:<9}" + "".join(f"{'ran' if it else '-':>10}" for it in ran.values()), flush=True)
+    return not ran["live"] and not ran["script"]
 
 
 def own_script(scratch, shell, words):
