@@ -32,7 +32,7 @@ import sys
 import common
 import source
 
-NAMES = ("PROOFS", "SECURITY", "DEFINITIONS", "LIBRARY", "EXTENDING", "TREE_FILE", "LIVE", "COMPLGEN", "TERMS")
+NAMES = ("PROOFS", "SECURITY", "LIBRARY", "EXTENDING", "TREE_FILE", "LIVE", "COMPLGEN", "TERMS")
 PAGES = [os.path.join("docs", f"{it}.md") for it in NAMES] + ["README.md"]
 # Tests, their trees and callers that show how contracts are used.
 NO_LIBRARY = {
@@ -43,12 +43,12 @@ DEFINED = re.compile(r"^(?:(?:pub|abbrev|unfoldable|data|record) +)+(\w+)\b", re
 HEAD = """# Clauses
 
 This page lists what each public function of the library crates ensures. docs/PROOFS.md explains what a clause is, and
-docs/DEFINITIONS.md what the main definitions mean.
+`tools/definitions.py` lists the definitions with their meanings.
 
 - A clause has the name after `ensures`. "the clause" is one without a name.
 - The last column has the definitions in `crates/*/specs` whose names are in the text of the clause. If it is empty, the
   clause compares values alone, or cites only definitions of the toolchain and its libraries, such as `OnOk`.
-  `grep -rnw NAME crates/*/specs` finds a definition, often with a comment.
+  `tools/definitions.py NAME` prints a definition with its comment.
 - A method is listed under its type, or under its trait if the trait states the clauses. `Sink::put of Held` is a
   method of a trait with clauses of its own for this type.
 - A precondition, `requires`, is in CALLS.md, which `tools/calls.py` writes. A function that is not listed has no
