@@ -2,9 +2,10 @@
 """Checks what the documents name, and how long sentences and pages are.
 
     tools/documents.py [--sentences]
+    tools/documents.py --run [PAGE..]
 
-The documents are the pages at the top, those of docs/, and each README.md of bench/, examples/, importer/,
-packages/, release/ and tests/.
+The documents are the pages at the top, those of docs/, and each README.md of examples/, importer/, packages/, release/
+and tests/.
 
 - Each code block in Rattle or Rust is in a file of crates/ or examples/, line by line, at any indentation.
   What it imports is imported there.
@@ -17,6 +18,10 @@ packages/, release/ and tests/.
 The script prints how many sentences of each page have more than 30 words, and with --sentences these
 sentences. It prints the number of words of all pages, and then what does not hold. The status is 0 if all of it holds,
 whatever the sentences are.
+
+With --run, it runs each command of the pages once, or of each PAGE, in a fresh clone with an empty home, and compares
+what it prints. tools/pages.py lists what is not run, such as what takes an hour. It needs the proved `complgen`, and
+takes some minutes. The status is 0 if each command ends and prints what its page says.
 """
 
 import functools
@@ -34,6 +39,9 @@ LONG_SENTENCE = 30
 
 
 def main():
+    if "--run" in sys.argv:
+        import pages as runner
+        return runner.run([it for it in sys.argv[1:] if it != "--run"] or pages())
     found, long = [], {}
     for page in pages():
         lines = lines_of(page)
