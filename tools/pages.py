@@ -36,11 +36,11 @@ LEFT_OUT = [(re.compile(pattern), reason) for pattern, reason in (
     (r"^(app __|app generate-tree|javac? |node |python3 -m lagvtsune\.argparse borg|python3 -m lagvtsune\.click --short)",
      "needs the library: tests/exporters.py tries it"),
 )]
-# The programs that the pages use as examples. The text of `app --help` has two commands and, with those of its
-# command `remote`, five options.
+# The programs that the pages use as examples. `app` has two commands and, with two of its command `remote`, five
+# options.
 APP = """#!/bin/sh
 case $1 in
-    remote) printf 'Usage: app remote [OPTIONS]\\n\\nOptions:\\n  -v, --verbose  Print more\\n  -h, --help     Print help\\n' ;;
+    remote) printf 'Usage: app remote [OPTIONS]\\n\\nOptions:\\n  -a, --all    Name hidden ones\\n  -f, --force  Ask nothing\\n  -h, --help   Print help\\n' ;;
     *) printf 'Usage: app [OPTIONS] [COMMAND]\\n\\nCommands:\\n  remote  Names other places\\n  commit  Keeps a change\\n'
        printf '\\nOptions:\\n  -C <DIR>       Work there\\n  -v, --verbose  Print more\\n  -h, --help     Print help\\n' ;;
 esac
@@ -180,7 +180,7 @@ class Page:
         """Returns what a line needs that is not installed, or an empty text."""
         called = re.search(r"complgen-import ((?:-\S+ )*)([a-z][a-z ]*)$", line.partition("#")[0].strip())
         names = called[2].split() if called and "--texts" not in line else []
-        names += ["zsh"] if "compinit" in line else []
+        names += ["zsh"] if "compinit" in line else ["zsh", "fish"] if names == ["tar"] else []
         names += ["man"] if line.startswith("man ") else []
         absent = [name for name in names if not shutil.which(name, path=self.environment()["PATH"])]
         if "lagvtsune.click" in line and subprocess.run(
