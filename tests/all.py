@@ -101,6 +101,7 @@ def listed() -> List[Test]:
         tested([], [], "tools/calls.py", "--check"), tested([], [], "tools/clauses.py", "--check"),
         tested([], [], "tools/keys.py", "--check"), tested([], [], "tools/rows.py"), tested([], [], "release/declarations.py"),
         tested(complgen, ["bash", "zsh", "fish"], "tools/demo.py", "--check"),
+        tested(complgen, ["git"], "tools/documents.py", "--run"),
     ]
     return runs + [Test(words.split(), why) for words, why in LEFT_OUT]
 

@@ -178,8 +178,9 @@ class Page:
 
     def missing(self, line):
         """Returns what a line needs that is not installed, or an empty text."""
-        called = re.search(r"complgen-import ((?:-\S+ )*)([a-z][a-z ]*)$", line.partition("#")[0].strip())
-        names = called[2].split() if called and "--texts" not in line else []
+        words = re.sub(r"--(out-dir|flag|seconds|depth|jobs) \S+ ", "", line.partition("#")[0]).strip()
+        called = re.search(r"complgen-import (?:-\S+ )*([a-z][a-z ]*)$", words)
+        names = called[1].split() if called and "--texts" not in line else []
         names += ["zsh"] if "compinit" in line else ["zsh", "fish"] if names == ["tar"] else []
         names += ["man"] if line.startswith("man ") else []
         absent = [name for name in names if not shutil.which(name, path=self.environment()["PATH"])]
