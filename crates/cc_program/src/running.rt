@@ -12,7 +12,7 @@ ghost use Rattle.cc_program.specs.declared.streams.Streams.{Streams as StreamsOf
 
 use crate::environment::{directories, environment};
 use crate::failure::Failure;
-use crate::run_over::{Program, run_over};
+use crate::over_values::{Program, run_over};
 use crate::streams::{ErrorWriter, Streams};
 use crate::word_parser::ClapParser;
 use cc_base::{CandidateSources, Counted, Error};

@@ -3,7 +3,7 @@ use Rattle.std.proofs.lemmas.Result.{err_from_is_err_and}
 use Rattle.cc_command.specs.Tree.{Tree}
 use Rattle.cc_program.specs.Statuses.{not_made, out_of_memory}
 use Rattle.cc_program.proofs.Ends.{parsed_by}
-use Rattle.cc_program.proofs.run_over.parse_made.Goals as goal
+use Rattle.cc_program.proofs.over_values.parse_made.Goals as goal
 
 pub returns-in_err-tree : goal.returns-in_err-tree
 returns-in_err-tree g c =

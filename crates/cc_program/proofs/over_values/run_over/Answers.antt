@@ -2,7 +2,7 @@ use Rattle.std.proofs.Common.{Err, Ok, Some, refl}
 use Rattle.cc_program.specs.Statuses.{completed, parsed}
 use Rattle.cc_program.proofs.Ends.{parse_untouched}
 use Rattle.cc_program.proofs.Requested.{error_requested, none_of, some_of}
-use Rattle.cc_program.proofs.run_over.run_over.Goals as goal
+use Rattle.cc_program.proofs.over_values.run_over.Goals as goal
 
 pub returns-in-Err : goal.returns-in-Err
 returns-in-Err g c =
