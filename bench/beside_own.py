@@ -25,7 +25,6 @@ installed.
 
 import argparse
 import os
-import shutil
 import subprocess
 import sys
 
@@ -35,12 +34,12 @@ import common
 import shells
 from git_tab import ONLY, measure
 
-# The line to type, the end of the completed line, and the words that print the program's own script, or write it into
-# the file `own`, and those that print its version.
+# The line to type, the end of the completed line, the words that print the program's own script, or write it into the
+# file `own`, and Debian's package.
 PROGRAMS = {
-    "gh": ("gh issue lis", "list", ["completion", "-s", "{}"], ["--version"]),
-    "hcloud": ("hcloud server lis", "list", ["completion", "{}"], ["version"]),
-    "restic": ("restic snapsh", "snapshots", ["generate", "--{}-completion", "own"], ["version"]),
+    "gh": ("gh issue lis", "list", ["completion", "-s", "{}"], "gh"),
+    "hcloud": ("hcloud server lis", "list", ["completion", "{}"], "hcloud-cli"),
+    "restic": ("restic snapsh", "snapshots", ["generate", "--{}-completion", "own"], "restic"),
 }
 NONE = ("nothing odd-fi", "odd-file")
 BASH_COMPLETION = "/usr/share/bash-completion/bash_completion"
@@ -63,7 +62,7 @@ def main():
                     good &= type_command(scratch, shell, name)
                 else:
                     good &= measure_program(scratch, shell, name, options.runs)
-        print("; ".join(version(name) for name in names))
+        print(", ".join(version(name) for name in names))
     finally:
         scratch.remove()
     return 0 if good else 1
@@ -139,9 +138,10 @@ def setup_of_own(shell):
 
 
 def version(name):
-    """Returns a program's name and the first line of what it prints about its version."""
-    ran = subprocess.run([name, *PROGRAMS[name][3]], stdout=subprocess.PIPE, stderr=subprocess.STDOUT, text=True)
-    return f"{os.path.basename(shutil.which(name))}: {ran.stdout.strip().splitlines()[0]}"
+    """Returns a program's name, and the version of its package if it is Debian's."""
+    ran = subprocess.run(["dpkg-query", "-W", PROGRAMS[name][3]], stdout=subprocess.PIPE, stderr=subprocess.DEVNULL,
+                         text=True)
+    return ran.stdout.strip().replace("\t", " ") or name
 
 
 if __name__ == "__main__":
