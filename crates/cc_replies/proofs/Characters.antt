@@ -8,7 +8,7 @@ use Rattle.std.specs.List.{AllByRecursion}
 use Rattle.std.specs.Prelude.{nat_le}
 use Rattle.cc_quote.specs.Escapes.{escaped_by, escaped_byte}
 
-char_count-cons : (byte : ℕ) (text : List ℕ) → char_count (byte ∷ text) ≡ cond (is_char_start byte) 1 0 + char_count text
+pub char_count-cons : (byte : ℕ) (text : List ℕ) → char_count (byte ∷ text) ≡ cond (is_char_start byte) 1 0 + char_count text
 unfolding char_count
 char_count-cons byte text = refl
 

@@ -11,6 +11,7 @@ pub mod GivenEntries
 mod GivenExamples
 pub mod InLoops
 mod ListExamples
+pub mod ListFits
 pub mod ListReadings
 pub mod ListWidths
 mod Named

@@ -1,11 +1,11 @@
 -- The lines of bash's list are read back, and two of them differ.
-use Rattle.std.proofs.Common.{◌≡◌, ◌≢◌, ◌⊎◌, ◌==◌, ◌&&◌, ◌-◌, ℕ, zero, suc, Bool, true, false, cond, List, [], ◌∷◌, ◌++◌, Option, Some, None, map, filter, option_map, replicate, codes, inl, inr, refl, sym, ◌∙◌, ap, ap₂, subst, arith, append-nil, flat_map, ◌||◌}
-use Rattle.std.proofs.lemmas.Bool.{and_parts, ne_eqb, or_parts}
+use Rattle.std.proofs.Common.{◌≡◌, ◌≢◌, ◌⊎◌, ◌==◌, ◌&&◌, ◌≤◌, ◌+◌, ◌-◌, ℕ, zero, suc, Bool, true, false, cond, List, [], ◌∷◌, ◌++◌, Option, Some, None, map, filter, option_map, replicate, codes, inl, inr, refl, sym, ◌∙◌, ap, ap₂, subst, arith, append-nil, flat_map, ◌||◌}
+use Rattle.std.proofs.lemmas.Bool.{and_from, and_parts, ne_eqb, or_parts}
 use Rattle.std.proofs.lemmas.List.Folds.{Any-from_list_any}
 use Rattle.std.proofs.lemmas.Slice.Eq.{bytes_eq-Decides}
-use Rattle.std.specs.List.{find, list_all, list_any}
+use Rattle.std.specs.List.{AllByRecursion, find, list_all, list_any}
 use Rattle.std.specs.Option.{option_and_then}
-use Rattle.std.specs.Prelude.{bytes_eq, nat_le, nat_lt, not}
+use Rattle.std.specs.Prelude.{bytes_eq, is_some, nat_le, nat_lt, not}
 use Rattle.std.specs.Fmt.{char_count, take_chars}
 use Rattle.cc_base.specs.Bytes.{backslash, backtick, dollar, line_feed, single_quote}
 use Rattle.cc_base.specs.Found.{after, with_front}
@@ -16,15 +16,16 @@ use Rattle.cc_base.proofs.Members.{AllByRecursion-append, Contains-from_IsIn, Is
 use Rattle.cc_candidates.specs.declared.candidate.CompletionCandidate.{CompletionCandidate}
 use Rattle.cc_quote.specs.BashDouble.{is_double_marked}
 use Rattle.cc_quote.specs.Escapes.{marked}
-use Rattle.cc_replies.specs.BashList.{BashListRead, HasTwo, bash_list_in, bash_list_reply, before_closing, closed_word, closing_quote, cut_description, described_text, description_of, description_read, has_other, has_two, is_escape, is_listed_word, list_line, list_line_read, list_room, longest_word, shown_in, shown_with, space, width_left, word_cut, word_end}
+use Rattle.cc_replies.specs.BashList.{BashListRead, Fits, HasDescription, HasTwo, bash_list_in, bash_list_reply, before_closing, closed_word, closing_quote, cut_description, described_text, description_of, description_read, has_other, has_two, is_described, is_escape, is_listed_word, list_line, list_line_read, list_room, longest_word, shown_in, shown_with, space, width_left, word_cut, word_end}
 use Rattle.cc_replies.specs.BashWords.{Cursor, OpenQuote, Bare, Single, Double, bare_read, bare_text, bare_word_read, bash_line_word, bash_text, bash_value_read, bash_word_line, bash_words_reply, double_read, holds, is_bare_marked, is_bash_insertable, is_single_lost, single_read, start_text, word_read}
 use Rattle.cc_replies.specs.Reply.{Shown, lines_from}
 use Rattle.cc_replies.specs.SafeValues.{is_in_locale, read_in_locale, safe_help}
 use Rattle.cc_replies.proofs.BashReadings.{is_written, start_cases}
 use Rattle.cc_replies.proofs.Characters.{take_chars_all}
 use Rattle.cc_replies.proofs.FirstLines.{IsWithout}
+use Rattle.cc_replies.proofs.ListFits.{line_fits, most_of, room_is}
 use Rattle.cc_replies.proofs.ReplyReadings.{IsHelpWithout, false_not}
-use Rattle.cc_replies.proofs.SafeReadings.{ReadsLine, feed_first, lines_back, safe_help_without}
+use Rattle.cc_replies.proofs.SafeReadings.{ReadsLine, each_line, feed_first, lines_back, safe_help_without}
 
 -- ---- the end of a word
 
@@ -335,6 +336,55 @@ module _ (cursor : Cursor) where
           (λ candidate. Some (shown_as candidate.value (option_map (cut_description room) (description_of cursor.ascii_only candidate.help)))) inserts
           (list_line cursor longest room) (line_reads longest room) candidates
 
+  -- ---- the width
+
+  -- a line whose word stands alone has no description
+  word_alone_fits : (text value : List ℕ) → read text ≡ Some (shown_as value None) → Fits cursor text
+  word_alone_fits text value reads has = let none : false ≡ true = subst (λ item. HasDescription item) reads has in cc
+
+  list_fits : (longest room : ℕ) (candidates : List CompletionCandidate) → longest ≡ longest_word cursor candidates
+      → ((room == 0) ≡ false → (room ≡ cursor.width - (longest + 4)) × (22 ≤ room))
+      → AllByRecursion (Fits cursor) (lines_from [] (bash_list_in cursor longest room candidates))
+  unfolding lines_from list_line
+  list_fits longest room candidates most is = by_test (room == 0) is
+    where
+      described : (candidate : CompletionCandidate) → IsIn candidates candidate → inserts candidate ≡ true → (description : List ℕ)
+          → description_of cursor.ascii_only candidate.help ≡ Some description → char_count (closed_word cursor candidate.value) ≤ longest
+      described candidate is_in e description found =
+          let passes = and_from (inserts candidate) (is_some (description_of cursor.ascii_only candidate.help)) e (ap is_some found) in
+          subst (λ n. char_count (closed_word cursor candidate.value) ≤ n) (sym most)
+          (most_of (λ candidate. char_count (closed_word cursor candidate.value)) (filter (is_described cursor) candidates) candidate
+          (IsIn-filter (is_described cursor) candidates candidate is_in passes))
+
+      one : (room ≡ cursor.width - (longest + 4)) × (22 ≤ room) → (candidate : CompletionCandidate) → IsIn candidates candidate
+          → (e : inserts candidate ≡ true) → Fits cursor (line_reads longest room candidate e).body
+      one wide candidate is_in e = elim (option_cases (description_of cursor.ascii_only candidate.help)) [
+        | inl found ↦ λ has.
+            line_fits cursor.width longest room (closed_word cursor candidate.value) found.0 (line_reads longest room candidate e).body
+            (sym (line_reads longest room candidate e).whole ∙ ap line_with found.1)
+            (described candidate is_in e found.0 found.1) wide.1 wide.0
+        | inr none ↦
+            word_alone_fits (line_reads longest room candidate e).body candidate.value
+            ((line_reads longest room candidate e).reads ∙ ap (λ description. Some (shown_as candidate.value (option_map (cut_description room) description))) none)
+      ]
+        where
+          line_with : Option (List ℕ) → List ℕ
+          line_with description = elim description [
+            | Some d ↦ described_text (closed_word cursor candidate.value) longest (cut_description room d) ++ codes "\n"
+            | None ↦ bash_word_line cursor candidate.value
+          ]
+
+      by_test : (b : Bool) → (b ≡ false → (room ≡ cursor.width - (longest + 4)) × (22 ≤ room))
+          → AllByRecursion (Fits cursor) (lines_from [] (cond b (bash_words_reply cursor candidates) (flat_map (list_line cursor longest room) (filter inserts candidates))))
+      by_test true is =
+          each_line (IsWithout line_feed) (lines_from []) refl feed_first read (λ candidate. Some (shown_as candidate.value None)) inserts
+          (λ candidate. bash_word_line cursor candidate.value) word_line_reads (Fits cursor) candidates
+          (λ candidate is_in e. word_alone_fits (word_line_reads candidate e).body candidate.value (word_line_reads candidate e).reads)
+      by_test false is =
+          each_line (IsWithout line_feed) (lines_from []) refl feed_first read
+          (λ candidate. Some (shown_as candidate.value (option_map (cut_description room) (description_of cursor.ascii_only candidate.help)))) inserts
+          (list_line cursor longest room) (line_reads longest room) (Fits cursor) candidates (one (is refl))
+
   -- ---- two lines
 
   -- an empty line is read as the part that bash keeps
@@ -412,6 +462,7 @@ module _ (cursor : Cursor) where
   pub list_read_back : (candidates : List CompletionCandidate) → BashListRead cursor candidates
   list_read_back candidates = record {
     lines = reads;
+    fits = list_fits longest room candidates refl wide;
     inserted = λ e. ap (λ room. bash_list_in cursor longest room candidates) (no_room candidates e);
     listed = by_test (room == 0) refl;
   }
@@ -421,6 +472,11 @@ module _ (cursor : Cursor) where
 
       room : ℕ
       room = list_room cursor candidates
+
+      wide : (room == 0) ≡ false → (room ≡ cursor.width - (longest + 4)) × (22 ≤ room)
+      wide e =
+          let is = room_is (width_left cursor candidates) (has_two is_word candidates) e in
+          (is.0, subst (λ n. 22 ≤ n) (sym is.0) is.1)
 
       reads : AreRead room candidates (lines_from [] (bash_list_reply cursor candidates))
       reads = list_reads longest room candidates

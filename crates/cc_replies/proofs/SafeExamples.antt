@@ -10,7 +10,7 @@ use Rattle.cc_replies.specs.BashWords.{Bare, Cursor, OpenQuote, Single, Double, 
 use Rattle.cc_replies.specs.PowershellEntries.{entry_of, entry_shown, tooltip_of}
 use Rattle.cc_replies.specs.PowershellWords.{is_powershell_insertable, powershell_line, powershell_line_read, powershell_typed, powershell_word, powershell_words_reply, quoted_whole, typed_entry, word_entry}
 use Rattle.cc_replies.specs.Reply.{colon_help, first_line, line_shown, shown_from, shown_line, tab_help, without_return, zsh_item}
-use Rattle.cc_replies.specs.SafeReplies.{is_fish_insertable, is_zsh_insertable, safe_lines_reply, safe_values_reply, safe_zsh_reply, zsh_item_read}
+use Rattle.cc_replies.specs.SafeReplies.{fish_item_read, is_fish_insertable, is_zsh_insertable, safe_lines_reply, safe_values_reply, safe_zsh_reply, zsh_item_read}
 use Rattle.cc_replies.specs.SafeValues.{is_safe_text, safe_help, safe_shown}
 
 -- a candidate with a help text
@@ -204,7 +204,13 @@ changed_row :
     × (zsh_item_read true letter ≡ None)
     × (zsh_item_read false raw ≡ None)
     × (zsh_item_read false letter ≡ Some (record { value = letter; help = None }))
+    × (fish_item_read (codes "~root\tA user") ≡ None)
+    × (fish_item_read (codes "~") ≡ None)
+    × (fish_item_read (codes "~/x\tA file") ≡ Some (record { value = codes "~/x"; help = Some (codes "A file") }))
+    -- U+00A0 and U+3000
+    × (fish_item_read (194 ∷ 160 ∷ codes "x") ≡ None)
+    × (fish_item_read (227 ∷ 128 ∷ 128 ∷ codes "x") ≡ None)
     × (powershell_line_read false (codes "'a\"b'\ta") ≡ None)
     × (powershell_line_read true (codes "'--%'\ta") ≡ None)
-unfolding bash_value_read zsh_item_read shown_from marks marks_from bash_line_word bare_word_read bare_read word_read after cut_at with_front powershell_line_read word_entry typed_entry entry_of tooltip_of powershell_typed quoted_whole powershell_signs sign_before sign line_shown
-changed_row = (refl, refl, refl, refl, refl, refl, refl, refl)
+unfolding bash_value_read zsh_item_read fish_item_read shown_from marks marks_from bash_line_word bare_word_read bare_read word_read after cut_at with_front powershell_line_read word_entry typed_entry entry_of tooltip_of powershell_typed quoted_whole powershell_signs sign_before sign line_shown
+changed_row = (refl, refl, refl, refl, refl, refl, refl, refl, refl, refl, refl, refl, refl)

@@ -1,5 +1,5 @@
 -- The lines of a safe reply are read back as the items for which they were written.
-use Rattle.std.proofs.Common.{◌≡◌, ◌==◌, ◌&&◌, ℕ, Bool, true, false, cond, not, List, [], ◌∷◌, ◌++◌, Option, Some, None, map, filter, flat_map, codes, refl, sym, ◌∙◌, ap, ap₂, append_assoc}
+use Rattle.std.proofs.Common.{◌≡◌, ◌==◌, ◌&&◌, ℕ, Bool, true, false, cond, not, List, [], ◌∷◌, ◌++◌, Option, Some, None, map, filter, flat_map, codes, refl, sym, ◌∙◌, ap, ap₂, subst, inl, inr, append_assoc}
 use Rattle.std.proofs.lemmas.Bool.{and_parts, ne_eqb, or_parts}
 use Rattle.std.proofs.lemmas.List.{map-id}
 use Rattle.std.specs.Char.{is_ascii_control}
@@ -7,11 +7,11 @@ use Rattle.std.specs.List.{AllByRecursion}
 use Rattle.std.specs.Option.{option_and_then}
 use Rattle.std.specs.Prelude.{length}
 use Rattle.cc_base.specs.Bytes.{line_feed, tab}
-use Rattle.cc_base.proofs.Members.{AllByRecursion-append, AllByRecursion-weaker}
+use Rattle.cc_base.proofs.Members.{AllByRecursion-append, AllByRecursion-weaker, IsIn}
 use Rattle.cc_candidates.specs.declared.candidate.CompletionCandidate.{CompletionCandidate}
 use Rattle.cc_quote.specs.ZshReply.{is_reply_value_marked, zsh_replied_value}
-use Rattle.cc_replies.specs.Reply.{Shown, colon_help, first_line, line_shown, lines_from, lines_read, shown_line, tab_help, zsh_item}
-use Rattle.cc_replies.specs.SafeReplies.{SafeLinesRead, SafeValuesRead, SafeZshRead, is_fish_insertable, is_fish_kept, is_zsh_insertable, is_zsh_kept, safe_line, safe_zsh_line, value_line, zsh_item_read, zsh_kept}
+use Rattle.cc_replies.specs.Reply.{Shown, colon_help, first_line, lines_from, shown_line, tab_help, zsh_item}
+use Rattle.cc_replies.specs.SafeReplies.{SafeLinesRead, SafeValuesRead, SafeZshRead, fish_item_read, fish_kept, is_fish_insertable, is_fish_kept, is_zsh_insertable, is_zsh_kept, safe_line, safe_zsh_line, value_line, zsh_item_read, zsh_kept}
 use Rattle.cc_replies.specs.SafeValues.{begins_control, ends_control, is_found, is_safe_text, safe_help, safe_shown}
 use Rattle.cc_replies.proofs.EntryReadings.{tab_help_without}
 use Rattle.cc_replies.proofs.FirstLines.{IsWithout}
@@ -47,6 +47,27 @@ module _ {A C : Type 0} (IsLine : List ℕ → Type 0) (split : List ℕ → Lis
           ∙ ap (λ text. map read (split text)) (append_assoc one.body (codes "\n") (flat_map line rest))
           ∙ ap (map read) (first one.body (flat_map line rest) one.one_line)
           ∙ ap₂ (λ first others. first ∷ others) one.reads below
+
+  -- and what holds for each line without its line feed holds for all lines
+  pub each_line : (P : List ℕ → Type 0) (items : List C) → ((item : C) → IsIn items item → (e : test item ≡ true) → P (each item e).body)
+      → AllByRecursion P (split (flat_map line (filter test items)))
+  each_line P [] h = subst (λ lines. AllByRecursion P lines) (sym none) tt
+  each_line P (item ∷ items) h = by_test (test item) refl (each_line P items (λ later is. h later (inr is)))
+    where
+      rest : List C
+      rest = filter test items
+
+      by_test : (b : Bool) → test item ≡ b → AllByRecursion P (split (flat_map line rest))
+          → AllByRecursion P (split (flat_map line (cond b (item ∷ rest) rest)))
+      by_test false e below = below
+      by_test true e below =
+          let one = each item e in
+          let found : split (line item ++ flat_map line rest) ≡ one.body ∷ split (flat_map line rest) =
+          ap (λ text. split (text ++ flat_map line rest)) one.whole
+          ∙ ap split (append_assoc one.body (codes "\n") (flat_map line rest))
+          ∙ first one.body (flat_map line rest) one.one_line
+          in
+          subst (λ lines. AllByRecursion P lines) (sym found) (h item (inl refl) e, below)
 
 pub feed_first : (body rest : List ℕ) → IsWithout line_feed body → lines_from [] (body ++ line_feed ∷ rest) ≡ body ∷ lines_from [] rest
 unfolding lines_from
@@ -104,21 +125,25 @@ safe_line_without special is e candidate safe =
     AllByRecursion-append (λ byte. (byte == special) ≡ false) candidate.value (tab_help (safe_help candidate.help))
     (safe_without special is candidate.value safe) (tab_help_without special e (safe_help candidate.help) (safe_help_without special is candidate.help))
 
-listed_line : (candidate : CompletionCandidate) → is_safe_text candidate.value ≡ true → ReadsLine (IsWithout line_feed) line_shown (safe_line candidate) (safe_shown candidate)
-unfolding shown_line
-listed_line candidate e = record {
-  body = line_body (safe_shown candidate);
-  whole = refl;
-  one_line = safe_line_without line_feed refl refl candidate e;
-  reads = body_read candidate.value (safe_help candidate.help) (safe_without tab refl candidate.value e);
-}
+fish_line_reads : (candidate : CompletionCandidate) → is_fish_insertable candidate.value ≡ true
+    → ReadsLine (IsWithout line_feed) fish_item_read (safe_line candidate) (Some (safe_shown candidate))
+unfolding fish_item_read shown_line
+fish_line_reads candidate e =
+    let parts = and_parts (is_safe_text candidate.value) (is_fish_kept candidate.value) e in
+    record {
+      body = line_body (safe_shown candidate);
+      whole = refl;
+      one_line = safe_line_without line_feed refl refl candidate parts.0;
+      reads =
+          ap fish_kept (body_read candidate.value (safe_help candidate.help) (safe_without tab refl candidate.value parts.0))
+          ∙ ap (λ b. cond b (Some (safe_shown candidate)) None) parts.1;
+    }
 
 pub lines_read_back : (candidates : List CompletionCandidate) → SafeLinesRead candidates
-unfolding SafeLinesRead lines_read lines_from
+unfolding SafeLinesRead lines_from
 lines_read_back candidates =
-    lines_back (IsWithout line_feed) (lines_from []) refl feed_first line_shown safe_shown (λ candidate. is_fish_insertable candidate.value) safe_line
-    (λ candidate e. listed_line candidate (and_parts (is_safe_text candidate.value) (is_fish_kept candidate.value) e).0)
-    candidates
+    lines_back (IsWithout line_feed) (lines_from []) refl feed_first fish_item_read (λ candidate. Some (safe_shown candidate))
+    (λ candidate. is_fish_insertable candidate.value) safe_line fish_line_reads candidates
 
 -- ---- zsh
 

@@ -1,7 +1,7 @@
 -- The list that bash shows when it inserts nothing: words, with descriptions in a column behind them.
-use Rattle.std.specs.Prelude.{◌≡◌, ◌≢◌, ◌⊎◌, ℕ, ◌+◌, ◌-◌, max, nat_le, nat_lt, Bool, true, false, not, ◌&&◌, ◌==◌, List, [], ◌∷◌, ◌++◌, Contains, Option, Some, None, bytes_eq, codes, filter, find, flat_map, if◌then◌else◌, is_some, map, option_map, replicate}
+use Rattle.std.specs.Prelude.{◌≡◌, ◌≢◌, ◌⊎◌, ℕ, ◌≤◌, ◌+◌, ◌-◌, IsTrue, max, nat_le, nat_lt, Bool, true, false, not, ◌&&◌, ◌==◌, List, [], ◌∷◌, ◌++◌, Contains, Option, Some, None, bytes_eq, codes, filter, find, flat_map, if◌then◌else◌, is_some, map, option_map, replicate}
 use Rattle.std.specs.Fmt.{char_count, take_chars}
-use Rattle.std.specs.List.{list_any}
+use Rattle.std.specs.List.{AllByRecursion, list_any}
 use Rattle.std.specs.Option.{option_and_then}
 use Rattle.cc_base.specs.Bytes as ascii
 use Rattle.cc_base.specs.Found.{after, with_front}
@@ -186,11 +186,22 @@ pub record HasTwo (lines : List (List ℕ)) : Type 0 where
   pub other_some : other ≢ []
   pub differ : first ≢ other
 
+-- a description is read
+abbrev pub HasDescription : Option Shown → Type 0
+HasDescription None = ⊥
+HasDescription (Some item) = IsTrue (is_some item.help)
+
+-- the line has no more characters than the terminal has columns, if a description is read from it
+abbrev pub Fits : Cursor → List ℕ → Type 0
+Fits cursor line = HasDescription (list_line_read cursor line) → char_count line ≤ cursor.width
+
 pub record BashListRead (cursor : Cursor) (candidates : List CompletionCandidate) : Type 0 where
   -- each line is read back as a value that bash can insert and what is shown of its description
   pub lines : map (list_line_read cursor) (lines_from [] (bash_list_reply cursor candidates))
       ≡ map (λ candidate. Some (shown_in cursor.ascii_only (list_room cursor candidates) candidate))
       (filter (λ candidate. is_bash_insertable cursor candidate.value) candidates)
+  -- each line with a description fits the terminal
+  pub fits : AllByRecursion (Fits cursor) (lines_from [] (bash_list_reply cursor candidates))
   -- without a width, the reply consists of the words
   pub inserted : cursor.width ≡ 0
       → bash_list_reply cursor candidates ≡ bash_words_reply cursor candidates

@@ -5,7 +5,7 @@ use Rattle.std.specs.Int.{is_in_range}
 use Rattle.std.specs.Option.{option_and_then}
 use Rattle.cc_candidates.specs.declared.candidate.CompletionCandidate.{CompletionCandidate}
 use Rattle.cc_quote.specs.ZshQuote.{marks}
-use Rattle.cc_replies.specs.Reply.{Shown, lines_from, lines_read, shown_from, shown_line, zsh_item}
+use Rattle.cc_replies.specs.Reply.{Shown, line_shown, lines_from, shown_from, shown_line, zsh_item}
 use Rattle.cc_replies.specs.SafeValues.{is_found, is_in_locale, is_safe_text, safe_shown}
 
 -- ---- Elvish: values
@@ -72,11 +72,20 @@ abbrev pub safe_lines_reply : List CompletionCandidate → List ℕ
 safe_lines_reply candidates =
     flat_map safe_line (filter (λ candidate. is_fish_insertable candidate.value) candidates)
 
--- it is read back as those values and their help texts
+-- an item, if fish inserts its value as it is
+abbrev pub fish_kept : Shown → Option Shown
+fish_kept item = if is_fish_kept item.value then Some item else None
+
+-- the item of a line; no value is read that fish would change
+unfoldable pub fish_item_read : List ℕ → Option Shown
+fish_item_read line = fish_kept (line_shown line)
+
+-- each of its lines is read back as such a value and its help text
 unfoldable pub SafeLinesRead : List CompletionCandidate → Type 0
 SafeLinesRead candidates =
-    lines_read (safe_lines_reply candidates)
-    ≡ map safe_shown (filter (λ candidate. is_fish_insertable candidate.value) candidates)
+    map fish_item_read (lines_from [] (safe_lines_reply candidates))
+    ≡ map (λ candidate. Some (safe_shown candidate))
+    (filter (λ candidate. is_fish_insertable candidate.value) candidates)
 
 -- ---- zsh: values, each with its help text after a colon
 
