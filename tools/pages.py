@@ -193,7 +193,7 @@ class Page:
         return {
             "HOME": self.home, "LC_ALL": "C.UTF-8", "PAGER": "cat", "MANPAGER": "cat", "TERM": "dumb",
             "PATH": f"{self.home}/.local/bin:{self.home}/bin:/usr/bin:/bin:/usr/sbin:/sbin",
-            "PYTHONPATH": os.path.join(self.clone, "packages/python"), "DESTDIR": os.path.join(self.room, "package"),
+            "PYTHONPATH": os.path.join(self.clone, "packages/python"),
         }
 
     def command(self, line):
