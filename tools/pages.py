@@ -33,8 +33,7 @@ LEFT_OUT = [(re.compile(pattern), reason) for pattern, reason in (
     (r"lagvtsune/lib/pkgconfig|pkg-config", "needs the archive: tests/release.py tries it"),
     (r"libcomplgen_c\.a|/native/", "needs the archive: tests/rust.py tries it"),
     (r"^cargo |herd\.json", "needs cargo and clap: tests/from_clap.py tries it"),
-    (r"^(app __|app generate-tree|javac? |node |python3 -m lagvtsune\.argparse borg|python3 -m lagvtsune\.click --short)",
-     "needs the library: tests/exporters.py tries it"),
+    (r"^(app __|app generate-tree|javac? |node )", "needs the library: tests/exporters.py tries it"),
 )]
 # The programs that the pages use as examples. `app` has two commands and, with two of its command `remote`, five
 # options.
@@ -89,7 +88,8 @@ PREPARED = {
     "importer/README.md": {"": ({"help.txt": "  -x, --hem  Hems\n"}, ())},
 }
 # Pages whose commands are run at the top of the clone.
-IN_CLONE = ("README.md", "docs/INSTALL.md", "importer/README.md", "tests/README.md", "release/README.md")
+IN_CLONE = ("README.md", "docs/INSTALL.md", "importer/README.md", "packages/python/README.md", "tests/README.md",
+            "release/README.md")
 
 
 class Page:
@@ -183,8 +183,9 @@ class Page:
         names = called[1].split() if called and "--texts" not in line else []
         names += ["zsh"] if "compinit" in line else ["zsh", "fish"] if names == ["tar"] else []
         names += ["man"] if line.startswith("man ") else []
+        names += re.findall(r"lagvtsune\.\w+ (?:--short )?(\w+)", line)
         absent = [name for name in names if not shutil.which(name, path=self.environment()["PATH"])]
-        if "lagvtsune.click" in line and subprocess.run(
+        if "lagvtsune.click app" in line and subprocess.run(
                 ["/usr/bin/python3", "-c", "import click"], stderr=subprocess.DEVNULL).returncode:
             absent.append("click")
         return f"{' and '.join(absent)}: not installed" if absent else ""
