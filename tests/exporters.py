@@ -306,6 +306,11 @@ class Trial:
         ran = self.room.export(library, "")
         found = rows_of_app(self.exported(library, ""), library)
         self.compare(f"{library}: the tree", expected, found)
+        with tempfile.TemporaryFile() as file:
+            status = self.room.export(library, "", out=file).status
+            file.seek(0)
+            if status or file.read().decode() != ran.out:
+                self.differ(f"{library}: another tree if the standard output is a file, or status {status}")
         said = [line for line in ran.err.splitlines() if line not in NOISE]
         self.compare(f"{library}: what is left out", [line[2:] for line in listed if line.startswith("! ")],
                      [re.sub(f"app_{library}", "app", line) for line in said])

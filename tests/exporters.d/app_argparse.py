@@ -2,8 +2,10 @@
 """Keeps notes. It has each thing that argparse can tell its exporter, and names that no tree file can contain."""
 
 import argparse
+import io
 import os
 import pathlib
+import sys
 
 import lagvtsune.argparse
 
@@ -53,6 +55,8 @@ def parser():
 
 
 app = parser()
+# Some programs make a stream of their own, as borg does.
+sys.stdout = io.TextIOWrapper(sys.stdout.buffer, sys.stdout.encoding, "replace", line_buffering=True)
 print("this is no part of a tree", flush=True)
 os.system("echo nor is this")
 print(app.parse_args())

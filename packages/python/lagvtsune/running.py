@@ -41,6 +41,9 @@ class Run:
     def start(self, *words: str) -> NoReturn:
         """Runs the program with these words. Ends with status 1 if it never comes to `end`."""
         os.dup2(2, 1)
+        # A new stream, because the old one may have been a file's, and would still seek in it.
+        stdout = open(1, "w", encoding=sys.stdout.encoding, errors=sys.stdout.errors, closefd=False)
+        sys.stdout = sys.__stdout__ = stdout
         sys.argv[:] = [self.path, *words]
         sys.path[0] = os.path.dirname(os.path.realpath(self.path))
         try:
