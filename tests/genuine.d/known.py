@@ -110,18 +110,21 @@ def capitals(case: Case, ours: str, theirs: str) -> Both:
     return ours, re.sub(r"('-([^\x00-\x7f])) ', \[", lambda it: f"{it[1]}', [" if it[2].isupper() else it[0], theirs)
 
 
-# The places of the bin name and of the completer in registrations, by shell.
+# The places of the bin name and of the completer in registrations, by shell. NAME stands for the command's name,
+# which is a part of the function's name in zsh, and may have spaces.
 QUOTED = {
     "bash": [r'^        "(.*)" -- "\$\{words'],
     "elvish": [r"arg-completer\[(.*)\] = ", r'="elvish" (.*) -- \$@words'],
     "powershell": [r"-CommandName (.*) -ScriptBlock", r"^& (.*) -- \$args"],
-    "zsh": [r"^#compdef (.*)$", r"^        (.*) -- \"\$\{words", r"^compdef _\S+ (.*)$"],
+    "zsh": [r"^#compdef (.*)$", r"^        (.*) -- \"\$\{words", r"^compdef _clap_dynamic_completer_NAME (.*)$"],
 }
 
 
 def quoting(case: Case, ours: str, theirs: str) -> Both:
     """16: words of a registration are quoted otherwise."""
+    name = re.escape(case.tree["name"].replace("-", "_"))
     for pattern in QUOTED.get(case.shell, []):
+        pattern = pattern.replace("NAME", name)
         ours, theirs = (without_quoted(case, pattern, text) for text in (ours, theirs))
     return ours, theirs
 
