@@ -1,6 +1,7 @@
 pub mod AddedFlags
 pub mod Conflicts
 pub mod Left
+pub mod OthersFound
 pub mod PremisesFound
 pub mod Steps
 pub mod Taken

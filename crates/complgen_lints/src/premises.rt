@@ -5,6 +5,7 @@ ghost use Rattle.std.specs.Option.{option_copied};
 ghost use Rattle.complgen_lints.specs.CommandWarnings.{command_list};
 ghost use Rattle.complgen_lints.specs.Notes.{are_notes};
 ghost use Rattle.complgen_lints.specs.Premises.{bin_kind, bin_list, holds_premises};
+ghost use Rattle.complgen_lints.specs.Premises.{name_no_premise};
 
 use crate::found::Added;
 use crate::place::{Key, Place};
@@ -33,7 +34,7 @@ use std::alloc::{AllocError, Global};
 /// # Errors
 ///
 /// `AllocError` if an allocation fails.
-#[tactic(auto, using(crate::proofs::PremisesFound::premises_hold))]
+#[tactic(auto, using(crate::proofs::PremisesFound::named_exactly, crate::proofs::PremisesFound::premises_hold))]
 pub fn command_warnings(
     alloc: Global,
     bin: Option<&str>,
@@ -43,6 +44,10 @@ pub fn command_warnings(
         found.items ≡ command_list (option_copied bin.entry) command.now) }
     ensures premises { IfOk result (λ found. IsTrue (are_notes found.items) →
         IsTrue (holds_premises (option_copied bin.entry) command.now)) }
+
+    // A warning says that a premise does not hold exactly if one does not hold.
+    ensures exactly { IfOk result (λ found. name_no_premise found.items
+        ≡ holds_premises (option_copied bin.entry) command.now) }
 {
     let mut warnings = Vec::new(alloc);
     push_bin(&mut warnings, alloc, None, bin)?;
