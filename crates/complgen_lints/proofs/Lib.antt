@@ -2,6 +2,7 @@ pub mod AddedFlags
 pub mod Conflicts
 pub mod Left
 pub mod OthersFound
+mod PremiseExamples
 pub mod PremisesFound
 pub mod Steps
 pub mod Taken

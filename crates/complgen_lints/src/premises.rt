@@ -27,9 +27,10 @@ use std::alloc::{AllocError, Global};
 /// 4. notes about a hidden command and hidden arguments;
 /// 5. notes about commands that a tab runs, and warnings about sources of values.
 ///
-/// A label of the bash script that two commands share is not among them. If there are only notes,
-/// the command and the bin name are plain, possible values are quiet, and the PowerShell script
-/// escapes each quote.
+/// A label of the bash script that two commands share is not among them. The other premises of the
+/// promises about scripts are that the command and the bin name are plain, that possible values are
+/// quiet, and that the PowerShell script escapes each quote. A warning says that a premise does not
+/// hold exactly if one of them does not. So all of them hold if there are only notes.
 ///
 /// # Errors
 ///
