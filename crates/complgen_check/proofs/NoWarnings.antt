@@ -1,5 +1,5 @@
--- If there are only notes, the premises hold.
-use Rattle.std.proofs.Common.{◌≡◌, subst, refl, ℕ, ◌&&◌, IsTrue, List, [], Option, Some, None, unwrap_or}
+-- If there are only notes, the premises hold. A warning names a premise exactly if one does not hold.
+use Rattle.std.proofs.Common.{◌≡◌, ◌∙◌, ap, subst, refl, is_none, ℕ, ◌&&◌, IsTrue, List, Option, Some, None, unwrap_or}
 use Rattle.std.specs.List.{list_all}
 use Rattle.std.proofs.lemmas.Bool.{and_parts}
 use Rattle.cc_bash.specs.Labels.{shared_label}
@@ -11,9 +11,10 @@ use Rattle.cc_base.specs.PlainName.{is_plain_name}
 use Rattle.cc_command.proofs.EscapedBuilt.{escaped_built_under}
 use Rattle.complgen_lints.specs.CommandWarnings.{command_list}
 use Rattle.complgen_lints.specs.Notes.{are_notes}
-use Rattle.complgen_lints.proofs.PremisesFound.{premises_hold as command_premises}
-use Rattle.complgen_lints.proofs.Walked.{notes_append}
-use Rattle.complgen_check.specs.Promises.{HoldPremises}
+use Rattle.complgen_lints.specs.Premises.{holds_premises, name_no_premise}
+use Rattle.complgen_lints.proofs.PremisesFound.{named_exactly as command_exactly, premises_hold as command_premises}
+use Rattle.complgen_lints.proofs.Walked.{none_append, notes_append}
+use Rattle.complgen_check.specs.Promises.{HoldPremises, holds_each}
 use Rattle.complgen_check.specs.TreeWarnings.{built_as, called, label_list, warnings_of}
 
 no_label : (label : Option (List ℕ)) → IsTrue (are_notes (label_list label)) → label ≡ None
@@ -48,3 +49,14 @@ premises_hold bin tree h =
       escaped = escaped_built_under (Some (called bin tree)) tree quiet.1;
       label = no_label label parts.1;
     }
+
+label_named : (label : Option (List ℕ)) → name_no_premise (label_list label) ≡ is_none label
+label_named None = refl
+label_named (Some label) = refl
+
+pub named_exactly : (bin : Option (List ℕ)) (tree : Tree) → name_no_premise (warnings_of bin tree) ≡ holds_each bin tree
+named_exactly bin tree =
+    let label = shared_label (built_as bin tree) in
+    none_append (command_list bin tree) (label_list label)
+    ∙ ap (λ b. b && name_no_premise (label_list label)) (command_exactly bin tree)
+    ∙ ap (λ b. holds_premises bin tree && b) (label_named label)

@@ -1,11 +1,12 @@
 -- The premises of the promises about scripts.
-use Rattle.std.specs.Prelude.{◌≡◌, ℕ, List, Option, None, IsTrue}
+use Rattle.std.specs.Prelude.{◌≡◌, ◌&&◌, ℕ, Bool, List, Option, None, IsTrue, is_none}
 use Rattle.cc_bash.specs.Labels.{shared_label}
 use Rattle.cc_command.specs.Escaped.{is_escaped_tree}
 use Rattle.cc_command.specs.Plain.{is_plain_tree}
 use Rattle.cc_command.specs.Quiet.{is_quiet_tree}
 use Rattle.cc_command.specs.Tree.{Tree}
 use Rattle.cc_base.specs.PlainName.{is_plain_name}
+use Rattle.complgen_lints.specs.Premises.{holds_premises}
 use Rattle.complgen_check.specs.TreeWarnings.{built_as, called}
 
 -- Each premise of the promises about scripts holds. The tree and the name by which it is called are
@@ -17,3 +18,8 @@ pub record HoldPremises (bin : Option (List ℕ)) (tree : Tree) : Type 0 where
   pub quiet : IsTrue (is_quiet_tree tree)
   pub escaped : IsTrue (is_escaped_tree (built_as bin tree))
   pub label : shared_label (built_as bin tree) ≡ None
+
+-- The premises about the bin name and the tree hold, and no two commands of the built tree share a
+-- label.
+abbrev pub holds_each : Option (List ℕ) → Tree → Bool
+holds_each bin tree = holds_premises bin tree && is_none (shared_label (built_as bin tree))

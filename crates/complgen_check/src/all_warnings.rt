@@ -6,8 +6,9 @@ ghost use Rattle.std.specs.String.{string_bytes};
 ghost use Rattle.cc_command.specs.Built.{built_tree};
 ghost use Rattle.cc_command.specs.Plain.{is_plain_tree};
 ghost use Rattle.complgen_lints.specs.Notes.{are_notes};
+ghost use Rattle.complgen_lints.specs.Premises.{name_no_premise};
 ghost use Rattle.cc_bash.specs.Labels.{shared_label};
-ghost use Rattle.complgen_check.specs.Promises.{HoldPremises};
+ghost use Rattle.complgen_check.specs.Promises.{HoldPremises, holds_each};
 ghost use Rattle.complgen_check.specs.TreeWarnings.{built_as, called, label_list, warnings_of};
 
 use cc_base::Items;
@@ -21,8 +22,9 @@ use std::alloc::{AllocError, Global};
 /// `command_warnings` come first. If two commands share a label of the bash script, the last
 /// warning reports that. Its place is the root.
 ///
-/// If there are only notes, each premise of the promises about scripts holds. The script for each
-/// shell can then be written, unless memory runs out or a write fails, and it reads back. The call
+/// A warning says that a premise of the promises about scripts does not hold exactly if one does not.
+/// So if there are only notes, each premise holds. The script for each shell can then be written,
+/// unless memory runs out or a write fails, and it reads back. The call
 /// leaves the command built under that name, as `generate` does.
 ///
 /// # Errors
@@ -39,6 +41,10 @@ pub fn tree_warnings(
     // If there are only notes, the premises hold.
     ensures premises { IfOk result (λ found. IsTrue (are_notes found.items) →
         HoldPremises (option_copied bin.entry) command.old) }
+
+    // A warning says that a premise does not hold exactly if one does not hold.
+    ensures exactly { IfOk result (λ found. name_no_premise found.items
+        ≡ holds_each (option_copied bin.entry) command.old) }
     ensures built { OnOk result (command.new ≡ built_as (option_copied bin.entry) command.old) }
 
     // Building it again would change nothing, and a plain command stays plain.
