@@ -36,7 +36,7 @@ SAFE_PARTS = ("values", "files", "folders", "words", "typed", "random", "places"
               "descriptions")
 VALUE_PARTS = ("branches", "words", "many", "ends", "off", "order", "files", "examples", "hints")
 
-# What this script and tests/run leave out: the command, and why.
+# The tests that this script and tests/run leave out: the command, and what only it shows or needs.
 LEFT_OUT = (
     ("tests/genuine.py", "compares with the genuine clap_complete: needs cargo, and debootstrap once"),
     ("tests/from_clap.py", "compares scripts with clap: needs cargo and clap 4"),

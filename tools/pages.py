@@ -21,7 +21,7 @@ import tempfile
 import common
 
 LONGEST = 600
-# What is not run, and why. The first row that fits counts.
+# The lines that are not run, each with the reason. The first row that fits counts.
 LEFT_OUT = [(re.compile(pattern), reason) for pattern, reason in (
     (r"^(tests/run|rt ci)\b", "takes an hour"),
     (r"\brt (lib|run|try|check)\b|^cd crates/", "needs rt"),
@@ -64,8 +64,8 @@ REPOSITORY = ("git init -q -b main .", "git -c user.name=x -c user.email=x@examp
 # The two mistakes of which TREE_FILE tells.
 MISTAKES = ("sed -i 's/\"about\": \"Keep notes\"/\"bout\": \"Keep notes\"/; "
             "s/\"long\": \"label\", \"help\"/\"long\": \"label\", \"num_args\": 1, \"help\"/' stash.json",)
-# What is there before a page, or before a block that begins with a line: files with their texts, and commands. A
-# number stands for the block of JSON with this number in the page, counted from 0.
+# The files and the commands that come before a page, or before a block with this first line. A number means the block of
+# JSON with this number in the page, counted from 0.
 PREPARED = {
     "README.md": {"": ({"app.json": 0}, ())},
     "docs/COMPLGEN.md": {
