@@ -120,8 +120,9 @@ def type_command(scratch, shell, name):
 
 def own_script(scratch, shell, words):
     """Returns the script that a program writes for a shell."""
-    ran = subprocess.run([word.format(shell) for word in words], env=scratch.environment, cwd=scratch.path,
-                         stdin=subprocess.DEVNULL, stdout=subprocess.PIPE, stderr=subprocess.DEVNULL, check=True, text=True)
+    ran = subprocess.run(
+        [word.format(shell) for word in words], env=scratch.environment, cwd=scratch.path, stdin=subprocess.DEVNULL,
+        stdout=subprocess.PIPE, stderr=subprocess.DEVNULL, check=True, text=True)
     path = os.path.join(scratch.path, "own")
     if not os.path.exists(path):
         return ran.stdout

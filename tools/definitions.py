@@ -48,7 +48,7 @@ def crate_part(crate):
 
 
 def file_part(path):
-    """Returns the table of a file, below the comment with which the file begins."""
+    """Returns the table of a file, below the comment with which it begins."""
     rows = [(name, comment) for name, _, comment, _ in parts(path)]
     if not rows:
         return ""

@@ -39,9 +39,11 @@ LEFT_OUT = [(re.compile(pattern), reason) for pattern, reason in (
 # options.
 APP = """#!/bin/sh
 case $1 in
-    remote) printf 'Usage: app remote [OPTIONS]\\n\\nOptions:\\n  -a, --all    Name hidden ones\\n  -f, --force  Ask nothing\\n  -h, --help   Print help\\n' ;;
-    *) printf 'Usage: app [OPTIONS] [COMMAND]\\n\\nCommands:\\n  remote  Names other places\\n  commit  Keeps a change\\n'
-       printf '\\nOptions:\\n  -C <DIR>       Work there\\n  -v, --verbose  Print more\\n  -h, --help     Print help\\n' ;;
+    remote) printf '%s\\n' 'Usage: app remote [OPTIONS]' '' 'Options:' '  -a, --all    Name hidden ones' \\
+        '  -f, --force  Ask nothing' '  -h, --help   Print help' ;;
+    *) printf '%s\\n' 'Usage: app [OPTIONS] [COMMAND]' '' 'Commands:' '  remote  Names other places' \\
+        '  commit  Keeps a change' '' 'Options:' '  -C <DIR>       Work there' '  -v, --verbose  Print more' \\
+        '  -h, --help     Print help' ;;
 esac
 """
 CLICK = """#!/usr/bin/python3
@@ -101,9 +103,8 @@ class Page:
         self.here = self.clone if path in IN_CLONE else os.path.join(room, "here")
         self.ran, self.left, self.faults = 0, [], []
         subprocess.run(["git", "clone", "-q", common.TOP, self.clone], check=True)
-        for folder in (os.path.join(room, "here"), os.path.join(self.home, ".local/bin"), os.path.join(self.home, "bin"),
-                       os.path.join(self.clone, "crates/complgen/out")):
-            os.makedirs(folder, exist_ok=True)
+        for folder in ("here", "home/.local/bin", "home/bin", "clone/crates/complgen/out"):
+            os.makedirs(os.path.join(room, folder), exist_ok=True)
         shutil.copy(complgen, os.path.join(self.clone, "crates/complgen/out/complgen"))
         shutil.copy(complgen, os.path.join(self.home, ".local/bin/complgen"))
         with open(os.path.join(self.clone, path), encoding="utf-8") as file:
@@ -210,7 +211,7 @@ class Page:
 
 
 def blocks(lines):
-    """Yields the blocks of code of a page: the kind, the number of the first line, and the lines without their indent."""
+    """Yields the blocks of code of a page: the kind, the number of the first line, and the lines without indent."""
     begin, kind = None, ""
     for at, line in enumerate(lines):
         found = re.match(r" *```(\w*)", line)
