@@ -54,7 +54,8 @@ def file_part(path):
         return ""
     lines = [f"| `{name}` | {cell(comment)} |" for name, comment in rows]
     title = os.path.splitext(path.partition("/specs/")[2])[0]
-    return "\n".join([f"\n### {title}\n", said(lines_of(path)), "", "| Definition | Meaning |", "|---|---|", *lines, ""])
+    head = [f"\n### {title}\n", said(lines_of(path)), "", "| Definition | Meaning |", "|---|---|"]
+    return "\n".join([*head, *lines, ""])
 
 
 def files(crate):

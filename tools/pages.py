@@ -66,8 +66,8 @@ REPOSITORY = ("git init -q -b main .", "git -c user.name=x -c user.email=x@examp
 # The two mistakes of which TREE_FILE tells.
 MISTAKES = ("sed -i 's/\"about\": \"Keep notes\"/\"bout\": \"Keep notes\"/; "
             "s/\"long\": \"label\", \"help\"/\"long\": \"label\", \"num_args\": 1, \"help\"/' stash.json",)
-# The files and the commands that come before a page, or before a block with this first line. A number means the block of
-# JSON with this number in the page, counted from 0.
+# The files and the commands that come before a page, or before a block with this first line. A number means the block
+# of JSON with this number in the page, counted from 0.
 PREPARED = {
     "README.md": {"": ({"app.json": 0}, ())},
     "docs/COMPLGEN.md": {
