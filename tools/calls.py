@@ -26,7 +26,8 @@ import sys
 import textwrap
 
 import common
-from source import CLAUSE, aliases, exported, find, implementations, items, private_traits, public_names, sources
+from source import (
+    CLAUSE, aliases, exported, find, implementations, items, private_traits, public_names, sought, sources)
 
 LIST = os.path.join(common.TOP, "tools", "calls.txt")
 MODULES = ["", "aot", "aot::utils", "command", "describe", "engine", "env", "parser", "program", "quote"]
@@ -73,7 +74,7 @@ def make_page():
         parts += group([(name, crate) for name, crate in names if places[name, crate] == module])
     for crate in CRATES:
         parts.append(f"## `{crate}`\n")
-        parts += group([(name, crate) for name in public_names(crate)])
+        parts += group([(name, crate) for name in public_names(crate) if sought(crate, name)])
     return "\n".join(parts).rstrip("\n") + "\n"
 
 

@@ -52,11 +52,19 @@ def public_names(crate):
 
 def find(crate, name):
     """Returns the public item of this name in a crate."""
+    found = sought(crate, name)
+    if not found:
+        raise SystemExit(f"tools/source.py: no public {name} in crates/{crate}")
+    return found
+
+
+def sought(crate, name):
+    """Returns the public item of this name in a crate, or `None` if the name is from a library of the toolchain."""
     for lines in sources(crate):
         for item in items(lines, ""):
             if item.name == name and item.kind != "type" and item.lines[0].startswith("pub "):
                 return item
-    raise SystemExit(f"tools/source.py: no public {name} in crates/{crate}")
+    return None
 
 
 def items(lines, indent):
