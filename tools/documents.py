@@ -14,6 +14,7 @@ and tests/.
 - Each named source file exists, such as `quote/src/escape.rt`, `escape.rt` or `proofs/Lemmas`, and so does each
   named script of bench/, release/, tests/ and tools/. `complgen WORD` calls a command that exists.
 - Numbers of crates, commands, keys and promises are those of the repository.
+- tests/README.md lists the scripts that tests/run leaves out.
 
 The script prints how many sentences of each page have more than 30 words, and with --sentences these
 sentences. It prints the number of words of all pages, and then what does not hold. The status is 0 if all of it holds,
@@ -56,11 +57,19 @@ def main():
         found += [f"{page}:{at}: this code is in no source: {line}" for at, line in blocks]
         if page == WALKS:
             found += [f"{page}:{at}: there is no {name}" for at, name in unknown_names(lines)]
+    found += [f"tests/README.md: does not say that tests/run leaves out {script}" for script in unlisted()]
     print_long(long)
     words = sum(len(line.split()) for page in pages() for line in lines_of(page))
     print(f"{words} words in {len(pages())} pages")
     print("\n".join(found + [f"{len(found)} faults in the documents"]))
     return 1 if found else 0
+
+
+def unlisted():
+    """Yields the scripts that tests/all.py leaves out, and that tests/README.md does not list as such."""
+    left_out = "\n".join(lines_of("tests/all.py")).partition("LEFT_OUT = (")[2].partition("\n)\n")[0]
+    listed = "\n".join(lines_of("tests/README.md")).partition("leaves out\n")[2].partition("\n### ")[0]
+    yield from (it for it in re.findall(r'^    \("([\w/.]+)', left_out, re.MULTILINE) if f"`{it}" not in listed)
 
 
 def print_long(long):
