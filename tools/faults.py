@@ -6,17 +6,19 @@
 
 With --gate the script tries the listed faults over the libraries that the gate built, in a few minutes. `rt` would
 prove all crates below anew there, so the script calls the prover, `rattle check`, for the listed functions alone. The
-prover also proves what these call in their crate, once for all checks of the crate. A fault counts as rejected if its
-function has no proof for another reason than a missing name. The script prints a line for each fault, and counts them
-in the last line.
+prover also proves what these call in their crate, once for all checks of the crate. The script prints a line for each
+fault, with the goals that stay open, and counts the faults in the last line.
 
-The rest of this text is about the other faults. The prover has to reject each. It proves a function against its own contract and the contracts of what it
-calls, so faults in different functions are independent. The script therefore plants as many as possible
-at once, in a copy of the repository. One check of these functions then shows which have no proof, or a
-proof with an error. Such a fault counts as rejected, if the crate is proved without any fault. The others
-are tried again without those: if a check rejects none, by halves, and at last one by one. A fault in a
-constant has a check of its own, of all functions. `rt must-fail` tries each fault that no check rejects,
-and with --alone it tries all of them.
+A fault counts as rejected only if a goal of its function stays open, or if an answer in the function's proof files is
+wrong. An error of the compiler, a name that no longer exists and an unproved callee do not count. Nor does a function
+that the prover does not cover.
+
+The rest of this text is about the other faults. The prover has to reject each. It proves a function against its own
+contract and the contracts of what it calls, so faults in different functions are independent. The script therefore
+plants as many as possible at once, in a copy of the repository. One check of these functions then shows which are
+rejected. That counts if the crate is proved without any fault. The others are tried again without those: if a check
+rejects none, by halves, and at last one by one. A fault in a constant has a check of its own, of all functions.
+`rt must-fail` tries each fault that no check rejects, and with --alone it tries all of them.
 
 The copy is removed at the end. `rt` reuses there what checks on this machine kept, so what was checked
 before is not proved again. It costs least in the checkout in which the crates were checked: there each
@@ -57,6 +59,9 @@ SPENT = threading.local()
 # Messages of a check about a name in a proof file that no longer exists.
 MISSING = r"has no field|is not in scope|has no `|was not admitted"
 
+# What a check says of a function with goals that stay open.
+OPEN_GOALS = r"`search` did not prove (.*)"
+
 
 def main():
     parser = argparse.ArgumentParser(usage="tools/faults.py [--gate] [--alone] [--at-once N] [CRATE..]")
@@ -88,6 +93,7 @@ def processor_minutes():
 def tried_after_gate(at_once):
     """Tries the listed faults, and prints a line for each and their counts. Returns the exit status."""
     listed = listed_faults()
+    need_libraries(listed)
     with concurrent.futures.ThreadPoolExecutor(at_once) as workers:
         tries = [workers.submit(tried_over_libraries, crate, listed[crate]) for crate in listed]
         rejected = sum(done.result() for done in tries)
@@ -101,13 +107,44 @@ def listed_faults():
     """Returns the faults of tools/faults.txt by crate."""
     listed = collections.defaultdict(list)
     with open(os.path.join(TOP, "tools", "faults.txt"), encoding="utf-8") as lines:
-        for line in lines:
-            if not line.startswith("#"):
-                crate, name, function = line.split()
-                folder = os.path.join(TOP, "crates", crate)
-                fault = read_fault(folder, os.path.join(folder, "more-faults", f"{name}.edit"))
-                listed[crate].append(Listed(fault, function))
+        for number, line in enumerate(lines, 1):
+            words = line.partition("#")[0].split()
+            if not words:
+                continue
+            if len(words) != 3:
+                sys.exit(f"tools/faults.txt:{number}: a line names a crate, a fault and a function")
+            crate, name, function = words
+            folder = os.path.join(TOP, "crates", crate)
+            path = os.path.join(folder, "more-faults", f"{name}.edit")
+            if not os.path.exists(path):
+                sys.exit(f"tools/faults.txt:{number}: there is no {os.path.relpath(path, TOP)}")
+            listed[crate].append(Listed(read_fault(folder, path), function))
     return listed
+
+
+def need_libraries(crates):
+    """Ends the script if libraries below these crates are missing."""
+    missing = [it for it in below(crates) if not os.path.exists(library(it))]
+    if missing:
+        names = ", ".join(missing)
+        sys.exit(f"tools/faults.py --gate: run `rt ci` first, which leaves libraries in crates/*/out. Missing: {names}")
+
+
+def below(crates):
+    """Returns the repository's crates that these crates use, in the order of crates.txt."""
+    lines = common.crate_lines()
+    used = set()
+    left = list(crates)
+    while left:
+        names = [it for it in lines[left.pop()].partition(":")[2].split() if it in lines and it not in used]
+        used.update(names)
+        left += names
+    return [it for it in lines if it in used]
+
+
+def library(crate):
+    """Returns the path of the library of a crate that the gate leaves."""
+    return os.path.join(TOP, "crates", crate, "out", "rlib", f"{crate}.rlib")
 
 
 def tried_over_libraries(crate, listed):
@@ -122,14 +159,17 @@ def tried_over_libraries(crate, listed):
             together, texts = in_different_functions(folder, left)
             left = [it for it in left if it not in together]
             only = [word for it in together for word in ("--only", it.function)]
+            SPENT.seconds = 0
             told = told_with(folder, texts, [*prover_words(crate), *only])
+            print(f"{crate}: {len(together)} faults in one check, {SPENT.seconds:.0f} processor seconds", flush=True)
             for it in together:
                 place = it.function.replace("::", "/")
-                is_refused = is_rejected(told, re.escape(f"{crate}::{it.function}"), rf"\./proofs/{place}/\w+")
-                print(f"{crate}/{it.fault.name}: {'rejected' if is_refused else 'NOT REJECTED'}, {it.function}", flush=True)
-                if not is_refused:
+                reasons = reasons_against(told, re.escape(f"{crate}::{it.function}"), rf"\./proofs/{place}/\w+")
+                verdict = "rejected" if reasons else "NOT REJECTED"
+                print(f"{crate}/{it.fault.name}: {verdict}, {'; '.join([it.function, *reasons])}", flush=True)
+                if not reasons:
                     print(told[-2000:], flush=True)
-                rejected += is_refused
+                rejected += bool(reasons)
     return rejected
 
 
@@ -149,7 +189,7 @@ def prover_words(crate):
     """Returns the command that checks a crate, in its directory, over the libraries that the gate built."""
     page = subprocess.run(["rt", "doc"], stdout=subprocess.PIPE, text=True, check=True).stdout.strip()
     kit = os.path.dirname(page)
-    own = {name: os.path.join(TOP, "crates", name, "out", "rlib", f"{name}.rlib") for name in common.crate_lines()}
+    own = {name: library(name) for name in below([crate])}
     words = [os.path.join(kit, "bin", "rattle"), "check", "--crate-name", crate, "src/lib.rt", "--jobs", "1"]
     for name in ["std", *common.crate_lines()[crate].partition(":")[2].split()]:
         words += ["--extern", f"{name}={own.get(name) or os.path.join(kit, 'rlibs', f'{name}.rlib')}"]
@@ -227,7 +267,8 @@ def read_fault(folder, path):
         if file not in texts:
             with open(os.path.join(folder, file), encoding="utf-8") as source:
                 texts[file] = source.read()
-        assert texts[file].count(old) == 1, f"{path}: {old!r} does not stand once in {file}"
+        if texts[file].count(old) != 1:
+            sys.exit(f"{os.path.relpath(path, TOP)}: {old!r} does not appear exactly once in {file}")
         functions.add((file, *function_at(texts[file], texts[file].index(old))))
         texts[file] = texts[file].replace(old, new)
         changes.append((file, old, new))
@@ -394,14 +435,23 @@ def verdict_of(crate, folder, fault, told):
 
 
 def is_rejected(told, function=r"\S+", file=r"\S+"):
-    """Tells whether the check finds no proof of such a function, or an error in such a file.
+    """Tells whether the check rejects such a function."""
+    return bool(reasons_against(told, function, file))
 
-    A missing name does not count, nor a function that lacks a proof only because one that it calls does.
+
+def reasons_against(told, function, file):
+    """Returns why a check rejects such a function, or an error in such a proof file.
+
+    A reason is the list of the goals that stay open, or an error that is not about a missing name. There is none if a
+    function has no proof for another reason: the prover does not cover it, or what it calls is not proved.
     """
-    reasons = re.findall(rf"^{file}\.antt:\S* error: .*$", told, re.MULTILINE)
-    for line in re.findall(rf"^fn {function}: (no proof.*)$", told, re.MULTILINE):
-        reasons += [reason for reason in line.split("; ") if not re.search(r"which (?:is|are) not proved$", reason)]
-    return any(not re.search(MISSING, reason) for reason in reasons)
+    # The lines that go on with a message are indented.
+    errors = re.findall(rf"^{file}\.antt:\S* (error: .*(?:\n .*)*)", told, re.MULTILINE)
+    reasons = [error.partition("\n")[0][:200] for error in errors if not re.search(MISSING, error)]
+    for line in re.findall(rf"^fn {function}: no proof: (.*)$", told, re.MULTILINE):
+        found = [re.match(OPEN_GOALS, reason) for reason in line.split("; ")]
+        reasons += [match[1] for match in found if match]
+    return reasons
 
 
 def place_of(folder, file, block):
