@@ -161,7 +161,8 @@ def tried_over_libraries(crate, listed):
             only = [word for it in together for word in ("--only", it.function)]
             SPENT.seconds = 0
             told = told_with(folder, texts, [*prover_words(crate), *only])
-            print(f"{crate}: {len(together)} faults in one check, {SPENT.seconds:.0f} processor seconds", flush=True)
+            seconds = f"{SPENT.seconds:.0f} processor seconds"
+            print(f"{crate}: {len(together)} of {len(listed)} in one check, {seconds}", flush=True)
             for it in together:
                 place = it.function.replace("::", "/")
                 reasons = reasons_against(told, re.escape(f"{crate}::{it.function}"), rf"\./proofs/{place}/\w+")
