@@ -1,6 +1,6 @@
 -- The answer to a prompt.
-use Rattle.std.proofs.Common.{◌≡◌, ◌∙◌, ◌++◌, ◌-◌, ap, refl, subst, sym, ℕ, Bool, List, [], ◌∷◌, Option, None, Some, Result, Ok, Err, IfOk, codes, length}
-use Rattle.std.specs.Path.{path_file_stem, path_file_name, rsplit_once, split_last_component, trim_trailing}
+use Rattle.std.proofs.Common.{◌≡◌, ◌++◌, ◌-◌, refl, subst, sym, ℕ, Bool, false, true, List, [], ◌∷◌, Option, None, Some, Result, Ok, Err, IfOk, codes, length}
+use Rattle.std.specs.Str.{bytes_eq}
 use Rattle.clap_complete.specs.cc_command.Built.{built_tree}
 use Rattle.clap_complete.specs.cc_candidates.declared.candidate.CompletionCandidate.{CompletionCandidate}
 use Rattle.clap_complete.specs.cc_replies.Environment.{value_of}
@@ -11,17 +11,16 @@ use Rattle.clap_complete.specs.cc_env.Arguments.{after_dashes}
 use Rattle.clap_complete.specs.cc_env.Steps.{Ends, EndsAs, MakesText, Tries, names_of, text_written}
 use Rattle.clap_complete.specs.cc_env.Steps as made
 use Rattle.clap_complete.specs.cc_command.Tree.{Tree}
-use Rattle.clap_complete.specs.cc_env.Wanted.{Wanted, known, wanted_name, wanted_of}
-use Rattle.cc_caller.specs.Prompt.{IsAnswer, all_prompts, prompt_spec, registered, replied}
+use Rattle.clap_complete.specs.cc_env.Wanted.{Wanted, known, unknown, wanted_name, wanted_of}
+use Rattle.cc_caller.specs.Prompt.{AnswersPrompt, IsAnswer, all_prompts, prompt_spec, registered, replied}
 use Rattle.cc_caller.specs.declared.prompt.Prompt.{Prompt}
-
--- the value names the prompt
-prompt_wanted : wanted_name (Some (codes "prompt")) ≡ Some (codes "prompt")
-unfolding path_file_stem path_file_name rsplit_once split_last_component trim_trailing
-prompt_wanted = refl
 
 prompt_known : wanted_of (λ shell. prompt_spec.named) all_prompts (Some (codes "prompt")) ≡ known (record {})
 prompt_known = refl
+
+other_unknown : (name : List ℕ) → bytes_eq name (codes "prompt") ≡ false
+    → wanted_of (λ shell. prompt_spec.named) all_prompts (Some name) ≡ unknown name
+other_unknown name differs = rw (wanted_of, differs) refl
 
 module _ (Makes : Result Tree Error → Type 0) (current : Option (List ℕ)) (env : EnvValues)
     (Offers : Tree → List (List ℕ) → ℕ → List CompletionCandidate → Type 0) where
@@ -41,21 +40,37 @@ module _ (Makes : Result Tree Error → Type 0) (current : Option (List ℕ)) (e
       (subst (λ index. Offers (built_tree tree) reply.words index found) reply.wants.0 reply.holds.1)))
 
   module _ {S : Type 0} (taken : S → List ℕ) (failed : S → Failures) (arguments : List (List ℕ)) (old new : S) where
+    abbrev TriesPrompt : Option (List ℕ) → Result Bool Error → Type 0
+    TriesPrompt name result = Tries taken failed (λ shell. prompt_spec) all_prompts (λ shell. Text arguments) name old new result
+
+    abbrev EndsWanted : Wanted Prompt → Result Bool Error → Type 0
+    EndsWanted wanted result = EndsAs taken failed (codes "prompt" ∷ []) (λ shell. Text arguments) wanted old new result
+
     abbrev Answered : Result Bool Error → Type 0
-    Answered result = IfOk result (λ done. (text : List ℕ) × IsAnswer Makes current Offers arguments text × (taken new ≡ taken old ++ text))
+    Answered result =
+        IfOk result (λ done. (done ≡ true) × (text : List ℕ) × IsAnswer Makes current Offers arguments text × (taken new ≡ taken old ++ text))
 
     ended : (result : Result Bool Error) → Ends taken failed (Text arguments) old new result → Answered result
-    ended (Ok done) (text_written text makes takes fails) = (text, answer_of arguments text makes, takes)
+    ended (Ok done) (text_written text makes takes fails) = (refl, text, answer_of arguments text makes, takes)
     ended (Err error) ends = tt
 
-    asked : (result : Result Bool Error) → value_of (codes "COMPLETE") env ≡ Some (codes "prompt")
-        → Tries taken failed (λ shell. prompt_spec) all_prompts (λ shell. Text arguments) (wanted_name (value_of (codes "COMPLETE") env)) old new result
-        → Answered result
-    asked result asks tries =
-        ended result
-        (subst (λ (wanted : Wanted Prompt). EndsAs taken failed (codes "prompt" ∷ []) (λ shell. Text arguments) wanted old new result) prompt_known
-        (subst (λ name. Tries taken failed (λ shell. prompt_spec) all_prompts (λ shell. Text arguments) name old new result)
-        (ap wanted_name asks ∙ prompt_wanted) tries))
+    silent : (name : Option (List ℕ)) (result : Result Bool Error) → TriesPrompt name result → name ≡ None → (result ≡ Ok false) × (new ≡ old)
+    silent name result tries is = subst (λ n. TriesPrompt n result) is tries
+
+    asked : (name : Option (List ℕ)) (result : Result Bool Error) → TriesPrompt name result → name ≡ Some (codes "prompt") → Answered result
+    asked name result tries is =
+        ended result (subst (λ (wanted : Wanted Prompt). EndsWanted wanted result) prompt_known (subst (λ n. TriesPrompt n result) is tries))
+
+    refused : (name : Option (List ℕ)) (result : Result Bool Error) → TriesPrompt name result → (other : List ℕ) → name ≡ Some other
+        → bytes_eq other (codes "prompt") ≡ false → IfOk result (λ done. ⊥) × (new ≡ old)
+    refused name result tries other is differs =
+        let ends = subst (λ (wanted : Wanted Prompt). EndsWanted wanted result) (other_unknown other differs) (subst (λ n. TriesPrompt n result) is tries) in
+        (ends.0, ends.2)
+
+    answers : (name : Option (List ℕ)) (result : Result Bool Error) → TriesPrompt name result
+        → AnswersPrompt taken (λ text. IsAnswer Makes current Offers arguments text) name old new result
+    answers name result tries =
+        record { silent = silent name result tries; asked = asked name result tries; unknown = refused name result tries }
 
 -- the same of a program whose parts have other names
 module _ {F S : Type 0} (Post : F → Result Tree Error → Type 0) (current : Option (List ℕ)) (env : EnvValues)
@@ -67,12 +82,11 @@ module _ {F S : Type 0} (Post : F → Result Tree Error → Type 0) (current : O
       (λ shell. MakesText (Post factory) prompt_spec (names_of variable bin completer current) env Offers arguments)
       (wanted_name (value_of variable env)) old new result
 
-  pub prompt_asked : (factory made_by : F) (variable : List ℕ) (bin completer : Option (List ℕ)) (shells : List Prompt) → made_by ≡ factory
-      → variable ≡ codes "COMPLETE" → bin ≡ None → completer ≡ None → shells ≡ all_prompts
-      → value_of (codes "COMPLETE") env ≡ Some (codes "prompt") → Tried made_by variable bin completer shells
-      → Answered (Post factory) current env Offers taken failed arguments old new result
-  prompt_asked factory made_by variable bin completer shells same named no_bin no_completer prompts asks tries =
-      asked (Post factory) current env Offers taken failed arguments old new result asks
+  pub prompt_answered : (factory made_by : F) (variable : List ℕ) (bin completer : Option (List ℕ)) (shells : List Prompt) → made_by ≡ factory
+      → variable ≡ codes "COMPLETE" → bin ≡ None → completer ≡ None → shells ≡ all_prompts → Tried made_by variable bin completer shells
+      → AnswersPrompt taken (λ text. IsAnswer (Post factory) current Offers arguments text) (wanted_name (value_of (codes "COMPLETE") env)) old new result
+  prompt_answered factory made_by variable bin completer shells same named no_bin no_completer prompts tries =
+      answers (Post factory) current env Offers taken failed arguments old new _ result
       (subst (λ f. Tried f (codes "COMPLETE") None None all_prompts) same
       (subst (λ v. Tried made_by v None None all_prompts) named
       (subst (λ b. Tried made_by variable b None all_prompts) no_bin

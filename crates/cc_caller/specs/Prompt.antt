@@ -1,5 +1,5 @@
 -- A prompt that completes its last word: its registration, its reply, and how both are read.
-use Rattle.std.specs.Prelude.{◌≡◌, ◌≢◌, ◌++◌, ◌-◌, ℕ, List, [], ◌∷◌, Option, Result, Ok, codes, flat_map, length, map}
+use Rattle.std.specs.Prelude.{◌≡◌, ◌≢◌, ◌++◌, ◌-◌, ℕ, Bool, false, true, List, [], ◌∷◌, Option, None, Some, Result, Ok, IfOk, codes, flat_map, length, map}
 use Rattle.std.specs.List.{AllByRecursion}
 use Rattle.std.specs.Str.{bytes_eq}
 use Rattle.clap_complete.specs.cc_env.Builtins.{CompleterSpec}
@@ -70,3 +70,16 @@ pub data IsAnswer (Makes : Result Tree Error → Type 0) (current : Option (List
       (found : List CompletionCandidate) → Makes (Ok tree) → after_dashes rest ≢ []
       → Offers (built_tree tree) (after_dashes rest) (length (after_dashes rest) - 1) found
       → IsAnswer Makes current Offers (program ∷ rest) (prompt_reply found)
+
+-- The ends of a program that answers the prompt, by the name that the environment requests. `Answer`
+-- is true of the texts that answer it.
+pub record AnswersPrompt {S : Type 0} (taken : S → List ℕ) (Answer : List ℕ → Type 0)
+    (name : Option (List ℕ)) (old new : S) (result : Result Bool Error) : Type 0 where
+  -- nothing is requested, and nothing is written
+  pub silent : name ≡ None → (result ≡ Ok false) × (new ≡ old)
+  -- the prompt is requested, and an answer is written
+  pub asked : name ≡ Some (codes "prompt") → IfOk result (λ done. (done ≡ true)
+      × (text : List ℕ) × Answer text × (taken new ≡ taken old ++ text))
+  -- another shell is requested: that is an error, and nothing is written
+  pub unknown : (other : List ℕ) → name ≡ Some other → bytes_eq other (codes "prompt") ≡ false
+      → IfOk result (λ done. ⊥) × (new ≡ old)

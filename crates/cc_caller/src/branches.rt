@@ -1,11 +1,15 @@
 //! An argument whose values a command lists, and a program that completes itself with them.
 
-ghost use Rattle.std.specs.Prelude.{◌≡◌, IfErr, IfOk, map};
-ghost use Rattle.cc_caller.specs.Branches.{branch_arg};
+ghost use Rattle.std.specs.Prelude.{◌≡◌, IfErr, IfOk, map, string_bytes};
+ghost use Rattle.std.specs.Option.{option_copied};
+ghost use Rattle.clap_complete.specs.cc_env.OwnEnds.{EndsOwn};
+ghost use Rattle.clap_complete.specs.cc_base.Collected.{collected_bytes, collected_failures};
+ghost use Rattle.clap_complete.specs.cc_engine.Sources.{returned_of};
+ghost use Rattle.cc_caller.specs.Branches.{AnswersOver, branch_arg};
 
 use clap_complete::aot::Collected;
 use clap_complete::command::{Arg, Command, Text};
-use clap_complete::engine::{Completers, Folder, Sources};
+use clap_complete::engine::{CandidateSources, Completers, Folder, Sources};
 use clap_complete::env::{Called, PassedLines, try_complete_asking};
 use clap_complete::{CompleteEnv, Error};
 use std::alloc::{AllocError, Global};
@@ -56,6 +60,11 @@ where
     F: Fn(Global) -> Result<Command, Error> + Drop,
     D: Folder,
     requires { F.IsAlwaysCallable factory }
+    ensures { EndsOwn collected_bytes collected_failures (AnswersOver
+        (λ made. F.post factory alloc made) (option_copied sources.now.current_dir)
+        called.now.env.now (map string_bytes called.now.args.now) (returned_of
+        ⟦<Completers as CandidateSources>⟧ (D.facts sources.now.folder.now) sources.now)
+        output.now) out.old out.new result }
 {
     let completion = CompleteEnv::safe(factory);
     let lines = PassedLines { bytes: output };

@@ -1,14 +1,15 @@
 //! An adapter outside the library, with the calls that an adapter needs and no others, and a
 //! program that answers by it.
 
-ghost use Rattle.std.specs.Prelude.{◌≡◌, ◌++◌, ◌-◌, ℕ, IfErr, IfOk, List, Some, codes, length};
-ghost use Rattle.std.specs.Prelude.{map, string_bytes};
+ghost use Rattle.std.specs.Prelude.{◌≡◌, ◌-◌, IfErr, codes, length, map, string_bytes};
 ghost use Rattle.std.specs.Option.{option_copied};
 ghost use Rattle.clap_complete.specs.cc_engine.Completion.{Completes};
 ghost use Rattle.clap_complete.specs.cc_replies.Environment.{value_of};
 ghost use Rattle.clap_complete.specs.cc_engine.Sources.{returned_from};
 ghost use Rattle.clap_complete.specs.cc_base.Writes.{IsWrite, Writes};
-ghost use Rattle.cc_caller.specs.Prompt.{IsAnswer, all_prompts, ended_line, prompt_reply};
+ghost use Rattle.clap_complete.specs.cc_env.Wanted.{wanted_name};
+ghost use Rattle.cc_caller.specs.Prompt.{AnswersPrompt, IsAnswer, all_prompts, ended_line};
+ghost use Rattle.cc_caller.specs.Prompt.{prompt_reply};
 
 use clap_complete::aot::{Sink, put_all};
 use clap_complete::command::Command;
@@ -114,14 +115,15 @@ fn prompts() -> Shells<'static, Prompt>
     Shells(PROMPTS)
 }
 
-/// Writes what the prompt asks for to `out`, and returns whether it asks.
+/// Writes what the prompt asks for to `out`, and returns whether it asks. If nothing asks, it writes
+/// nothing and returns `false`.
 ///
-/// If it does, no words follow a `--`, and the call returns `Ok`, the text is the registration. If
-/// words follow, it is a line for each value that may be offered for the last one.
+/// If no words follow a `--`, the text is the registration. If words follow, it is a line for each
+/// value that may be offered for the last one.
 ///
 /// # Errors
 ///
-/// Those of `try_complete`.
+/// Those of `try_complete`. If another shell asks, nothing is written.
 pub fn answer_prompt<F, D, W>(
     alloc: Global,
     factory: F,
@@ -135,13 +137,12 @@ where
     D: Folder,
     W: Sink,
     requires { F.IsAlwaysCallable factory }
-    ensures { value_of (codes "COMPLETE") env.now ≡ Some (codes "prompt")
-        → IfOk result (λ done. (text : List ℕ)
-        × IsAnswer (λ made. F.post factory alloc made) (option_copied sources.now.current_dir)
-        (Completes (returned_from ⟦<Completers as CandidateSources>⟧ sources.now.completers.now
+    ensures { AnswersPrompt W.taken (λ text. IsAnswer (λ made. F.post factory alloc made)
+        (option_copied sources.now.current_dir) (Completes (returned_from
+        ⟦<Completers as CandidateSources>⟧ sources.now.completers.now
         (D.facts sources.now.folder.now) (option_copied sources.now.current_dir)))
-        (map string_bytes args.items) text
-        × (W.taken out.new ≡ W.taken out.old ++ text)) }
+        (map string_bytes args.items) text) (wanted_name (value_of (codes "COMPLETE") env.now))
+        out.old out.new result }
 {
     let program = CompleteEnv::with_factory(factory).shells(prompts());
     program.try_complete(

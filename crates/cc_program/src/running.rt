@@ -1,13 +1,15 @@
 //! The whole program: it completes its words, or parses them by the same tree.
 
-ghost use Rattle.std.specs.Prelude.{IfErr, map, string_bytes};
-ghost use Rattle.std.specs.Fn.{FnOnceReturnsAt};
+ghost use Rattle.std.specs.Prelude.{ℕ, IfErr, List, map, string_bytes};
+ghost use Rattle.std.specs.Fn.{FnOnceReturnsAt, FnOnceTakesAt};
 ghost use Rattle.std.specs.Option.{option_copied};
+ghost use Rattle.std.specs.declared.alloc.Global.{Global as Allocator};
 ghost use Rattle.cc_engine.specs.Sources.{returned_from, returned_of};
+ghost use Rattle.cc_program.specs.ClapParses.{clap_facts};
 ghost use Rattle.cc_program.specs.Requests.{system_facts};
 ghost use Rattle.cc_program.specs.Running.{EndsRun, Runs};
 ghost use Rattle.cc_program.specs.Seen.{Seen};
-ghost use Rattle.cc_program.specs.Statuses.{IsOfWords};
+ghost use Rattle.cc_program.specs.Statuses.{HoldsOfMatches, IsOfWords};
 ghost use Rattle.cc_program.specs.declared.streams.Streams.{Streams as StreamsOf};
 
 use crate::environment::{directories, environment};
@@ -34,6 +36,9 @@ use std::rt::Files;
 /// tree, `completers` are those that its arguments name, and `carry_out` does the program's own
 /// work on the matches.
 ///
+/// `carry_out` needs to be callable only on matches that a parse of some words by this tree may
+/// return, so it is never called on others.
+///
 /// The words and the environment are read once; the current directory and the user's home directory
 /// only if a shell requests something. If the values of an argument come from a command, a
 /// file or a hint, `SystemLines` reads them. Replies, registrations, help texts and the version go
@@ -59,7 +64,9 @@ where
     C: FnOnce(&ArgMatches<'_>) -> Result<(), E> + Drop,
     E: Drop,
     requires factory { F.IsAlwaysCallable factory }
-    requires work { C.IsAlwaysCallable carry_out }
+    requires work { (alloc : Allocator) (words : List (List ℕ))
+        → HoldsOfMatches (λ made. F.post factory alloc made) (clap_facts words)
+        (λ found. FnOnceTakesAt C.FnOnce carry_out found) }
     ensures { Runs factory (λ alloc words env current home made_by variable bin completer shells
         new ended. EndsRun (λ made. F.post made_by alloc made)
         (λ found done. FnOnceReturnsAt C.FnOnce carry_out found done)
@@ -109,7 +116,9 @@ where
     E: Drop,
     D: Folder,
     requires factory { F.IsAlwaysCallable program.completion.factory }
-    requires work { C.IsAlwaysCallable program.carry_out }
+    requires work { HoldsOfMatches (λ made. F.post program.completion.factory alloc made)
+        (clap_facts (map string_bytes called.now.args.now))
+        (λ found. FnOnceTakesAt C.FnOnce program.carry_out found) }
     ensures { (new : StreamsOf Seen Seen) × EndsRun
         (λ made. F.post program.entry.completion.factory alloc made)
         (λ found done. FnOnceReturnsAt C.FnOnce program.entry.carry_out found done)
