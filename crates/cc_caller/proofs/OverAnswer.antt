@@ -1,7 +1,7 @@
 -- The answer of a program, of which a call states the parts.
 use Rattle.std.proofs.Common.{◌≡◌, subst, ℕ, List, Option, None, Result, codes}
 use Rattle.clap_complete.specs.cc_arg.declared.parts.ArgParts.{ArgParts as Arg}
-use Rattle.clap_complete.specs.cc_env.Given.{passed_lines}
+use Rattle.clap_complete.specs.cc_env.WithLines.{passed_lines}
 use Rattle.clap_complete.specs.cc_env.OwnAnswers.{AnswersBy, own_parts}
 use Rattle.clap_complete.specs.cc_env.OwnEnds.{EndsOwn}
 use Rattle.clap_complete.specs.cc_base.declared.error.Error.{Error}

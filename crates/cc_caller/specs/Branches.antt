@@ -3,7 +3,7 @@ use Rattle.std.specs.Prelude.{◌≡◌, ℕ, List, [], ◌∷◌, Option, None,
 use Rattle.clap_complete.specs.cc_arg.Arguments.{new_arg}
 use Rattle.clap_complete.specs.cc_arg.declared.parts.ArgParts.{ArgParts as Arg}
 use Rattle.clap_complete.specs.cc_env.Answers.{Told}
-use Rattle.clap_complete.specs.cc_env.Given.{passed_lines}
+use Rattle.clap_complete.specs.cc_env.WithLines.{passed_lines}
 use Rattle.clap_complete.specs.cc_env.OwnAnswers.{AnswersBy, own_parts}
 use Rattle.clap_complete.specs.cc_base.declared.error.Error.{Error}
 use Rattle.clap_complete.specs.cc_command.Tree.{Tree}
