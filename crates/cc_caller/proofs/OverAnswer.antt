@@ -10,7 +10,7 @@ use Rattle.clap_complete.specs.cc_command.Tree.{Tree}
 use Rattle.clap_complete.specs.cc_env.SafeShells.{all_safe}
 use Rattle.clap_complete.specs.cc_env.Steps.{names_of}
 use Rattle.clap_complete.specs.cc_env.declared.safe_shell.SafeShell.{SafeShell}
-use Rattle.clap_complete.specs.cc_gather.Values.{MayReturn}
+use Rattle.clap_complete.specs.cc_engine.Values.{MayReturn}
 use Rattle.clap_complete.specs.cc_replies.Environment.{value_of}
 use Rattle.clap_complete.specs.cc_replies.declared.environment.EnvValues.{EnvValues}
 use Rattle.cc_caller.specs.Branches.{AnswersOver}

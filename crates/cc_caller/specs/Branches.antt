@@ -9,7 +9,7 @@ use Rattle.clap_complete.specs.cc_base.declared.error.Error.{Error}
 use Rattle.clap_complete.specs.cc_command.Tree.{Tree}
 use Rattle.clap_complete.specs.cc_env.SafeShells.{all_safe}
 use Rattle.clap_complete.specs.cc_env.Steps.{names_of}
-use Rattle.clap_complete.specs.cc_gather.Values.{MayReturn}
+use Rattle.clap_complete.specs.cc_engine.Values.{MayReturn}
 use Rattle.clap_complete.specs.cc_replies.Environment.{value_of}
 use Rattle.clap_complete.specs.cc_replies.declared.environment.EnvValues.{EnvValues}
 
