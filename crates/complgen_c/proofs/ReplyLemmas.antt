@@ -75,7 +75,7 @@ pub request_answered : (tree : List ℕ) (words variables names : List (List ℕ
       files = files;
     }) outcome
 request_answered tree words variables names output path folders files request outcome parts answers =
-    answered request.env outcome parts.variables_same
+    answered request.env outcome parts.utf8 parts.variables_same
     (subst (λ (n : List (List ℕ)). AnswersOver tree words request.env output (facts_of (record {
       path = path;
       names = n;

@@ -15,7 +15,7 @@ use Rattle.complgen_live.specs.Answers.{AnswersRequest, Parts}
 use Rattle.complgen_live.specs.declared.reply_errors.ReplyError.{ReplyError}
 use Rattle.complgen_live.specs.declared.reply_errors.ReplyError.TheVariants.{Library, Tree}
 use Rattle.complgen_c.specs.Listings.{Listing, facts_of, handed}
-use Rattle.complgen_c.specs.Requests.{HoldsVariables, NotUtf8Texts}
+use Rattle.complgen_c.specs.Requests.{AreUtf8, HoldsVariables, NotUtf8Texts}
 use Rattle.complgen_c.specs.declared.live.PassedRequest.{PassedRequest}
 use Rattle.complgen_c.specs.declared.outcome.Outcome.{Outcome}
 use Rattle.complgen_c.specs.declared.outcome.Outcome.TheVariants.{Failed, Made, NotRequested, NotUtf8, Run, WantsFolder}
@@ -91,8 +91,9 @@ pub data MakesReply (tree : List ℕ) (words variables : List (List ℕ)) (outpu
   -- out of memory before there is a request
   out_of_memory : (refusal : Refusal) → IsOutOfMemory refusal
       → MakesReply tree words variables output listing (Failed refusal)
-  -- the answer, over the directory that the caller passed and no other
-  answered : (env : EnvValues) (outcome : Outcome) → HoldsVariables variables env
+  -- all of these are UTF-8: the answer, over the directory that the caller passed and no other
+  answered : (env : EnvValues) (outcome : Outcome) → AreUtf8 words variables listing.names
+      → HoldsVariables variables env
       → AnswersOver tree words env output (facts_of listing (value_of home_name env)) listing.path
       outcome
       → MakesReply tree words variables output listing outcome

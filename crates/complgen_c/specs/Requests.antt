@@ -20,13 +20,20 @@ in_pairs (first ∷ second ∷ rest) = (first, second) ∷ in_pairs rest
 abbrev pub HoldsVariables : List (List ℕ) → EnvValues → Type 0
 HoldsVariables variables env = map both_bytes env.variables ≡ in_pairs variables
 
--- the texts with these bytes, or none if not all are UTF-8
+-- the texts with these bytes, all of which are UTF-8, or none if not all are
 abbrev pub AreTexts : List (List ℕ) → Option (Vec (String Global) Global) → Type 0
 AreTexts slices None = All IsUtf8 slices → ⊥
-AreTexts slices (Some texts) = map string_bytes texts.items ≡ slices
+AreTexts slices (Some texts) = (map string_bytes texts.items ≡ slices) × All IsUtf8 slices
 
--- the request has these words, variables and names
+-- all are UTF-8
+pub record AreUtf8 (words variables names : List (List ℕ)) : Type 0 where
+  pub words_utf8 : All IsUtf8 words
+  pub variables_utf8 : All IsUtf8 variables
+  pub names_utf8 : All IsUtf8 names
+
+-- the request has these words, variables and names, which are UTF-8
 pub record HasParts (words variables names : List (List ℕ)) (request : RequestTexts) : Type 0 where
+  pub utf8 : AreUtf8 words variables names
   pub words_same : map string_bytes request.words.items ≡ words
   pub variables_same : HoldsVariables variables request.env
   pub names_same : map string_bytes request.names.items ≡ names
