@@ -94,6 +94,7 @@ def listed() -> List[Test]:
         refused(),
         tested([], ["bash", "zsh"], "tests/running.py"), tested(both, [], "tests/live.py"),
         tested(both, [], "tests/offered.py"), tested(complgen, needs_of_folders(), "tests/folders"),
+        tested(complgen, [], "tests/files"), tested(complgen, [], "tests/zsh_helps.py"),
         tested(complgen, [], "tests/check.py"), tested(complgen, [], "tests/bash_texts.py"),
         tested(complgen, [], "tests/shell_syntax.py"), tested(complgen, [], "tests/man_pages.py"),
         tested(complgen, [], "tests/own_tree.py"),

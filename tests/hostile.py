@@ -20,6 +20,9 @@ nothing to the standard output. To the standard error it prints one of the texts
 or the command line's own text, or nothing if a program has no tree file. Only `check` prints findings to
 the standard output, at least one if the status is 1.
 
+Before these runs, `complgen` completes the words after a thousand others, and words of 100,000 bytes. It
+also gets each beginning of a tree file, which has to be refused as no JSON.
+
 The script prints each run that fails with its number, which --only repeats. Then it prints how many
 runs ended with which text. The status is 0 if no run failed.
 """
@@ -76,6 +79,12 @@ PASSED_OVER = r"complgen: tree files skipped because their names are not plain: 
 # A line of `complgen check`.
 FINDING = r"[0-9]+:[0-9]+: (error|warning|note): .*: .*"
 
+# The tree of long lines.
+LONG_TREE = {"name": "app", "args": [
+    {"id": "color", "short": "c", "long": "color", "action": "Set"},
+    {"id": "verbose", "short": "v", "long": "verbose", "action": "SetTrue"},
+]}
+
 # A run: the program, its words, the environment, and the standard input.
 Case = collections.namedtuple("Case", "kind words environment given", defaults=[b""])
 
@@ -86,6 +95,7 @@ def main():
     programs = {"complgen": complgen, "check": complgen, "larder": common.program("larder")}
     numbers = [options.only] if options.only is not None else range(options.runs)
     with tempfile.TemporaryDirectory() as folder:
+        faults = [] if options.only is not None else faults_of_known_runs(complgen, folder)
         trees = read_trees()
 
         def attempt(number):
@@ -98,7 +108,46 @@ def main():
             return number, case, outcome
 
         with concurrent.futures.ThreadPoolExecutor(os.cpu_count()) as pool:
-            return reported(pool.map(attempt, numbers))
+            return reported(pool.map(attempt, numbers), faults)
+
+
+# Runs whose output is known.
+
+
+def faults_of_known_runs(complgen, folder):
+    return [*faults_of_long_lines(complgen, folder), *faults_of_beginnings(complgen, folder)]
+
+
+def faults_of_long_lines(complgen, folder):
+    """Yields what is wrong with the candidates after many words, and for long words."""
+    path = os.path.join(folder, "long.json")
+    with open(path, "w", encoding="utf-8") as file:
+        json.dump(LONG_TREE, file)
+    vs = "v" * 100_000
+    every = ["--color", "--verbose", "--help"]
+    for words, expected in (
+        ([*["x"] * 1000, ""], every), ([*["-v"] * 1000, ""], every), ([*["--"] * 1000, ""], []), ([vs], []),
+        ([f"-{vs}"], [f"-{vs}{short}" for short in "cvh"]), ([f"-{vs}", ""], every), ([f"--{vs}"], []),
+    ):
+        call = [complgen, "candidates", "--index", str(len(words)), path, "--", "app", *words]
+        done = subprocess.run(call, capture_output=True, text=True, timeout=LONGEST, check=False)
+        found = [line.split("\t")[0] for line in done.stdout.splitlines()]
+        if (done.returncode, found) != (0, expected):
+            yield f"{len(words)} words, the first of {len(words[0])} bytes: {done.stdout[:100]!r} {done.stderr[:100]!r}"
+
+
+def faults_of_beginnings(complgen, folder):
+    """Yields the beginnings of a tree file, which ends with its last brace, that are not refused as no JSON."""
+    with open(os.path.join(common.EXAMPLES, "tree.json"), "rb") as file:
+        text = file.read().rstrip()
+    path = os.path.join(folder, "beginning.json")
+    for end in range(len(text)):
+        with open(path, "wb") as file:
+            file.write(text[:end])
+        call = [complgen, "script", "--shell", "elvish", "--bin", "app", path]
+        done = subprocess.run(call, capture_output=True, check=False)
+        if (done.returncode, done.stdout, done.stderr) != (1, b"", b"tree: not JSON\n"):
+            yield f"the first {end} bytes of tree.json: status {done.returncode}, {done.stderr!r}"
 
 
 def remove(path):
@@ -116,9 +165,11 @@ def arguments():
     return parser.parse_args()
 
 
-def reported(results):
-    """Prints which runs failed, and how many ended in which way. Returns the status."""
-    ended, failed = collections.Counter(), 0
+def reported(results, faults):
+    """Prints the faults, which runs failed, and how many ended in which way. Returns the status."""
+    ended, failed = collections.Counter(), len(faults)
+    for fault in faults:
+        print(fault)
     for number, case, (ending, fault) in results:
         ended[f"{case.kind}: {ending}"] += 1
         if fault:
