@@ -1,6 +1,8 @@
 //! The answers to live requests, with the values of completers.
 
 mod asked;
+#[cfg(test)]
+mod tests;
 
 use crate::calls::Answer;
 use crate::engine::CompletionCandidate;

@@ -448,7 +448,7 @@ fn a_refused_allocation_of_a_registration_is_an_error_that_loses_nothing() {
 }
 
 /// A command with random subcommands and arguments. `depth` is the number of levels below it.
-fn random_command(numbers: &mut Numbers, name: &'static str, depth: usize) -> Command {
+pub(crate) fn random_command(numbers: &mut Numbers, name: &'static str, depth: usize) -> Command {
     const HEADINGS: [&str; 3] = ["Options", "Commands", "Other"];
     let mut command = Command::new(name).about(format!("About {name}"));
     if numbers.below(3) == 0 {
@@ -523,7 +523,7 @@ fn random_positional(numbers: &mut Numbers, id: &'static str) -> Arg {
 }
 
 /// Words of the command lines that are completed in random commands.
-const TYPED: [&str; 24] = [
+pub(crate) const TYPED: [&str; 24] = [
     "run",
     "remote",
     "list",
@@ -594,7 +594,7 @@ fn a_script_of_the_parts_is_that_of_the_whole_tree() {
 }
 
 /// Numbers that follow from a seed.
-struct Numbers(u64);
+pub(crate) struct Numbers(pub(crate) u64);
 
 impl Numbers {
     fn next(&mut self) -> u64 {
@@ -604,7 +604,7 @@ impl Numbers {
         self.0
     }
 
-    fn below(&mut self, bound: usize) -> usize {
+    pub(crate) fn below(&mut self, bound: usize) -> usize {
         usize::try_from(self.next() % bound as u64).unwrap()
     }
 

@@ -29,7 +29,7 @@ pub(super) struct Asked<'r> {
     /// The words before the one to complete, without the program's name.
     before: Vec<String>,
     /// The word to complete.
-    word: String,
+    pub(super) word: String,
     external: Vec<CompletionCandidate>,
 }
 
@@ -107,13 +107,22 @@ impl<'r> Asked<'r> {
 
     /// Calls a completer.
     fn candidates(&self, called: &Called<'_>) -> Vec<CompletionCandidate> {
-        let walked = Walked::of(self.command, self.before.iter().map(String::as_str));
-        let arg = walked.argument(called.id);
+        let (typed, index) = self.typed(called.id);
+        ordered(called.completer.complete_at(index, typed), typed)
+    }
+
+    /// Returns the typed part of the value of the argument with this id, and the index of the value.
+    pub(super) fn typed(&self, id: &str) -> (&str, usize) {
+        let walked = self.walked();
+        let arg = walked.argument(id);
         let (value, index) = arg.map_or((&*self.word, 0), |arg| walked.value(arg, &self.word));
         let delimiter = arg.and_then(clap::Arg::get_value_delimiter);
         let part = delimiter.and_then(|delimiter| value.rsplit_once(delimiter));
-        let typed = part.map_or(value, |(_, last)| last);
-        ordered(called.completer.complete_at(index, typed), typed)
+        (part.map_or(value, |(_, last)| last), index)
+    }
+
+    pub(super) fn walked(&self) -> Walked<'r> {
+        Walked::of(self.command, self.before.iter().map(String::as_str))
     }
 
     /// Returns the text over the lines of candidates. If all of these are hidden, they are offered

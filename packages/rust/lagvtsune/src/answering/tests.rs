@@ -1,0 +1,62 @@
+//! Compares how the package reads words with how the library does.
+
+use super::asked::Asked;
+use super::{Request, ASK, REQUEST, STDIN};
+use crate::calls::Answer;
+use crate::engine::{ArgValueCandidates, Completer};
+use crate::sources::Sources;
+use crate::tests::{random_command, Numbers, TYPED};
+use clap::Command;
+
+/// Gives each argument of a command a completer.
+fn add_completers(command: &Command, path: &mut Vec<String>, sources: &mut Sources) {
+    for arg in command.get_arguments() {
+        let completer = Completer::Candidates(ArgValueCandidates::new(Vec::new));
+        sources.add_completer(path.clone(), arg.get_id().as_str(), completer);
+    }
+    for child in command.get_subcommands() {
+        path.push(child.get_name().to_owned());
+        add_completers(child, path, sources);
+        path.pop();
+    }
+}
+
+/// Checks which argument a request asks for, and which part of the word is its value, if it asks for
+/// one. Returns whether it does.
+fn is_read_alike(request: Request<'_>) -> bool {
+    let sources = request.sources;
+    let mut asked = Asked::of(request, None, false);
+    asked.set(REQUEST, b"fish");
+    let Answer::Run(words) = asked.call(Some(ASK)).unwrap() else {
+        return false;
+    };
+    let id = sources.called(&words).unwrap().id;
+    if !asked.word.starts_with('-') {
+        assert_eq!(asked.walked().asked_by(&asked.word).unwrap().get_id(), id);
+    }
+    // The library puts the text before the value in front of each line that begins with what is typed.
+    asked.request.output = format!("{}z\n", asked.typed(id).0).into_bytes();
+    let offered = String::from_utf8(asked.text(STDIN).unwrap()).unwrap();
+    let value = format!("{}z", asked.word);
+    assert!(offered.lines().any(|line| line == value), "{value} is not in {offered}");
+    true
+}
+
+#[test]
+fn a_completer_gets_the_part_that_the_library_reads() {
+    let mut numbers = Numbers(11);
+    let mut asked = 0;
+    for _ in 0..400 {
+        let command = random_command(&mut numbers, "app", 2);
+        let mut sources = Sources::default();
+        add_completers(&command, &mut Vec::new(), &mut sources);
+        for _ in 0..10 {
+            let typed = (0..=numbers.below(5)).map(|_| TYPED[numbers.below(TYPED.len())]);
+            let line = ["app"].into_iter().chain(typed).map(Into::into).collect();
+            let (command, sources) = (&mut command.clone(), &sources);
+            let request = Request { command, sources, line, current_dir: None, may_run: false };
+            asked += usize::from(is_read_alike(request));
+        }
+    }
+    assert!(asked > 1_000, "{asked}");
+}
