@@ -4,9 +4,10 @@
     tests/zsh_helps.py
 
 The readers that the proofs of zsh's script use skip the help texts of values. Here an option has a value whose help text
-has each ASCII character except NUL, and a backslash before a line feed. The word of the option's line is read as a
-POSIX shell does. What follows the value in it is read as zsh's `_arguments` does: a backslash stands for the character
-after it. That has to be the help text, with a space for each line feed. It prints a line. The status is 0 if so.
+has each ASCII character except NUL, and a backslash before a line feed. The script reads the word of the option's line
+as a POSIX shell does, and what follows the value in it as zsh's `_arguments` does: a backslash stands for the character
+after it. The result has to be the help text, with a space for each line feed. The script prints how many characters the
+help text has. The status is 0 if the result is right.
 """
 
 import json
