@@ -8,6 +8,9 @@ use crate::sources::Sources;
 use crate::tests::{random_command, Numbers, TYPED};
 use clap::Command;
 
+/// Words with a value after `=`, and with several values.
+const VALUES: [&str; 4] = ["-l=", "-vc=x", "--level1=a,l", "low,a"];
+
 /// Gives each argument of a command a completer.
 fn add_completers(command: &Command, path: &mut Vec<String>, sources: &mut Sources) {
     for arg in command.get_arguments() {
@@ -51,7 +54,8 @@ fn a_completer_gets_the_part_that_the_library_reads() {
         let mut sources = Sources::default();
         add_completers(&command, &mut Vec::new(), &mut sources);
         for _ in 0..10 {
-            let typed = (0..=numbers.below(5)).map(|_| TYPED[numbers.below(TYPED.len())]);
+            let words = [&TYPED[..], &VALUES].concat();
+            let typed = (0..=numbers.below(5)).map(|_| words[numbers.below(words.len())]);
             let line = ["app"].into_iter().chain(typed).map(Into::into).collect();
             let (command, sources) = (&mut command.clone(), &sources);
             let request = Request { command, sources, line, current_dir: None, may_run: false };
