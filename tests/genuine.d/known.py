@@ -14,6 +14,8 @@ import builds
 SEPARATOR = "__subcmd__"
 SEEN = "; and __fish_seen_subcommand_from "
 UNREACHABLE = "entered unreachable code"
+# What this project answers if the index is not that of a word to complete.
+NO_COMPLETION = ("error", "no completion generated")
 
 Tree = Dict[str, Any]
 # The end of a request, and the text.
@@ -210,13 +212,22 @@ def without(case: Case, numbers: Iterable[int], ours: str, theirs: str) -> Both:
 
 def by_outcome(case: Case, ours: Answer, theirs: Answer) -> Optional[int]:
     """Returns the number of the rule by which the two outcomes differ, or `None`."""
-    if theirs[0] == "panic" and UNREACHABLE in theirs[1] and ours[0] == "text":
-        return 6
+    if theirs[0] == "panic" and UNREACHABLE in theirs[1]:
+        # The original reads the words before the index first, or all if it finds no word there.
+        if ours[0] == "text" or ours == NO_COMPLETION and not is_in_range(case):
+            return 6
     if case.kind == "script" and case.shell == "bash" and ours == ("error", clash(case)):
         return 13
     if case.kind == "script" and case.shell in ("bash", "zsh") and is_ambiguous(case):
         return 18
     return None
+
+
+def is_in_range(case: Case) -> bool:
+    """Tells whether the index is that of a word to complete. For zsh, an empty word may follow the last one."""
+    first = 0 if case.tree.get("no_binary_name") else 1
+    count = len(case.words) + (case.shell == "zsh" and case.index == len(case.words))
+    return first <= case.index < count
 
 
 def clash(case: Case) -> str:
