@@ -346,9 +346,10 @@ def print_numbers(explained: Dict[Tuple[int, bool], int]) -> bool:
 
 
 def print_sum(counts: Dict[str, int]) -> None:
-    equal, unexplained = counts.pop("equal", 0), counts.pop("unexplained", 0)
-    kinds = ", ".join(f"{count:,} {kind}" for kind, count in sorted(counts.items()))
-    total = sum(counts.values())
+    equal, unexplained = counts["equal"], counts["unexplained"]
+    by_kind = {kind: count for kind, count in sorted(counts.items()) if kind not in ("equal", "unexplained")}
+    kinds = ", ".join(f"{count:,} {kind}" for kind, count in by_kind.items())
+    total = sum(by_kind.values())
     said = f"{equal:,} equal, {total - equal - unexplained:,} explained, {unexplained} not"
     print(f"{total:,} comparisons ({kinds}): {said}")
 
