@@ -12,15 +12,22 @@ and COMPLGEN name other programs.
 These rules are checked:
 
 - a call that gets no memory fails with `Memory`. If its sink fails after some bytes, it fails with `Write`
-  and the kind of the sink. If its sink accepts nothing more, the kind is `WriteZero`. The sink accepts a
-  byte at a time;
+  and the kind of the sink, also if that was interrupted. If its sink accepts nothing more, the kind is
+  `WriteZero`. The sink accepts a byte at a time;
 - what the sink accepted before a failure is a beginning of the text, and fills the sink if that failed;
 - then the command and all below it are as they were before the call, or as the call leaves them. After
   `build` they are as before, and if the sink failed, as the call leaves them. `state.rt` of
   `library_calls` reads them by the getters;
 - the same call, repeated with enough memory and room, writes the text or the file that it writes if
   nothing fails;
-- calls over a chain of 1,000 commands, each the only child of the one before it, succeed;
+- the script of a sink that accepts a byte at a time, and that of a file, is the one that `complgen script`
+  prints for the same command. `generate_to` replaces a longer file, and fails with the kind of a device
+  that is full;
+- if the last allocation of `complete` fails, which a completer, a list or a directory may make, the
+  command is built;
+- calls over a chain of 1,000 commands, each the only child of the one before it, succeed. In Elvish each
+  command has a table, in bash the last one has its level, and its flag is completed;
+- no slice of a script with 500 flags has more than 1,024 bytes;
 - a generator whose first allocation fails has written nothing. `write_complete` and `try_complete` have
   written nothing, whichever allocation fails;
 - `complgen` ends with status 1 and `out of memory`. Its output is the beginning of the usual output, and
@@ -36,7 +43,9 @@ run was wrong.
 import argparse
 import collections
 import concurrent.futures
+import json
 import os
+import re
 import subprocess
 import sys
 import tempfile
@@ -55,10 +64,33 @@ SINKLESS = ("build", "complete", "generate_to ")
 # Calls that write nothing if an allocation fails.
 REPLIES = (*SINKLESS, "write_complete ", "try_complete ")
 
-# Calls over a chain, and its depth.
-CHAINED = ("is_plain", "has_quiet_values", "build", "all_subcommands", "complete",
-           *(f"generate {shell}" for shell in common.SHELLS))
-DEPTH = "1000"
+# The call whose sink is interrupted too, which counts as a failure like any other.
+INTERRUPTED = "write_registration fish"
+
+# Calls over a chain, and its depth; and how many flags there are, and how long a slice may be.
+CHAINED = ("is_plain", "has_quiet_values", "build", "all_subcommands", "complete")
+LARGE = (*(f"chain {it}" for it in CHAINED),
+         *(f"{of} generate {it}" for of in ("chain", "many") for it in common.SHELLS))
+DEPTH = 1000
+FLAGS = 500
+LONGEST = 1024
+
+# The command of `library_calls`, without the numbers of its completer and its list.
+COMMAND = {
+    "name": "app", "about": "Does it",
+    "args": [
+        {"id": "root", "long": "root", "help": "It's", "value_names": ["DIR"], "value_hint": "AnyPath"},
+        {"id": "color", "long": "color", "help": "It's", "value_names": ["WHEN"], "possible_values": [
+            {"name": "auto", "help": "It's here"}, {"name": "never", "help": "It's not"}]},
+        {"id": "key", "long": "key", "help": "It's", "value_names": ["KEY"]},
+        {"id": "level", "long": "level", "help": "It's", "value_names": ["LEVEL"]},
+    ],
+    "subcommands": [{
+        "name": "run", "about": "Runs it", "visible_aliases": ["r"],
+        "args": [
+            {"id": "verbose", "long": "verbose", "short": "v", "help": "It's", "action": "SetTrue", "global": True}],
+    }],
+}
 
 Ended = collections.namedtuple("Ended", "status outcome taken state text refused")
 totals = collections.Counter()
@@ -72,10 +104,13 @@ def main():
         source = os.path.join(SOURCES, "refuse.c")
         subprocess.run(["cc", "-O2", "-shared", "-fPIC", "-o", refuse, source], check=True)
         with concurrent.futures.ThreadPoolExecutor(os.cpu_count()) as pool:
+            scripts = {} if calls or options.whole else scripts_of(common.program("complgen"), folder)
             if calls != []:
-                try_calls(common.program("library_calls"), calls, refuse, pool)
-            for name in [] if calls or options.whole else CHAINED:
-                tried_chain(common.program("library_calls"), name)
+                try_calls(common.program("library_calls"), calls, scripts, refuse, pool)
+            if scripts:
+                tried_files(common.program("library_calls"), scripts["generate_to fish"])
+            for name in LARGE if scripts else []:
+                tried_large(common.program("library_calls"), name)
             for words in [] if calls else whole_runs(folder):
                 tried_run(common.program("complgen"), words, folder, refuse, pool)
     print(
@@ -92,11 +127,24 @@ def arguments():
     return parser.parse_args()
 
 
-def try_calls(program, names, refuse, pool):
+def scripts_of(complgen, folder):
+    """Returns the scripts of `complgen` by the calls that write them."""
+    path = os.path.join(folder, "command.json")
+    with open(path, "w", encoding="utf-8") as file:
+        json.dump(COMMAND, file)
+    scripts = {}
+    for shell in common.SHELLS:
+        words = [complgen, "script", "--shell", shell, "--bin", "app", path]
+        script = subprocess.run(words, capture_output=True, check=True, text=True).stdout
+        scripts[f"generate {shell}"] = scripts[f"generate_to {shell}"] = script
+    return scripts
+
+
+def try_calls(program, names, scripts, refuse, pool):
     """Tries these calls, or all that the program names."""
     before = Call(program, "write_registration bash", refuse).run().state
     for name in names or calls_of(program):
-        tried_call(Call(program, name, refuse), before, pool)
+        tried_call(Call(program, name, refuse), before, scripts.get(name), pool)
 
 
 def calls_of(program):
@@ -134,8 +182,8 @@ def contents(path):
         return file.read()
 
 
-def tried_call(call, before, pool):
-    """Tries a call, prints its line, and counts the wrong runs."""
+def tried_call(call, before, script, pool):
+    """Tries a call, prints its line, and counts the wrong runs. If there is a script, the call writes it."""
     whole = call.run()
     wrong = []
 
@@ -149,6 +197,10 @@ def tried_call(call, before, pool):
     judge("nothing refused", whole, "done", [whole.state])
     if (whole.state != before) != builds or (builds and not whole.state.startswith("built; ")):
         wrong.append(f"nothing refused: the command is\n{whole.state}")
+    # After the script of a sink, the program prints a line feed. Before that of a file, it prints a path.
+    written = whole.text.partition("\n")[2] if call.name.startswith("generate_to ") else whole.text[:-1]
+    if script and written != script:
+        wrong.append("nothing refused: complgen writes another script")
     refused, last = refused_runs(call, pool)
     judge("one allocation more than there are", last, "done", [whole.state])
     spared = 0
@@ -163,14 +215,20 @@ def tried_call(call, before, pool):
             nothing = first or call.name.startswith(REPLIES)
             if not whole.text.startswith(ended.taken) or (ended.taken and nothing):
                 wrong.append(f"allocation {number}: {ended.taken!r} was put")
+    failed = [ended.state for ended in refused if ended.outcome == "out of memory"]
+    if call.name.startswith("complete") and failed[-1:] != [whole.state]:
+        wrong.append("the last allocation: the command is not built")
     room = 0 if call.name.startswith(SINKLESS) else len(whole.text.encode()) - 1
-    for outcome, kind in (("no room", ()), ("nothing taken", ("nothing",))):
+    kinds = [("no room", ()), ("nothing taken", ("nothing",))]
+    if call.name == INTERRUPTED:
+        kinds.append(("interrupted", ("interrupted",)))
+    for outcome, kind in kinds:
         runs = pool.map(lambda count: call.run(str(count), kind=kind), range(room))
         for count, ended in enumerate(runs):
             judge(f"room for {count} bytes, {outcome}", ended, outcome, [whole.state])
             if ended.taken.encode() != whole.text.encode()[:count]:
                 wrong.append(f"room for {count} bytes, {outcome}: {ended.taken!r} was taken")
-    report(call.name, 2, len(refused), spared, 2 * room, wrong)
+    report(call.name, 2, len(refused), spared, len(kinds) * room, wrong)
 
 
 def refused_runs(call, pool):
@@ -185,13 +243,59 @@ def refused_runs(call, pool):
             refused.append(ended)
 
 
-def tried_chain(program, name):
-    """Tries a call over a chain of commands, prints its line, and counts a wrong run."""
-    done = subprocess.run(
-        [program, f"chain {name}", DEPTH], timeout=SECONDS, capture_output=True, text=True, check=False)
-    ended = (done.returncode, done.stdout, done.stderr)
-    wrong = [] if ended == (0, "made\ncalled\ndropped\n", "") else [str(ended)]
-    report(f"chain {name}", 1, 0, 0, 0, wrong)
+def tried_files(program, script):
+    """Tries `generate_to` over what has the path of its file. Prints a line, and counts the wrong runs."""
+    wrong = []
+    with tempfile.TemporaryDirectory() as folder:
+        path = os.path.join(folder, "app.fish")
+
+        def judge(told, outcome):
+            done = subprocess.run(
+                [program, "generate_to fish", ENOUGH], cwd=folder, timeout=SECONDS, capture_output=True, text=True,
+                check=False)
+            ended = done.stdout.partition("begin\nend\n")[2].partition("\n")[0]
+            if ended != outcome:
+                wrong.append(f"{told}: {ended}")
+
+        os.symlink("/dev/full", path)
+        judge("a device that is full", "no room")
+        os.remove(path)
+        os.mkdir(path)
+        judge("a directory", "another error")
+        os.rmdir(path)
+        with open(path, "w", encoding="utf-8") as file:
+            file.write(script + "# more\n" * 1000)
+        judge("a longer file", "done")
+        if contents(path) != script:
+            wrong.append("a longer file: it holds another text than the script")
+    report("generate_to, over files", 3, 0, 0, 0, wrong)
+
+
+def tried_large(program, name):
+    """Tries a call over a chain of commands or many flags, prints its line, and counts a wrong run."""
+    number = DEPTH if name.startswith("chain ") else FLAGS
+    done = subprocess.run([program, name, str(number)], timeout=SECONDS, capture_output=True, text=True, check=False)
+    found = re.fullmatch("made\ncalled ([0-9]+)\n(.*)\ndropped\n", done.stdout, re.DOTALL)
+    if done.returncode or done.stderr or not found:
+        wrong = [f"status {done.returncode}: {done.stdout[:100]!r} {done.stderr!r}"]
+    else:
+        wrong = [] if holds_of(name, int(found[1]), found[2]) else [f"a slice of {found[1]} bytes, or another text"]
+    report(name, 1, 0, 0, 0, wrong)
+
+
+def holds_of(name, longest, text):
+    """Tells whether a call over a chain or many flags wrote this text, whose longest slice is given."""
+    lines = text.split("\n")
+    if name == "chain complete":
+        return text == "--end\n"
+    if name == "chain generate elvish":
+        tables = sum(line.endswith("'= {") for line in lines)
+        return tables == DEPTH + 1 and lines.count("            cand --end 'It ends here'") == 1
+    if name == "chain generate bash":
+        return f"${{COMP_CWORD}} -eq {DEPTH + 1} " in text and f"${{COMP_CWORD}} -eq {DEPTH + 2} " not in text
+    if name.startswith("many "):
+        return len(text) > 5 * LONGEST and longest <= LONGEST
+    return bool(text) == name.startswith("chain generate ")
 
 
 def report(name, whole, refused, spared, failed, wrong):

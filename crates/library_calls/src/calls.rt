@@ -1,18 +1,15 @@
 //! Makes the calls.
 
-use crate::fixtures::{command, environment, texts};
+use crate::fixtures::{app, environment, texts};
 use crate::sinks::Narrow;
-use crate::sources::{Keys, Levels};
 use clap_complete::aot::{Counted, put_all};
 use clap_complete::command::Command;
 use clap_complete::engine::{
-    Completers, CompletionCandidate, MemoryFolder, Sources, ValueCandidates, ValueCompleter,
-    bash_script_and_candidates, complete,
+    Completers, CompletionCandidate, MemoryFolder, Sources, bash_script_and_candidates, complete,
 };
 use clap_complete::env::{EnvCompleter, Shells};
 use clap_complete::{CompleteEnv, Error, Shell, generate, generate_to};
 use std::alloc::Global;
-use std::rt::Files;
 
 /// The names of the calls: what is done, and for which shell.
 pub(crate) const CALLS: &[&str] = &[
@@ -63,32 +60,25 @@ pub(crate) const CALLS: &[&str] = &[
 ];
 
 /// Makes the call of this name, which writes to the sink.
-pub(crate) fn call<R: Files + AllocGlobal>(
-    rt: &R,
+pub(crate) fn call(
+    rt: &HostRuntime,
     name: &str,
+    sources: &Sources<'_, MemoryFolder, Completers>,
     command: &mut Command,
     sink: &mut Counted<Narrow>,
 ) -> Result<(), Error> {
     let alloc = rt.alloc();
     let (done, shell) = name.split_once(' ').unwrap_or((name, ""));
     match done {
-        "bash_script_and_candidates" => write_both(alloc, Some("/w"), command, sink),
+        "bash_script_and_candidates" => write_both(alloc, sources, command, sink),
         "build" => command.build(alloc),
-        "complete" => complete_word(alloc, shell, command, sink),
-        "generate" => {
-            let shell = Shell::parse(alloc, shell)?;
-            generate(alloc, shell, command, String::from_str(alloc, "app")?, sink)
-        }
-        "generate_to" => {
-            let shell = Shell::parse(alloc, shell)?;
-            let name = String::from_str(alloc, "app")?;
-            let path = generate_to(rt, alloc, shell, command, name, ".")?;
-            put_all(sink, path.as_str().as_bytes())
-        }
+        "complete" => complete_word(alloc, shell, sources, command, sink),
+        "generate" => write_script(alloc, shell, command, sink),
+        "generate_to" => write_file(rt, shell, command, sink),
         "write_registration" => register(alloc, &Shells::builtins(), shell, sink),
         "write_safe_registration" => register(alloc, &Shells::safe(), shell, sink),
-        "write_complete" => reply(alloc, shell, command, sink),
-        _ => attempt(alloc, shell, sink),
+        "write_complete" => reply(alloc, shell, sources, command, sink),
+        _ => attempt(alloc, shell, sources, sink),
     }
 }
 
@@ -97,6 +87,7 @@ pub(crate) fn call<R: Files + AllocGlobal>(
 fn complete_word(
     alloc: Global,
     wanted: &str,
+    sources: &Sources<'_, MemoryFolder, Completers>,
     command: &mut Command,
     sink: &mut Counted<Narrow>,
 ) -> Result<(), Error> {
@@ -107,27 +98,31 @@ fn complete_word(
         "list" => &["app", "--level", "h"],
         _ => &["app", "--root", "k"],
     };
-    let last = words.len().saturating_sub(1);
     let words = texts(alloc, words)?;
-    let folder = folder();
-    let mut completers: Vec<Box<dyn ValueCompleter>> = Vec::new(alloc);
-    completers.push(Box::new(alloc, Keys)?)?;
-    let mut lists: Vec<Box<dyn ValueCandidates>> = Vec::new(alloc);
-    lists.push(Box::new(alloc, Levels)?)?;
-    let completers = Completers::new(alloc, completers, lists);
+    put_candidates(alloc, words, sources, command, sink)
+}
+
+/// Writes the value of each candidate for the last of the words, and a line feed after it.
+pub(crate) fn put_candidates(
+    alloc: Global,
+    words: Vec<String>,
+    sources: &Sources<'_, MemoryFolder, Completers>,
+    command: &mut Command,
+    sink: &mut Counted<Narrow>,
+) -> Result<(), Error> {
+    let last = words.len().saturating_sub(1);
     let found = complete(
         alloc,
         command,
         words,
         last,
-        Some("/w"),
-        &folder,
-        &completers,
+        sources.current_dir,
+        sources.folder,
+        sources.completers,
     )?;
     put_values(found.as_slice(), sink)
 }
 
-// Writes the value of each candidate.
 fn put_values(found: &[CompletionCandidate], sink: &mut Counted<Narrow>) -> Result<(), Error> {
     for candidate in found {
         put_all(sink, candidate.get_value().as_bytes())?;
@@ -139,21 +134,38 @@ fn put_values(found: &[CompletionCandidate], sink: &mut Counted<Narrow>) -> Resu
 // Writes a script for bash, and then the value of each candidate.
 fn write_both(
     alloc: Global,
-    current_dir: Option<&str>,
+    sources: &Sources<'_, MemoryFolder, Completers>,
     command: &mut Command,
     sink: &mut Counted<Narrow>,
 ) -> Result<(), Error> {
     let words = texts(alloc, &["app", "--root", "k"])?;
     let name = String::from_str(alloc, "app")?;
-    let folder = folder();
-    let completers = Completers::none(alloc);
-    let sources = Sources {
-        current_dir,
-        folder: &folder,
-        completers: &completers,
-    };
-    let found = bash_script_and_candidates(alloc, command, name, words, 2, &sources, sink)?;
+    let found = bash_script_and_candidates(alloc, command, name, words, 2, sources, sink)?;
     put_values(found.as_slice(), sink)
+}
+
+fn write_script(
+    alloc: Global,
+    shell: &str,
+    command: &mut Command,
+    sink: &mut Counted<Narrow>,
+) -> Result<(), Error> {
+    let shell = Shell::parse(alloc, shell)?;
+    let name = String::from_str(alloc, "app")?;
+    generate(alloc, shell, command, name, sink)
+}
+
+// Writes a script to a file in the current directory, and the path of the file to the sink.
+fn write_file(
+    rt: &HostRuntime,
+    shell: &str,
+    command: &mut Command,
+    sink: &mut Counted<Narrow>,
+) -> Result<(), Error> {
+    let shell = Shell::parse(rt.alloc(), shell)?;
+    let name = String::from_str(rt.alloc(), "app")?;
+    let path = generate_to(rt, rt.alloc(), shell, command, name, ".")?;
+    put_all(sink, path.as_str().as_bytes())
 }
 
 fn register<E: EnvCompleter>(
@@ -173,23 +185,22 @@ fn register<E: EnvCompleter>(
 fn reply(
     alloc: Global,
     shell: &str,
+    sources: &Sources<'_, MemoryFolder, Completers>,
     command: &mut Command,
     sink: &mut Counted<Narrow>,
 ) -> Result<(), Error> {
+    let env = environment(alloc, shell)?;
     let words = texts(alloc, &["app", "--root", "k"])?;
-    let wanted = environment(alloc, &[("_CLAP_COMPLETE_INDEX", "2")])?;
-    let folder = folder();
-    let completers = Completers::none(alloc);
     match Shells::builtins().completer(shell) {
         Some(shell) => {
             shell.write_complete(
                 alloc,
                 command,
                 words,
-                Some("/w"),
-                &wanted,
-                &folder,
-                &completers,
+                sources.current_dir,
+                &env,
+                sources.folder,
+                sources.completers,
                 sink,
             )
         }
@@ -198,31 +209,31 @@ fn reply(
 }
 
 // Does what a program does if a shell requests its registration or a reply.
-fn attempt(alloc: Global, wanted: &str, sink: &mut Counted<Narrow>) -> Result<(), Error> {
+fn attempt(
+    alloc: Global,
+    wanted: &str,
+    sources: &Sources<'_, MemoryFolder, Completers>,
+    sink: &mut Counted<Narrow>,
+) -> Result<(), Error> {
     let (wanted, shell) = wanted.split_once(' ').unwrap_or((wanted, ""));
-    let variables = [("COMPLETE", shell), ("_CLAP_COMPLETE_INDEX", "2")];
     let words: &[&str] = if wanted == "register" {
         &["/o'p/app"]
     } else {
         &["app", "--", "app", "--root", "k"]
     };
-    CompleteEnv::with_factory(|alloc: Global| command(alloc))
-        .try_complete(
-            alloc,
-            texts(alloc, words)?,
-            Some("/w"),
-            &environment(alloc, &variables)?,
-            &folder(),
-            &Completers::none(alloc),
-            sink,
-        )
-        .map(drop)
-}
-
-// Returns a directory with files to complete.
-fn folder() -> MemoryFolder {
-    MemoryFolder::new(
-        &[("/w", &["keys", "key.asc"]), ("/w/keys", &[])],
-        &["/w/key.asc"],
-    )
+    let env = environment(alloc, shell)?;
+    let words = texts(alloc, words)?;
+    let tried = CompleteEnv::with_factory(|alloc: Global| app(alloc)).try_complete(
+        alloc,
+        words,
+        sources.current_dir,
+        &env,
+        sources.folder,
+        sources.completers,
+        sink,
+    );
+    match tried {
+        Ok(_) => Ok(()),
+        Err(error) => Err(error),
+    }
 }

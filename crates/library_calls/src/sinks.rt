@@ -12,6 +12,7 @@ pub(crate) struct Narrow {
     held: Vec<u8>,
     room: usize,
     spent: Option<ErrorKind>,
+    most: usize,
 }
 
 impl Narrow {
@@ -23,7 +24,17 @@ impl Narrow {
         spent: Option<ErrorKind>,
     ) -> Result<Narrow, AllocError> {
         let held = Vec::with_capacity(alloc, HELD)?;
-        Ok(Narrow { held, room, spent })
+        Ok(Narrow {
+            held,
+            room,
+            spent,
+            most: 0,
+        })
+    }
+
+    /// Returns the length of the longest slice that it was given.
+    pub(crate) fn most(&self) -> usize {
+        self.most
     }
 
     /// Returns the accepted bytes.
@@ -34,6 +45,7 @@ impl Narrow {
 
 impl Write for Narrow {
     fn write(&mut self, bytes: &[u8]) -> io::Result<usize> {
+        self.most = self.most.max(bytes.len());
         let left = self.room.saturating_sub(self.held.len());
         let taken = &bytes[..bytes.len().min(left).min(1)];
         if taken.is_empty() && !bytes.is_empty() {

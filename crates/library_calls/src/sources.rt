@@ -5,22 +5,19 @@ ghost use Rattle.std.specs.Prelude.{⊤};
 use clap_complete::engine::{CompletionCandidate, ValueCandidates, ValueCompleter};
 use std::alloc::{AllocError, Global};
 
-/// Completes a text to a name that begins with it.
+/// A completer of a key.
 #[derive(Drop)]
 pub(crate) struct Keys;
 
 impl ValueCompleter for Keys {
     ghost completes = { λ _ _ _ _. ⊤ };
 
-    fn complete(&self, alloc: Global, text: &str) -> Result<Vec<CompletionCandidate>, AllocError> {
-        let value = format!(in alloc; "{text}ey")?;
-        let mut found = Vec::new(alloc);
-        found.push(CompletionCandidate::new(value))?;
-        Ok(found)
+    fn complete(&self, alloc: Global, _text: &str) -> Result<Vec<CompletionCandidate>, AllocError> {
+        one(alloc, "key")
     }
 }
 
-/// Lists two levels.
+/// A list of a level.
 #[derive(Drop)]
 pub(crate) struct Levels;
 
@@ -28,10 +25,13 @@ impl ValueCandidates for Levels {
     ghost lists = { λ _ _. ⊤ };
 
     fn candidates(&self, alloc: Global) -> Result<Vec<CompletionCandidate>, AllocError> {
-        let mut found = Vec::new(alloc);
-        for level in ["low", "high"] {
-            found.push(CompletionCandidate::new(String::from_str(alloc, level)?))?;
-        }
-        Ok(found)
+        one(alloc, "high")
     }
+}
+
+fn one(alloc: Global, value: &str) -> Result<Vec<CompletionCandidate>, AllocError> {
+    let value = String::from_str(alloc, value)?;
+    let mut found = Vec::new(alloc);
+    found.push(CompletionCandidate::new(value))?;
+    Ok(found)
 }
