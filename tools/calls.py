@@ -13,7 +13,7 @@ its methods. The module of crates/clap_complete has to re-export the name, or th
 it public. Each method has to be public in an `impl` or a trait of that type.
 
 Each call of the list that returns a `Result` has to be called by a crate that tests run, because a body that always
-fails with `Memory` meets most contracts. A call is looked for by its name. UNCALLED names the exceptions.
+fails with `Memory` meets most contracts. A call is looked for by its name. THROUGH names those that another call makes.
 
 The script searches the sources, and builds nothing. With --check it prints what is missing, and the number of
 calls. The status is 0 if nothing is missing.
@@ -36,8 +36,11 @@ CRATES = [
 ]
 # The crates that tests run: tests, programs, and the crates that only the program uses.
 RUN = ["cc_tests", "library_calls", "larder", "pantry", *(it for it in common.crate_lines() if it.startswith("complgen"))]
-# Each `write_complete` calls it.
-UNCALLED = {"write_complete_from"}
+# Calls that tests make through others: each `write_complete`, `candidates_and_parser`, `candidates_and_reached_parser`
+# and `run`. The crate is the one in which these call them.
+THROUGH = {
+    "write_complete_from": "cc_env", "parser": "cc_parser", "local_parser": "cc_parser", "run_over": "cc_program",
+}
 LAW = {"Model", "Drop"}
 SHOWN = {"ThisError": "Error"}
 
@@ -241,8 +244,13 @@ def uncalled(crate, name, methods):
     else:
         item = find(crate, name)
         found = {name: item} if item.kind == "fn" else {}
-    found = {it: item for it, item in found.items() if may_fail(item) and it not in UNCALLED}
-    return [it for it in found if not re.search(rf"\b{it}(?:::<[^>]*>)?\(", run())]
+    return [it for it, item in found.items() if may_fail(item) and not is_called(it)]
+
+
+def is_called(name):
+    """Tells whether a crate that tests run calls a function of this name, or the crate of THROUGH."""
+    crates = (THROUGH[name],) if name in THROUGH else tuple(RUN)
+    return re.search(rf"(?<!fn )\b{name}(?:::<[^>]*>)?\(", text_of(crates))
 
 
 def may_fail(item):
@@ -252,9 +260,10 @@ def may_fail(item):
 
 
 @functools.lru_cache(maxsize=None)
-def run():
-    """Returns the sources of the crates that tests run, as one text."""
-    return "\n".join(line for crate in RUN for lines in sources(crate) for line in lines)
+def text_of(crates):
+    """Returns the sources of these crates as one text, without comments."""
+    lines = [line for crate in crates for lines in sources(crate) for line in lines]
+    return "\n".join(line for line in lines if not line.lstrip().startswith("//"))
 
 
 def crate_of(module, name):

@@ -3,8 +3,9 @@
 
     tools/rows.py
 
-A place is a case, a row over definitions, a test, a public function with a contract, or a script. The script prints
-each that does not exist, and counts the behaviours and their places. The status is 0 if all exist.
+A place is a case, a row over definitions, a test, a public function with a contract, or a script. A method of a public
+trait counts as a public function. The script prints each place that does not exist, and counts the behaviours and their
+places. The status is 0 if all exist.
 """
 
 import glob
@@ -55,9 +56,13 @@ def exists(kind, name):
 
 
 def has_clause(text, function):
-    """Tells whether a public function of this name has a contract."""
+    """Tells whether a public function or a method of a public trait with this name has a contract."""
     found = re.search(rf"^ *pub fn {function}\b.*?\n *\{{\n", text, re.MULTILINE | re.DOTALL)
-    return found and "ensures" in found.group(0)
+    if found:
+        return "ensures" in found.group(0)
+    method = re.compile(rf"^    fn {function}\b.*?;$", re.MULTILINE | re.DOTALL)
+    traits = re.findall(r"^pub trait .*?^\}$", text, re.MULTILINE | re.DOTALL)
+    return any("ensures" in it for body in traits for it in method.findall(body))
 
 
 def sources():

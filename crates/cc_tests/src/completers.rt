@@ -1,14 +1,15 @@
-//! Values and names from completers and lists, for whose numbers a tree file has no keys.
+//! Values from completers and lists, for whose numbers a tree file has no keys.
 
 ghost use Rattle.std.specs.Prelude.{⊤};
 
-use crate::offered::{are, offers};
-use crate::trees::{BARE, read};
+use crate::checks::is;
 use clap_complete::Error;
 use clap_complete::command::{Arg, Command, ValueRange};
+use clap_complete::describe::{arg, command, option, with_arg};
 use clap_complete::engine::{
     ArgValueCandidates, ArgValueCompleter, Completers, CompletionCandidate, FnCandidates,
-    FnCompleter, SubcommandCandidates, ValueCandidates, ValueCompleter,
+    FnCompleter, MemoryFolder, SubcommandCandidates, ValueCandidates, ValueCompleter, complete,
+    complete_possible_values, possible_value_candidates,
 };
 use std::alloc::{AllocError, Global};
 
@@ -21,7 +22,7 @@ impl ValueCompleter for Echo {
     ghost completes = { λ _ _ _ _. ⊤ };
 
     fn complete(&self, alloc: Global, text: &str) -> Result<Vec<CompletionCandidate>, AllocError> {
-        candidates_named(alloc, &[text])
+        one(alloc, text)
     }
 
     fn complete_at(
@@ -31,11 +32,11 @@ impl ValueCompleter for Echo {
         text: &str,
     ) -> Result<Vec<CompletionCandidate>, AllocError> {
         let value = format!(in alloc; "{number}:{text}")?;
-        candidates_named(alloc, &[value.as_str()])
+        one(alloc, value.as_str())
     }
 }
 
-/// Names of programs, one of them twice.
+/// A list of a name.
 #[derive(Drop)]
 struct Programs;
 
@@ -43,111 +44,117 @@ impl ValueCandidates for Programs {
     ghost lists = { λ _ _. ⊤ };
 
     fn candidates(&self, alloc: Global) -> Result<Vec<CompletionCandidate>, AllocError> {
-        candidates_named(alloc, &["tee", "tar", "cat", "tee"])
+        one(alloc, "tee")
     }
 }
 
-fn candidates_named(alloc: Global, names: &[&str]) -> Result<Vec<CompletionCandidate>, AllocError> {
+fn one(alloc: Global, name: &str) -> Result<Vec<CompletionCandidate>, AllocError> {
+    let name = String::from_str(alloc, name)?;
     let mut found = Vec::new(alloc);
-    for name in names {
-        found.push(CompletionCandidate::new(String::from_str(alloc, name)?))?;
-    }
+    found.push(CompletionCandidate::new(name))?;
     Ok(found)
 }
 
-// Returns the completer `Echo` and the list `Programs`.
-fn without_closures(alloc: Global) -> Result<Completers, Error> {
-    let mut completers: Vec<Box<dyn ValueCompleter>> = Vec::new(alloc);
-    completers.push(Box::new(alloc, Echo)?)?;
-    let mut completers = Completers::new(alloc, completers, Vec::new(alloc));
+// Adds the completer `Echo` and the list `Programs`.
+fn add_all(alloc: Global, completers: &mut Completers) -> Result<(), Error> {
+    completers.add_completer(Box::new(alloc, Echo)?)?;
     completers.add_list(Box::new(alloc, Programs)?)?;
-    Ok(completers)
+    Ok(())
 }
 
-// Adds a completer that completes with the text twice.
-fn with_twice(alloc: Global) -> Result<Completers, Error> {
-    let mut completers = without_closures(alloc)?;
-    let twice = Box::new(alloc, |alloc: Global, text: &str| twice(alloc, text))?;
-    completers.add_completer_closure(FnCompleter::new(twice))?;
-    Ok(completers)
+// Adds a closure of each kind.
+fn add_closures(alloc: Global, completers: &mut Completers) -> Result<(), Error> {
+    let same = Box::new(alloc, |alloc: Global, text: &str| one(alloc, text))?;
+    completers.add_completer_closure(FnCompleter::new(same))?;
+    let side = Box::new(alloc, |alloc: Global| one(alloc, "left"))?;
+    completers.add_list_closure(FnCandidates::new(side))?;
+    Ok(())
 }
 
-// Adds a list of `left` and `right` too.
-fn completers(alloc: Global) -> Result<Completers, Error> {
-    let mut completers = with_twice(alloc)?;
-    let sides = Box::new(
-        alloc,
-        |alloc: Global| candidates_named(alloc, &["left", "right"]),
-    )?;
-    completers.add_list_closure(FnCandidates::new(sides))?;
-    Ok(completers)
-}
-
-fn twice(alloc: Global, text: &str) -> Result<Vec<CompletionCandidate>, AllocError> {
-    let value = format!(in alloc; "{text}{text}")?;
-    candidates_named(alloc, &[value.as_str()])
-}
-
-/// Returns `app` with a positional with this completer, and no flag.
-pub(crate) fn with_positional(alloc: Global, completer: usize) -> Result<Command, Error> {
-    let completer = ArgValueCompleter::new(completer);
-    with(
-        alloc,
-        positional(alloc).map(|positional| positional.add(completer)),
-    )
-}
-
-// Returns `app` with a positional of several values in one word, of the completer 0, and no flag.
-fn with_delimiter(alloc: Global) -> Result<Command, Error> {
-    let positional = positional(alloc).map(|positional| positional
-        .value_delimiter(',')
-        .add(ArgValueCompleter::new(0)));
-    with(alloc, positional)
-}
-
-// Returns `app` with an option `--pair` of two values, of the completer 0, and no flag.
-fn with_pair(alloc: Global) -> Result<Command, Error> {
-    let pair = pair(alloc).map(|pair| {
-        pair.num_args(ValueRange::new(2, 2))
-            .add(ArgValueCompleter::new(0))
-    });
-    with(alloc, pair)
+// Returns `app` with an option of two values, and one of several values in one word, of the completer.
+fn app(alloc: Global) -> Result<Command, Error> {
+    let app = command(alloc, "app", "", &[]);
+    with_arg(with_arg(app, pair(alloc)), parts(alloc))
 }
 
 fn pair(alloc: Global) -> Result<Arg, Error> {
-    let long = String::from_str(alloc, "pair")?;
-    Ok(positional(alloc)?.long(long))
+    let pair = option("pair", "PAIR", "").completer(ArgValueCompleter::new(0));
+    Ok(arg(alloc, &pair)?.num_args(ValueRange::new(2, 2)))
 }
 
-fn positional(alloc: Global) -> Result<Arg, Error> {
-    Ok(Arg::new(alloc, String::from_str(alloc, "kind")?))
+fn parts(alloc: Global) -> Result<Arg, Error> {
+    let parts = option("parts", "PARTS", "").completer(ArgValueCompleter::new(0));
+    Ok(arg(alloc, &parts)?.value_delimiter(','))
 }
 
-fn with(alloc: Global, argument: Result<Arg, Error>) -> Result<Command, Error> {
-    read(alloc, BARE).and_then(|command| argument.and_then(|argument| command.arg(argument)))
+// Returns the first value that is offered for the last of the words.
+fn offered(
+    alloc: Global,
+    command: &mut Command,
+    completers: &Completers,
+    words: &[&str],
+) -> Result<String, Error> {
+    let last = words.len().saturating_sub(1);
+    let words = to_strings(alloc, words)?;
+    let folder = MemoryFolder::new(&[], &[]);
+    let found = complete(alloc, command, words, last, None, &folder, completers)?;
+    match found.as_slice() {
+        [candidate] => Ok(String::from_str(alloc, candidate.get_value())?),
+        _ => Ok(String::new(alloc)),
+    }
+}
+
+fn to_strings(alloc: Global, words: &[&str]) -> Result<Vec<String>, AllocError> {
+    let mut copies = Vec::new(alloc);
+    for word in words {
+        copies.push(String::from_str(alloc, word)?)?;
+    }
+    Ok(copies)
 }
 
 #[test]
 fn a_completer_gets_the_number_and_the_text_of_a_value(rt: HostRuntime) {
     let alloc = rt.alloc();
-    let words = ["app", "--pair", "a", "b"];
-    offers(&rt, with_pair(alloc), completers(alloc), &words, "1:b ");
-    let parts = with_delimiter(alloc);
-    offers(&rt, parts, completers(alloc), &["app", "a,b,c"], "a,b,0:c ");
-    let repeated = with_positional(alloc, 1);
-    offers(&rt, repeated, completers(alloc), &["app", "ab"], "abab ");
+    let mut completers = Completers::none(alloc);
+    assert!(rt; add_all(alloc, &mut completers).is_ok());
+    let mut app = app(alloc).expect(&rt, "no command");
+    let pair = offered(alloc, &mut app, &completers, &["app", "--pair", "a", "b"]);
+    is(&rt, pair, "1:b");
+    let parts = offered(alloc, &mut app, &completers, &["app", "--parts", "a,b,c"]);
+    is(&rt, parts, "a,b,0:c");
+    drop(app);
+    drop(completers);
+}
+
+// Calls each number by itself.
+fn call_numbers(alloc: Global, completers: &Completers) -> Result<(), AllocError> {
+    let echo = ArgValueCompleter::new(0);
+    echo.complete(alloc, completers, "a")?;
+    echo.complete_at(alloc, completers, 3, "a")?;
+    ArgValueCandidates::new(0).candidates(alloc, completers)?;
+    SubcommandCandidates::new(0).candidates(alloc, completers)?;
+    Ok(())
 }
 
 #[test]
-fn a_number_of_what_is_added(rt: HostRuntime) {
-    let alloc = rt.alloc();
-    let completers = without_closures(alloc).expect(&rt, "nothing is added");
-    let echo = ArgValueCompleter::new(0);
-    are(&rt, echo.complete(alloc, &completers, "a"), "0:a ");
-    are(&rt, echo.complete_at(alloc, &completers, 3, "a"), "3:a ");
-    let list = ArgValueCandidates::new(0).candidates(alloc, &completers);
-    are(&rt, list, "tee tar cat tee ");
-    let programs = SubcommandCandidates::new(0).candidates(alloc, &completers);
-    are(&rt, programs, "tee tar cat tee ");
+fn closures_are_added_and_numbers_are_called(rt: HostRuntime) {
+    let mut completers = Completers::none(rt.alloc());
+    assert!(rt; add_closures(rt.alloc(), &mut completers).is_ok());
+    assert!(rt; call_numbers(rt.alloc(), &completers).is_ok());
     drop(completers);
+}
+
+// Makes candidates of possible values, and one with two prefixes.
+fn make_candidates(alloc: Global) -> Result<(), Error> {
+    possible_value_candidates(alloc, Vec::new(alloc))?;
+    complete_possible_values(alloc, "n", Vec::new(alloc))?;
+    let candidate = CompletionCandidate::new(String::new(alloc));
+    let candidate = candidate.add_prefix(alloc, "--o=")?;
+    candidate.with_prefix(alloc, "-")?;
+    Ok(())
+}
+
+#[test]
+fn possible_values_and_prefixes_make_candidates(rt: HostRuntime) {
+    assert!(rt; make_candidates(rt.alloc()).is_ok());
 }

