@@ -263,6 +263,8 @@ def read_fault(folder, path):
                 pairs.append((file, text))
             elif word == "new":
                 pairs[-1] += (text,)
+            elif line and not line.startswith("#"):
+                sys.exit(f"{os.path.relpath(path, TOP)}: the line {line!r} has none of file:, old: and new:")
     changes, functions, texts = [], set(), {}
     for file, old, new in pairs:
         if file not in texts:
@@ -270,6 +272,8 @@ def read_fault(folder, path):
                 texts[file] = source.read()
         if texts[file].count(old) != 1:
             sys.exit(f"{os.path.relpath(path, TOP)}: {old!r} does not appear exactly once in {file}")
+        if old == new:
+            sys.exit(f"{os.path.relpath(path, TOP)}: {old!r} is not changed")
         functions.add((file, *function_at(texts[file], texts[file].index(old))))
         texts[file] = texts[file].replace(old, new)
         changes.append((file, old, new))
