@@ -194,11 +194,11 @@ class Shown(shells.Shell):
                 raise shells.Ended(f"{self.name} shows something else:\n" + "\n".join(self.lines()))
             self.read(0.05)
 
-    def type(self, text: str, tabs: int) -> None:
-        """Types a text at the prompt, and Tabs. Keeps the row of it."""
+    def type(self, text: str, tabs: int, shown: str = "") -> None:
+        """Types a text at the prompt, and Tabs. Keeps the row of it, and that these Tabs follow what is shown."""
         self.send(text)
         self.expect(lambda lines: lines[-1] == self.prompt + text)
-        self.typed.append(Typed(len(self.lines()) - 1, "[Tab]" if tabs == 1 else "[Tab] [Tab]"))
+        self.typed.append(Typed(len(self.lines()) - 1, shown + " ".join(["[Tab]"] * tabs)))
         self.send("\t" * tabs)
 
     def colours(self) -> None:
@@ -208,7 +208,7 @@ class Shown(shells.Shell):
 
     def file(self) -> None:
         """Has the shell insert the name of the file, runs the command, and lists the directory."""
-        self.type("app x", 1)
+        self.type("app x", 1, "typed: app x ")
         line = f"{self.prompt}app x\\$\\(touch\\ hit\\)"
         self.expect(lambda lines: lines[-1] == line)
         self.send("\r")
