@@ -4,7 +4,7 @@
     bench/beside_own.py [--shells bash,zsh,fish] [--runs N] [--programs gh,hcloud,restic] [--typed]
 
 The programs are those of Debian's packages gh, hcloud-cli and restic. Their own completion starts the program at each
-Tab. For `complgen`, `complgen-import --walk` makes a tree file of each program first. tests/shells.py runs the shells
+Tab, except that of hcloud and restic in bash. For `complgen`, `complgen-import --walk` makes a tree file of each program first. tests/shells.py runs the shells
 in a pseudo terminal, with an empty home. The columns are these:
 
 - none: a file name, which the shell completes by itself. That is the cost of the shell and of the measurement, and
@@ -87,11 +87,11 @@ def make_tree(scratch, name):
 
 def measure_program(scratch, shell, name, runs):
     """Prints the line of a program in a shell. Returns whether each line was completed as expected."""
-    typed, end, words, _ = PROGRAMS[name]
+    typed, end = PROGRAMS[name][:2]
     terminal = shells.started(shell, scratch, scratch.written(shell), ONLY.get(shell, ""))
     times, good = measure(terminal, {"none": NONE, "complgen": (typed, end)}, runs)
     terminal.close()
-    terminal = shells.started(shell, scratch, own_script(scratch, shell, [name, *words]), setup_of_own(shell))
+    terminal = shells.started(shell, scratch, *own(scratch, shell, name))
     found, as_expected = measure(terminal, {"own": (typed, end)}, runs)
     terminal.close()
     times.update(found)
@@ -105,7 +105,7 @@ def type_command(scratch, shell, name):
     script = scratch.printed("script", "--shell", shell, "--bin", name, path)
     loaded = {
         "live": (scratch.written(shell), ONLY.get(shell, "")), "script": (script, ONLY.get(shell, "")),
-        "own": (own_script(scratch, shell, [name, *PROGRAMS[name][2]]), setup_of_own(shell)),
+        "own": own(scratch, shell, name),
     }
     ran = {}
     for column, (text, setup) in loaded.items():
@@ -118,8 +118,19 @@ def type_command(scratch, shell, name):
     return not ran["live"] and not ran["script"]
 
 
+def own(scratch, shell, name):
+    """Returns the script that a program writes for a shell, as a text to load, and what is set up before. In zsh the
+    script is a file in a directory of functions, because some of them register nothing when they are sourced."""
+    script = own_script(scratch, shell, [name, *PROGRAMS[name][2]])
+    if shell != "zsh":
+        return script, setup_of_own(shell)
+    folder = os.path.join(scratch.path, "functions")
+    shells.write(os.path.join(folder, "_" + name), script)
+    return "", f"fpath=('{folder}' $fpath); autoload -Uz compinit; compinit -u -D"
+
+
 def own_script(scratch, shell, words):
-    """Returns the script that a program writes for a shell."""
+    """Returns the text that a program writes as its script for a shell."""
     ran = subprocess.run(
         [word.format(shell) for word in words], env=scratch.environment, cwd=scratch.path, stdin=subprocess.DEVNULL,
         stdout=subprocess.PIPE, stderr=subprocess.DEVNULL, check=True, text=True)
