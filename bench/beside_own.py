@@ -4,8 +4,8 @@
     bench/beside_own.py [--shells bash,zsh,fish] [--runs N] [--programs gh,hcloud,restic] [--typed]
 
 The programs are those of Debian's packages gh, hcloud-cli and restic. Their own completion starts the program at each
-Tab, except that of hcloud and restic in bash. For `complgen`, `complgen-import --walk` makes a tree file of each program first. tests/shells.py runs the shells
-in a pseudo terminal, with an empty home. The columns are these:
+Tab, except that of hcloud and restic in bash. For `complgen`, `complgen-import --walk` makes a tree file of each
+program first. tests/shells.py runs the shells in a pseudo terminal, with an empty home. The columns are these:
 
 - none: a file name, which the shell completes by itself. That is the cost of the shell and of the measurement, and
   both other columns contain it;
