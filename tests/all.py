@@ -49,6 +49,7 @@ LEFT_OUT = (
     ("tests/safe_live.py --only ten-thousand --only start", "measures times: needs a machine of its own"),
     ("tests/in_suite SUITE -- tests/safe_live.py", "the shells of another Debian: needs root and debootstrap"),
     ("tools/faults.py", "all planted faults of more-faults/: needs rt, and most of an hour"),
+    ("tools/documents.py --run", "the commands of the pages: runs programs that are installed here"),
 )
 
 
@@ -102,7 +103,6 @@ def listed() -> List[Test]:
         tested([], [], "tools/calls.py", "--check"), tested([], [], "tools/clauses.py", "--check"),
         tested([], [], "tools/keys.py", "--check"), tested([], [], "tools/rows.py"), tested([], [], "release/declarations.py"),
         tested(complgen, ["bash", "zsh", "fish"], "tools/demo.py", "--check"),
-        tested(complgen, ["git"], "tools/documents.py", "--run"),
     ]
     return runs + [Test(words.split(), why) for words, why in LEFT_OUT]
 
