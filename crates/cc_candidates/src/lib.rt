@@ -30,7 +30,7 @@ pub use crate::completers::Completers;
 pub use crate::copies::copy_of_some;
 pub use crate::paths::{
     EveryPath, FnTest, Folder, FolderError, IsDir, IsExecutable, IsFile, MemoryFolder,
-    PathCompleter, PathTest, RealFolder, TextTest, join, path_candidates, trim_trailing,
+    PathCompleter, PathTest, RealFolder, TextTest, join, join_some, path_candidates, trim_trailing,
 };
 pub use crate::sorting::sort_candidates;
 pub use crate::traits::{ValueCandidates, ValueCompleter};

@@ -28,5 +28,5 @@ pub use crate::paths::memory_folder::MemoryFolder;
 pub use crate::paths::path_test::{
     EveryPath, FnTest, IsDir, IsExecutable, IsFile, PathTest, TextTest,
 };
-pub use crate::paths::path_texts::{join, trim_trailing};
+pub use crate::paths::path_texts::{join, join_some, trim_trailing};
 pub use crate::paths::real_folder::RealFolder;

@@ -2,10 +2,9 @@
 
 ghost use Rattle.std.specs.Prelude.{◌≡◌, IfOk, string_bytes};
 ghost use Rattle.std.specs.Option.{option_copied, option_map};
-ghost use Rattle.cc_candidates.specs.PathTexts.{join_some};
 ghost use Rattle.cc_lines.specs.ValueFiles.{after_home, first_lines, values_path};
 
-use cc_candidates::join;
+use cc_candidates::join_some;
 use std::alloc::{AllocError, Global};
 
 /// Returns the path of a file that lists values: `path` if it is absolute; below `home`, what
@@ -40,17 +39,6 @@ fn after_home(path: &str) -> Option<&str>
         Some(("~", rest)) => Some(rest),
         None if path == "~" => Some(""),
         _ => None,
-    }
-}
-
-// Joins the path to the base, if there is one.
-fn join_some(alloc: Global, base: Option<&str>, path: &str) -> Result<Option<String>, AllocError>
-    ensures { IfOk result (λ joined. option_map string_bytes joined
-        ≡ join_some (option_copied base.entry) path.now) }
-{
-    match base {
-        Some(base) => Ok(Some(join(alloc, base, path)?)),
-        None => Ok(None),
     }
 }
 

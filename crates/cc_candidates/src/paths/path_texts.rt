@@ -132,8 +132,16 @@ pub(crate) fn search_root(
     }
 }
 
-// Joins the path to the base, if there is one.
-fn join_some(alloc: Global, base: Option<&str>, path: &str) -> Result<Option<String>, AllocError>
+/// Joins `path` to `base` as [`join`] does. Returns `None` without a base.
+///
+/// # Errors
+///
+/// `AllocError` if an allocation fails.
+pub fn join_some(
+    alloc: Global,
+    base: Option<&str>,
+    path: &str,
+) -> Result<Option<String>, AllocError>
     ensures { IfOk result (λ joined. option_map string_bytes joined
         ≡ join_some (option_copied base.entry) path.now) }
 {
