@@ -5,6 +5,7 @@ use Rattle.cc_arg.specs.declared.range.ValueRange.{ValueRange}
 use Rattle.cc_arg.specs.declared.action.ArgAction.{ArgAction}
 use Rattle.cc_arg.specs.declared.action.ArgAction.TheVariants.{Set, Append, SetTrue}
 use Rattle.cc_arg.specs.declared.value_hint.ValueHint.TheVariants.{Unknown}
+use Rattle.cc_arg.specs.declared.values_protocol.ValuesProtocol.TheVariants.{Lines}
 use Rattle.cc_arg.specs.declared.possible_value.PossibleValue.{PossibleValue}
 use Rattle.cc_arg.specs.Action.{action_takes_values}
 
@@ -33,6 +34,8 @@ new_arg id = record {
   values_from = None;
   values_file = None;
   values_split = None;
+  values_words = false;
+  values_protocol = Lines;
   default_value = None;
   conflicts = [];
   required = false;

@@ -3,10 +3,13 @@
 use Rattle.std.specs.Prelude.{ℕ, List, [], ◌∷◌, Bool, true, false, ◌&&◌, ◌||◌, not, ◌==◌, Option, Some, None, is_some, bytes_eq, if◌then◌else◌}
 use Rattle.std.specs.List.{list_all, list_any}
 use Rattle.std.specs.Option.{option_eq}
-use Rattle.cc_base.specs.declared.numbers.ArgValueCandidates.{ArgValueCandidates}
 use Rattle.cc_arg.specs.declared.parts.ArgParts.{ArgParts as Arg}
 use Rattle.cc_arg.specs.declared.value_hint.ValueHint.{ValueHint}
 use Rattle.cc_arg.specs.declared.value_hint.ValueHint.TheVariants.{CommandName, Username, Hostname}
+use Rattle.cc_arg.specs.declared.value_source.SourceValues.{SourceValues}
+use Rattle.cc_arg.specs.declared.value_source.SourceValues.TheVariants.{Listed, Paths}
+use Rattle.cc_arg.specs.declared.values_protocol.ValuesProtocol.{ValuesProtocol}
+use Rattle.cc_arg.specs.declared.values_protocol.ValuesProtocol.TheVariants.{Lines, Cobra}
 use Rattle.cc_arg.specs.Arguments.{possible_values}
 
 -- the bytes of `/` and `=`, of a NUL, and of a vertical tab
@@ -86,15 +89,38 @@ same_origin None (Some path) _ None (Some other) _ = bytes_eq path other
 same_origin None None hint None None other = same_hint hint other
 same_origin _ _ _ _ _ _ = false
 
+-- both flags are set, or neither is
+abbrev pub same_flag : Bool → Bool → Bool
+same_flag true other = other
+same_flag false other = not other
+
+abbrev pub same_protocol : ValuesProtocol → ValuesProtocol → Bool
+same_protocol Lines Lines = true
+same_protocol Cobra Cobra = true
+same_protocol _ _ = false
+
+-- the program gets words of the command line for both or for neither, and the lines have one form
+abbrev pub same_lines : Arg → Arg → Bool
+same_lines one other =
+    option_eq bytes_eq one.values_split other.values_split
+    && (same_flag one.values_words other.values_words
+    && same_protocol one.values_protocol other.values_protocol)
+
 -- two arguments have the same source, and their lines are read in the same way
 abbrev pub same_source : Arg → Arg → Bool
 same_source one other =
     (has_source one && has_source other)
     && (same_origin one.values_from one.values_file one.value_hint
     other.values_from other.values_file other.value_hint
-    && option_eq bytes_eq one.values_split other.values_split)
+    && same_lines one other)
 
--- the argument with this list of candidates, if its values come from where those of `asked` do
-abbrev pub listed : Arg → ArgValueCandidates → Arg → Arg
-listed asked list arg =
-    if same_source asked arg then record arg { candidates = Some list } else arg
+-- ---- the values that were read from a source
+
+-- the argument with these values: a list of candidates, or the paths of a hint
+abbrev pub with_values : SourceValues → Arg → Arg
+with_values (Listed list) arg = record arg { candidates = Some list }
+with_values (Paths hint) arg = record arg { value_hint = hint }
+
+-- the argument with these values, if its values come from where those of `asked` do
+abbrev pub listed : Arg → SourceValues → Arg → Arg
+listed asked values arg = if same_source asked arg then with_values values arg else arg

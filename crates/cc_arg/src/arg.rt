@@ -14,6 +14,7 @@ use crate::parts::{ArgParts, items_of, set_text, text_of};
 use crate::possible_value::PossibleValue;
 use crate::range::ValueRange;
 use crate::value_hint::ValueHint;
+use crate::values_protocol::ValuesProtocol;
 use cc_base::{ArgValueCandidates, ArgValueCompleter, Error, Items, Text};
 use std::alloc::{AllocError, AllocFailed, Global};
 use std::marker::Model;
@@ -365,6 +366,37 @@ impl Arg {
         text_of(&self.parts.values_split)
     }
 
+    /// Sets whether the words of the command line are passed to the program of `values_from`, after
+    /// its own words: those behind the name of the completed program, up to the one to complete.
+    pub fn values_words(mut self, pass: bool) -> Arg
+        ensures { result ≡ record self { values_words = pass } }
+    {
+        self.parts.values_words = pass;
+        self
+    }
+
+    /// Returns whether the words of the command line are passed to the program of `values_from`.
+    pub fn is_values_words_set(&self) -> bool
+        ensures { result ≡ self.now.values_words }
+    {
+        self.parts.values_words
+    }
+
+    /// Sets the form of the lines that the program of `values_from` prints.
+    pub fn values_protocol(mut self, protocol: ValuesProtocol) -> Arg
+        ensures { result ≡ record self { values_protocol = protocol } }
+    {
+        self.parts.values_protocol = protocol;
+        self
+    }
+
+    /// Returns the form of the lines that the program of `values_from` prints.
+    pub fn get_values_protocol(&self) -> ValuesProtocol
+        ensures { result ≡ self.now.values_protocol }
+    {
+        self.parts.values_protocol
+    }
+
     /// Sets the value that a parser uses if the argument is not given. Scripts and candidates do
     /// not change.
     pub fn default_value(mut self, value: String) -> Arg
@@ -707,4 +739,11 @@ pub(crate) fn set_candidates(argument: &mut Arg, candidates: ArgValueCandidates)
     ensures { argument.new ≡ record argument.old { candidates = Some candidates } }
 {
     argument.parts.candidates = Some(candidates);
+}
+
+/// Sets the value hint, as `Arg::value_hint` does.
+pub(crate) fn set_value_hint(argument: &mut Arg, hint: ValueHint)
+    ensures { argument.new ≡ record argument.old { value_hint = hint } }
+{
+    argument.parts.value_hint = hint;
 }

@@ -25,6 +25,7 @@ mod printed;
 mod range;
 mod value_hint;
 mod value_source;
+mod values_protocol;
 
 pub use crate::action::ArgAction;
 pub use crate::aliases::{LongAndVisibleAliases, ShortAndVisibleAliases};
@@ -37,4 +38,7 @@ pub use crate::parts::ArgParts;
 pub use crate::possible_value::PossibleValue;
 pub use crate::range::ValueRange;
 pub use crate::value_hint::ValueHint;
-pub use crate::value_source::{has_source, is_runnable, list_if_same_source, same_source};
+pub use crate::value_source::{
+    SourceValues, has_source, is_runnable, list_if_same_source, same_source,
+};
+pub use crate::values_protocol::ValuesProtocol;

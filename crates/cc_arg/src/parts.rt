@@ -9,6 +9,7 @@ use crate::action::ArgAction;
 use crate::possible_value::{PossibleValue, copy_of_given};
 use crate::range::ValueRange;
 use crate::value_hint::ValueHint;
+use crate::values_protocol::ValuesProtocol;
 use cc_base::{ArgValueCandidates, ArgValueCompleter, Items, Text};
 use std::alloc::{AllocError, Global};
 
@@ -47,6 +48,10 @@ pub struct ArgParts {
     pub values_file: Option<Text>,
     /// The text at which the value of a line ends and its description begins.
     pub values_split: Option<Text>,
+    /// True if the words of the command line are passed to the program that prints the values.
+    pub values_words: bool,
+    /// The form of the lines that the program prints.
+    pub values_protocol: ValuesProtocol,
     /// The word that ends the values.
     pub value_terminator: Option<Text>,
     /// The value that a parser uses if the argument is not given.
@@ -98,6 +103,8 @@ macro_rules! each_field {
             values_from words,
             values_file text,
             values_split text,
+            values_words flag,
+            values_protocol protocol,
             value_terminator text,
             default_value text,
             help_heading text,
@@ -134,6 +141,7 @@ macro_rules! first {
     (characters $alloc:ident) => { Items::new($alloc) };
     (flag $alloc:ident) => { false };
     (hint $alloc:ident) => { ValueHint::Unknown };
+    (protocol $alloc:ident) => { ValuesProtocol::Lines };
     (texts $alloc:ident) => { Items::new($alloc) };
     ($kind:ident $alloc:ident) => { None };
 }

@@ -5,10 +5,12 @@ ghost use Rattle.std.specs.Prelude.{◌≡◌, None};
 ghost use Rattle.std.specs.List.{list_all};
 ghost use Rattle.cc_arg.specs.ValueSources.{has_byte, has_own_values, has_source, is_listed, is_program, is_runnable};
 ghost use Rattle.cc_arg.specs.ValueSources.{is_whole_word, listed, names_source, same_hint};
-ghost use Rattle.cc_arg.specs.ValueSources.{same_origin, same_source, same_texts};
+ghost use Rattle.cc_arg.specs.ValueSources.{same_lines, same_origin, same_protocol};
+ghost use Rattle.cc_arg.specs.ValueSources.{same_source, same_texts, with_values};
 
-use crate::arg::{Arg, possible_values, set_candidates};
+use crate::arg::{Arg, possible_values, set_candidates, set_value_hint};
 use crate::value_hint::ValueHint;
+use crate::values_protocol::ValuesProtocol;
 use cc_base::{ArgValueCandidates, Text};
 
 /// Returns whether a shell can run `words`, a program and its arguments.
@@ -103,13 +105,39 @@ fn is_listed(hint: ValueHint) -> bool
     )
 }
 
-/// Returns whether two arguments have the same source, with the same separator of values and
-/// descriptions.
+/// The values that were read from a source outside the command.
+#[derive(Clone, Copy, Debug)]
+pub enum SourceValues {
+    /// A list of candidates, by its number.
+    Listed(ArgValueCandidates),
+    /// The paths of this hint.
+    Paths(ValueHint),
+}
+
+/// Returns whether two arguments have the same source: its program gets words of the command line
+/// for both or for neither, and its lines are read in the same way.
 pub fn same_source(one: &Arg, other: &Arg) -> bool
     ensures { result ≡ same_source one.now other.now }
 {
-    (has_source(one) && has_source(other))
-        && (same_origin(one, other) && one.get_values_split() == other.get_values_split())
+    (has_source(one) && has_source(other)) && (same_origin(one, other) && same_lines(one, other))
+}
+
+fn same_lines(one: &Arg, other: &Arg) -> bool
+    ensures { result ≡ same_lines one.now other.now }
+{
+    one.get_values_split() == other.get_values_split()
+        && (one.is_values_words_set() == other.is_values_words_set()
+            && same_protocol(one.get_values_protocol(), other.get_values_protocol()))
+}
+
+fn same_protocol(protocol: ValuesProtocol, other: ValuesProtocol) -> bool
+    ensures { result ≡ same_protocol protocol other }
+{
+    matches!(
+        (protocol, other),
+        (ValuesProtocol::Lines, ValuesProtocol::Lines)
+            | (ValuesProtocol::Cobra, ValuesProtocol::Cobra)
+    )
 }
 
 fn same_origin(one: &Arg, other: &Arg) -> bool
@@ -157,11 +185,20 @@ fn same_texts(texts: &[Text], others: &[Text]) -> bool
     text.as_str() == other.as_str() && same_texts(texts, others)
 }
 
-/// Sets the list of candidates of `argument` to `list` if it has the same value source as `asked`.
-pub fn list_if_same_source(argument: &mut Arg, asked: &Arg, list: ArgValueCandidates)
-    ensures { argument.new ≡ listed asked.now list argument.old }
+/// Gives `values` to `argument` if it has the same value source as `asked`.
+pub fn list_if_same_source(argument: &mut Arg, asked: &Arg, values: SourceValues)
+    ensures { argument.new ≡ listed asked.now values argument.old }
 {
     if same_source(asked, argument) {
-        set_candidates(argument, list);
+        set_values(argument, values);
+    }
+}
+
+fn set_values(argument: &mut Arg, values: SourceValues)
+    ensures { argument.new ≡ with_values values argument.old }
+{
+    match values {
+        SourceValues::Listed(list) => set_candidates(argument, list),
+        SourceValues::Paths(hint) => set_value_hint(argument, hint),
     }
 }

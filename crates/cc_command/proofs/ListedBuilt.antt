@@ -1,13 +1,13 @@
--- A tree with a list for the arguments of one source, built, is the built tree with that list.
+-- A tree with values for the arguments of one source, built, is the built tree with these values.
 use Rattle.std.proofs.Common.{◌≡◌, ◌∙◌, ℕ, suc, List, [], ◌∷◌, ◌++◌, Bool, true, false, cond, not, ◌&&◌, ◌||◌, Option, Some, is_some, map, refl, ap, sym, subst, IsTrue}
 use Rattle.std.proofs.Math.Bool.{and-false}
 use Rattle.std.proofs.lemmas.List.{map-append}
-use Rattle.std.specs.Option.{option_eq}
 use Rattle.std.specs.Str.{bytes_eq}
 use Rattle.cc_arg.specs.declared.parts.ArgParts.{ArgParts as Arg}
 use Rattle.cc_arg.specs.Arguments.{filled}
-use Rattle.cc_arg.specs.ValueSources.{has_source, listed, same_origin, same_source}
-use Rattle.cc_base.specs.declared.numbers.ArgValueCandidates.{ArgValueCandidates}
+use Rattle.cc_arg.specs.ValueSources.{has_source, listed, same_lines, same_origin, same_source, with_values}
+use Rattle.cc_arg.specs.declared.value_source.SourceValues.{SourceValues}
+use Rattle.cc_arg.specs.declared.value_source.SourceValues.TheVariants.{Listed, Paths}
 use Rattle.cc_command.specs.declared.node.Node.{Node}
 use Rattle.cc_command.specs.Texts.{help_name}
 use Rattle.cc_command.specs.Tree.{Forest, none, more, join, Tree}
@@ -17,10 +17,33 @@ use Rattle.cc_command.specs.Built.{built_arguments, built_forest, built_node, bu
 use Rattle.cc_command.specs.Marked.{StaysIfMarked}
 use Rattle.cc_command.specs.ValueLists.{listed_forest, listed_node, listed_tree}
 
-module _ (asked : Arg) (list : ArgValueCandidates) where
-  -- the list at an argument for which the test is so
+-- ---- what values leave as it is
+
+id_with : (values : SourceValues) (arg : Arg) → (with_values values arg).id ≡ arg.id
+id_with (Listed list) arg = refl
+id_with (Paths hint) arg = refl
+
+global_with : (values : SourceValues) (arg : Arg) → (with_values values arg).global ≡ arg.global
+global_with (Listed list) arg = refl
+global_with (Paths hint) arg = refl
+
+filled_with : (values : SourceValues) (arg : Arg) → with_values values (filled arg) ≡ filled (with_values values arg)
+filled_with (Listed list) arg = refl
+filled_with (Paths hint) arg = refl
+
+lacks_with : (values : SourceValues) (arg : Arg) → lacks_index (with_values values arg) ≡ lacks_index arg
+lacks_with (Listed list) arg = refl
+lacks_with (Paths hint) arg = refl
+
+index_with : (values : SourceValues) (number : ℕ) (arg : Arg)
+    → with_values values (record arg { index = Some number }) ≡ record (with_values values arg) { index = Some number }
+index_with (Listed list) number arg = refl
+index_with (Paths hint) number arg = refl
+
+module _ (asked : Arg) (list : SourceValues) where
+  -- the values at an argument for which the test is so
   abbrev on : Bool → Arg → Arg
-  on same arg = cond same (record arg { candidates = Some list }) arg
+  on same arg = cond same (with_values list arg) arg
 
   abbrev same : Arg → Bool
   same arg = same_source asked arg
@@ -32,22 +55,22 @@ module _ (asked : Arg) (list : ArgValueCandidates) where
   -- ---- one argument
 
   id_on : (s : Bool) (arg : Arg) → (on s arg).id ≡ arg.id
-  id_on true arg = refl
+  id_on true arg = id_with list arg
   id_on false arg = refl
 
   global_on : (s : Bool) (arg : Arg) → (on s arg).global ≡ arg.global
-  global_on true arg = refl
+  global_on true arg = global_with list arg
   global_on false arg = refl
 
   filled_on : (s : Bool) (arg : Arg) → on s (filled arg) ≡ filled (on s arg)
-  filled_on true arg = refl
+  filled_on true arg = filled_with list arg
   filled_on false arg = refl
 
   filled_listed : (arg : Arg) → with_list (filled arg) ≡ filled (with_list arg)
   filled_listed arg = filled_on (same arg) arg
 
   lacks_on : (s : Bool) (arg : Arg) → lacks_index (on s arg) ≡ lacks_index arg
-  lacks_on true arg = refl
+  lacks_on true arg = lacks_with list arg
   lacks_on false arg = refl
 
   abbrev index_if : Bool → ℕ → Arg → Arg
@@ -58,7 +81,7 @@ module _ (asked : Arg) (list : ArgValueCandidates) where
   same_with_index false number arg = refl
 
   index_on : (s lacks : Bool) (number : ℕ) (arg : Arg) → on s (index_if lacks number arg) ≡ index_if lacks number (on s arg)
-  index_on true true number arg = refl
+  index_on true true number arg = index_with list number arg
   index_on true false number arg = refl
   index_on false true number arg = refl
   index_on false false number arg = refl
@@ -76,7 +99,7 @@ module _ (asked : Arg) (list : ArgValueCandidates) where
   abbrev same_sources : Arg → Bool
   same_sources arg =
       same_origin asked.values_from asked.values_file asked.value_hint arg.values_from arg.values_file arg.value_hint
-      && option_eq bytes_eq asked.values_split arg.values_split
+      && same_lines asked arg
 
   -- an argument without a source stays
   without_source : (arg : Arg) → has_source arg ≡ false → with_list arg ≡ arg
@@ -274,7 +297,7 @@ module _ (asked : Arg) (list : ArgValueCandidates) where
       (forest_listed (propagated [] tree.node) (full_name tree.node) tree.children))
 
 -- a tree that building leaves as it is stays one
-pub listed_stays : (asked : Arg) (list : ArgValueCandidates) (tree new : Tree) → StaysIfMarked tree → new ≡ listed_tree asked list tree → StaysIfMarked new
+pub listed_stays : (asked : Arg) (list : SourceValues) (tree new : Tree) → StaysIfMarked tree → new ≡ listed_tree asked list tree → StaysIfMarked new
 listed_stays asked list tree new stays is marked =
     ap built_tree is ∙ sym (built_with_list asked list tree)
     ∙ ap (listed_tree asked list) (stays (subst (λ t. IsTrue t.node.built) is marked)) ∙ sym is

@@ -1,7 +1,11 @@
 -- Examples of trees with a list for the arguments of one source.
 use Rattle.std.proofs.Common.{◌≡◌, ℕ, List, [], ◌∷◌, ◌++◌, Option, Some, None, map, codes, true, refl}
 use Rattle.cc_arg.specs.declared.parts.ArgParts.{ArgParts as Arg}
-use Rattle.cc_arg.specs.declared.value_hint.ValueHint.TheVariants.{Hostname}
+use Rattle.cc_arg.specs.declared.value_hint.ValueHint.{ValueHint}
+use Rattle.cc_arg.specs.declared.value_hint.ValueHint.TheVariants.{DirPath, Hostname, Unknown}
+use Rattle.cc_arg.specs.declared.value_source.SourceValues.{SourceValues}
+use Rattle.cc_arg.specs.declared.value_source.SourceValues.TheVariants.{Listed, Paths}
+use Rattle.cc_arg.specs.declared.values_protocol.ValuesProtocol.TheVariants.{Cobra}
 use Rattle.cc_arg.specs.Arguments.{new_arg}
 use Rattle.cc_base.specs.declared.numbers.ArgValueCandidates.{ArgValueCandidates}
 use Rattle.cc_command.specs.Made.{new_tree, with_argument, with_child}
@@ -43,24 +47,52 @@ abbrev third : ArgValueCandidates
 third = record { number = 3 }
 
 -- each branch gets the list, at each node, and no other argument does
-branches_listed : lists (listed_tree (branch (codes "asked")) third app)
+branches_listed : lists (listed_tree (branch (codes "asked")) (Listed third) app)
     ≡ (Some third ∷ None ∷ None ∷ []) ∷ (Some third ∷ []) ∷ (Some third ∷ []) ∷ []
 unfolding lists_below
 branches_listed = refl
 
 -- the host gets it alone
-host_listed : lists (listed_tree host third app)
+host_listed : lists (listed_tree host (Listed third) app)
     ≡ (None ∷ None ∷ Some third ∷ []) ∷ (None ∷ []) ∷ (None ∷ []) ∷ []
 unfolding lists_below
 host_listed = refl
 
+-- ---- paths
+
+-- the hints of the arguments of the tree itself
+abbrev hints : Tree → List ValueHint
+hints tree = map (λ argument. argument.value_hint) tree.node.arguments
+
+-- each branch gets the hint of paths
+paths_listed : hints (listed_tree (branch (codes "asked")) (Paths DirPath) app) ≡ DirPath ∷ Unknown ∷ Hostname ∷ []
+paths_listed = refl
+
+-- ---- how lines are read
+
+-- the same command, to which words of the command line are passed, is another source
+abbrev typed : List ℕ → Arg
+typed id = record (branch id) { values_words = true }
+
+words_differ : hints (listed_tree (typed (codes "asked")) (Paths DirPath) app) ≡ Unknown ∷ Unknown ∷ Hostname ∷ []
+words_differ = refl
+
+words_are_same : hints (listed_tree (typed (codes "asked")) (Paths DirPath) (with app (typed (codes "more"))))
+    ≡ Unknown ∷ Unknown ∷ Hostname ∷ DirPath ∷ []
+words_are_same = refl
+
+-- and so is one whose lines have another form
+protocols_differ : hints (listed_tree (record (branch (codes "asked")) { values_protocol = Cobra }) (Paths DirPath) app)
+    ≡ Unknown ∷ Unknown ∷ Hostname ∷ []
+protocols_differ = refl
+
 -- an argument without a source is the source of none
-nothing_listed : lists (listed_tree (new_arg (codes "asked")) third app)
+nothing_listed : lists (listed_tree (new_arg (codes "asked")) (Listed third) app)
     ≡ (None ∷ None ∷ None ∷ []) ∷ (None ∷ []) ∷ (None ∷ []) ∷ []
 unfolding lists_below
 nothing_listed = refl
 
 -- a built tree stays built
-still_built : (listed_tree host third (record app { node = record app.node { built = true } })).node.built
+still_built : (listed_tree host (Listed third) (record app { node = record app.node { built = true } })).node.built
     ≡ true
 still_built = refl

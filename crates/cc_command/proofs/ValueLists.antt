@@ -1,13 +1,13 @@
 -- A list of candidates for the arguments of a command, given to its node and to its children.
 use Rattle.std.proofs.Common.{◌≡◌, List, [], ◌∷◌, map, refl, ap, ◌∙◌}
 use Rattle.cc_arg.specs.declared.parts.ArgParts.{ArgParts as Arg}
-use Rattle.cc_base.specs.declared.numbers.ArgValueCandidates.{ArgValueCandidates}
+use Rattle.cc_arg.specs.declared.value_source.SourceValues.{SourceValues}
 use Rattle.cc_command.specs.declared.node.Node.{Node}
 use Rattle.cc_command.specs.Tree.{Forest, more, Tree, forest_of}
 use Rattle.cc_command.specs.ValueLists.{listed_forest, listed_node, listed_tree}
 
 -- in each tree is in the forest of all
-listed_trees : (asked : Arg) (list : ArgValueCandidates) (trees : List Tree)
+listed_trees : (asked : Arg) (list : SourceValues) (trees : List Tree)
     → forest_of (map (listed_tree asked list) trees) ≡ listed_forest asked list (forest_of trees)
 listed_trees asked list [] = refl
 listed_trees asked list (tree ∷ trees) =
@@ -18,7 +18,7 @@ abbrev pub tree_of : Node → Forest → Tree
 tree_of node children = record { node = node; children = children }
 
 -- the node with the list, over the children with the list, is the tree with the list
-pub listed_parts : (asked : Arg) (list : ArgValueCandidates) (tree : Tree) (node new_node : Node) (children new_children kept : List Tree)
+pub listed_parts : (asked : Arg) (list : SourceValues) (tree : Tree) (node new_node : Node) (children new_children kept : List Tree)
     → tree_of node (forest_of children) ≡ tree
     → new_node ≡ listed_node asked list node
     → new_children ≡ map (listed_tree asked list) children

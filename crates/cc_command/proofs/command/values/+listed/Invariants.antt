@@ -6,6 +6,6 @@ use Rattle.cc_command.proofs.command.values.+listed.Given as goal
 abbrev pub invariant-list_in_all-loop-sibling : goal.invariant-list_in_all-loop-sibling
 invariant-list_in_all-loop-sibling l = record {
   unvisited : goal.unvisited-list_in_all-loop-sibling l;
-  listed : take l.sibling-index l.siblings ++ map (listed_tree l.asked l.list) (drop l.sibling-index l.siblings)
-      ≡ map (listed_tree l.asked l.list) l.fn.siblings;
+  listed : take l.sibling-index l.siblings ++ map (listed_tree l.asked l.values) (drop l.sibling-index l.siblings)
+      ≡ map (listed_tree l.asked l.values) l.fn.siblings;
 }
