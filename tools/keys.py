@@ -9,13 +9,14 @@ From the schema come:
 - the tables of docs/TREE_FILE.md. A row is a key, in the order of the schema: its name, the kind of its value and its
   `description`. The kind of value is the `title` of the definition that the schema refers to, or follows from the type;
 - the fields of `new_arg` and `new_node`, the definitions of a new argument and a new command. A field has the
-  `default` of its key, and `None` if the key has no default. Fields without a key are written by hand.
+  `default` of its key, or the one in `DEFAULTS`, and `None` if the key has neither. Fields without a key are written
+  by hand.
 
 `--check` prints a line for each difference, and exits with status 1 if there is one:
 
 - a table or a definition is not the one that `--write` writes;
 - a key of the schema has no description;
-- complgen_tree_file reads other keys, actions or value hints than the schema has;
+- complgen_tree_file reads other keys, actions, value hints or protocols than the schema has;
 - the tree in examples/complgen.json is not the one that complgen_live has built in;
 - packages/rust/lagvtsune/src/tree_file.rs does not write a key of the schema that clap has, or writes another one.
 
@@ -43,9 +44,13 @@ DEFINITIONS = {
 FIELDS = {"conflicts_with": "conflicts", "args": "arguments"}
 BY_HAND = {"id", "name", "subcommands"}
 
+# The defaults that no value of the key means.
+DEFAULTS = {"values_protocol": "Lines"}
+
 # The keys that the writer never writes: an argument of clap cannot name a file that lists its values, or the text
-# that ends a value. The words of a command come from `CompleteEnv::values_from`.
-WITHOUT_CLAP = {"argument": {"values_file", "values_split"}}
+# that ends a value. The words of a command come from `CompleteEnv::values_from`, which always reads lines, and passes
+# no words.
+WITHOUT_CLAP = {"argument": {"values_file", "values_split", "values_words", "values_protocol"}}
 
 # The functions of the writer that write the keys of an object. The methods of `object`, such as `text` and `flag`,
 # take the key as their first argument, and `order` writes `display_order`.
@@ -123,7 +128,8 @@ def definition(schema, shape):
 def fields(schema, kind):
     """Returns the lines of a definition: each field with its default."""
     keys = {key: shape for key, shape in schema[kind]["properties"].items() if key not in BY_HAND}
-    return "".join(f"  {FIELDS.get(key, key)} = {term(shape.get('default'))};\n" for key, shape in keys.items())
+    firsts = {key: shape.get("default", DEFAULTS.get(key)) for key, shape in keys.items()}
+    return "".join(f"  {FIELDS.get(key, key)} = {term(first)};\n" for key, first in firsts.items())
 
 
 def term(default):
@@ -144,9 +150,9 @@ def keys_read(file):
 
 
 def spelled(macro):
-    """Returns the names in a macro that lists variants, each after its name."""
+    """Returns the names in a macro that lists variants, each after its name. A name may differ from it in case."""
     text = (SOURCES / "kinds.rt").read_text(encoding="utf-8")
-    return re.findall(r'"(\w+)" \1,', re.search(rf"macro_rules! {macro} {{(.*?)\n}}", text, re.S).group(1))
+    return re.findall(r'"(\w+)" (?i:\1),', re.search(rf"macro_rules! {macro} {{(.*?)\n}}", text, re.S).group(1))
 
 
 def value_keys():
@@ -164,6 +170,7 @@ def unread(schema):
         "key of a possible value": (value_keys(), schema["possible_value"]["properties"]),
         "action": (spelled("each_action"), argument["action"]["enum"]),
         "value hint": (spelled("each_hint"), argument["value_hint"]["enum"]),
+        "protocol": (spelled("each_protocol"), argument["values_protocol"]["enum"]),
     }
     for what, (code, shown) in pairs.items():
         yield from (f"{what} in the code alone: {name}" for name in sorted(set(code) - set(shown)))

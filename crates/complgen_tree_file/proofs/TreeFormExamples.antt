@@ -10,6 +10,7 @@ use Rattle.cc_arg.specs.declared.parts.ArgParts.{ArgParts as Arg}
 use Rattle.cc_arg.specs.declared.action.ArgAction.TheVariants.{SetTrue}
 use Rattle.cc_arg.specs.PossibleValues.{new_possible_value}
 use Rattle.cc_arg.specs.declared.value_hint.ValueHint.TheVariants.{Other}
+use Rattle.cc_arg.specs.declared.values_protocol.ValuesProtocol.TheVariants.{Cobra}
 use Rattle.cc_command.specs.Made.{new_node, new_tree}
 use Rattle.cc_command.specs.Tree.{more, none}
 use Rattle.complgen_tree_file.specs.ArgumentForm.{argument_fits, argument_in, argument_keys}
@@ -176,3 +177,24 @@ with_command : argument_of (object (member (codes "id") (string (codes "b"))
     })
 unfolding argument_keys argument_fits argument_in field_from fits_at given list_of
 with_command = refl
+
+-- `{"id":"b","values_from":["app","__complete"],"values_protocol":"cobra","values_words":true}`: a
+-- command that gets the typed words, and whose lines are read as those of Cobra
+with_typed_words : argument_of (object (member (codes "id") (string (codes "b"))
+    (member (codes "values_from")
+    (array (item (string (codes "app")) (item (string (codes "__complete")) no_items)))
+    (member (codes "values_protocol") (string (codes "cobra"))
+    (member (codes "values_words") (boolean true) no_members)))))
+    ≡ Some (record (new_arg (codes "b")) {
+      values_from = Some (codes "app" ∷ codes "__complete" ∷ []);
+      values_words = true;
+      values_protocol = Cobra;
+    })
+unfolding argument_keys argument_fits argument_in field_from fits_at given list_of
+with_typed_words = refl
+
+-- `{"id":"b","values_protocol":"Cobra"}`: no protocol has this name
+no_protocol : argument_of (object (member (codes "id") (string (codes "b"))
+    (member (codes "values_protocol") (string (codes "Cobra")) no_members))) ≡ None
+unfolding argument_keys argument_fits argument_in field_from fits_at given list_of
+no_protocol = refl

@@ -8,7 +8,7 @@ use Rattle.complgen_tree_file.specs.PossibleValueForm.{possible_value_of}
 use Rattle.complgen_tree_file.specs.SourceForm.{is_well_sourced}
 use Rattle.complgen_tree_file.specs.TreeForm.{◌>>=◌, Setting, action_of, all_fit, character_of, given}
 use Rattle.complgen_tree_file.specs.TreeForm.{hint_of, is_object_of, keys_of, list_of, number_of}
-use Rattle.complgen_tree_file.specs.TreeForm.{range_of, set_all, setting, text_at}
+use Rattle.complgen_tree_file.specs.TreeForm.{protocol_of, range_of, set_all, setting, text_at}
 
 -- the names, the help and its heading
 abbrev pub names : List (Setting Arg)
@@ -36,8 +36,9 @@ values =
     ∷ setting (codes "default_value") (given as_str)
     (λ arg. arg.default_value) (λ arg it. record arg { default_value = it }) ∷ []
 
--- where the values come from: a list of possible values, a command that prints them, or a file; and
--- what separates a value from its description
+-- where the values come from: a list of possible values, a command that prints them, or a file;
+-- what separates a value from its description; whether the command gets the words that were typed; and
+-- how its lines are read
 abbrev pub sources : List (Setting Arg)
 sources =
     setting (codes "possible_values") (given (list_of possible_value_of))
@@ -47,7 +48,11 @@ sources =
     ∷ setting (codes "values_file") (given as_str)
     (λ arg. arg.values_file) (λ arg it. record arg { values_file = it })
     ∷ setting (codes "values_split") (given as_str)
-    (λ arg. arg.values_split) (λ arg it. record arg { values_split = it }) ∷ []
+    (λ arg. arg.values_split) (λ arg it. record arg { values_split = it })
+    ∷ setting (codes "values_words") as_bool
+    (λ arg. arg.values_words) (λ arg it. record arg { values_words = it })
+    ∷ setting (codes "values_protocol") (λ d. as_str d >>= protocol_of)
+    (λ arg. arg.values_protocol) (λ arg it. record arg { values_protocol = it }) ∷ []
 
 -- the index, the display order, the word that ends the values, and the arguments that exclude it
 abbrev pub surroundings : List (Setting Arg)

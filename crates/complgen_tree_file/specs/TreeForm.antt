@@ -18,6 +18,8 @@ use Rattle.cc_arg.specs.declared.value_hint.ValueHint.TheVariants.{FilePath, Dir
 use Rattle.cc_arg.specs.declared.value_hint.ValueHint.TheVariants.{CommandName, CommandString}
 use Rattle.cc_arg.specs.declared.value_hint.ValueHint.TheVariants.{CommandWithArguments, Username}
 use Rattle.cc_arg.specs.declared.value_hint.ValueHint.TheVariants.{Hostname, Url, EmailAddress}
+use Rattle.cc_arg.specs.declared.values_protocol.ValuesProtocol.{ValuesProtocol}
+use Rattle.cc_arg.specs.declared.values_protocol.ValuesProtocol.TheVariants.{Cobra}
 
 -- the next step, if there is a value
 infixl 10 ◌>>=◌
@@ -109,6 +111,10 @@ hint_of name = if bytes_eq name (codes "Unknown") then Some Unknown
     else if bytes_eq name (codes "Url") then Some Url
     else if bytes_eq name (codes "EmailAddress") then Some EmailAddress
     else None
+
+-- the protocol with this name; lines that are read as they are have no name
+abbrev pub protocol_of : List ℕ → Option ValuesProtocol
+protocol_of name = if bytes_eq name (codes "cobra") then Some Cobra else None
 
 -- a field after the value at a key was read into it; it stays if there is no value, or one of
 -- another kind

@@ -41,19 +41,21 @@ macro_rules! each_key {
             12 "values_from" sources values_from,
             13 "values_file" sources values_file,
             14 "values_split" sources values_split,
-            15 "index" surroundings index,
-            16 "display_order" surroundings display_order,
-            17 "value_terminator" surroundings value_terminator,
-            18 "conflicts_with" surroundings conflicts,
-            19 "required" flags required,
-            20 "last" flags last,
-            21 "global" flags global,
-            22 "hide" flags hide,
-            23 "allow_hyphen_values" flags allow_hyphen_values,
-            24 "short_aliases" aliases short_aliases,
-            25 "aliases" aliases aliases,
-            26 "visible_short_aliases" aliases visible_short_aliases,
-            27 "visible_aliases" aliases visible_aliases,
+            15 "values_words" sources values_words,
+            16 "values_protocol" sources values_protocol,
+            17 "index" surroundings index,
+            18 "display_order" surroundings display_order,
+            19 "value_terminator" surroundings value_terminator,
+            20 "conflicts_with" surroundings conflicts,
+            21 "required" flags required,
+            22 "last" flags last,
+            23 "global" flags global,
+            24 "hide" flags hide,
+            25 "allow_hyphen_values" flags allow_hyphen_values,
+            26 "short_aliases" aliases short_aliases,
+            27 "aliases" aliases aliases,
+            28 "visible_short_aliases" aliases visible_short_aliases,
+            29 "visible_aliases" aliases visible_aliases,
         }
     };
 }
@@ -90,7 +92,7 @@ pub fn arg<'t>(faults: &mut Faults<'t>, tree: &Value<'t>) -> Result<Arg, AllocEr
 // that has no other keys.
 #[tactic(auto, unfolding(crate::specs::ArgumentForm::argument_keys))]
 fn find_values<'v, 't>(slots: &mut [Option<&'v Value<'t>>; MOST_KEYS], tree: &'v Value<'t>) -> bool
-    requires { slots.old ≡ replicate 28 None }
+    requires { slots.old ≡ replicate 30 None }
     ensures known { result ≡ has_only form.argument_keys (view tree.now) }
     ensures found { Hold slots.new (values_at form.argument_keys (view tree.now)) }
 {
@@ -165,7 +167,7 @@ fn set_surroundings<'t>(
     tree: &Value<'t>,
     slots: &[Option<&Value<'t>>; MOST_KEYS],
 ) -> Result<(), AllocError>
-    requires { AreHeldFrom 15 form.surroundings slots.now (view tree.now) }
+    requires { AreHeldFrom 17 form.surroundings slots.now (view tree.now) }
     ensures { IfOk result (λ _. Makes (set_all form.surroundings (view tree.now) parts.old)
         (all_fit form.surroundings (view tree.now)) parts.new faults.old faults.new) }
 {
@@ -179,7 +181,7 @@ fn set_flags<'t>(
     tree: &Value<'t>,
     slots: &[Option<&Value<'t>>; MOST_KEYS],
 ) -> Result<(), AllocError>
-    requires { AreHeldFrom 19 form.flags slots.now (view tree.now) }
+    requires { AreHeldFrom 21 form.flags slots.now (view tree.now) }
     ensures { IfOk result (λ _. Makes (set_all form.flags (view tree.now) parts.old)
         (all_fit form.flags (view tree.now)) parts.new faults.old faults.new) }
 {
@@ -193,7 +195,7 @@ fn set_aliases<'t>(
     tree: &Value<'t>,
     slots: &[Option<&Value<'t>>; MOST_KEYS],
 ) -> Result<(), AllocError>
-    requires { AreHeldFrom 24 form.aliases slots.now (view tree.now) }
+    requires { AreHeldFrom 26 form.aliases slots.now (view tree.now) }
     ensures { IfOk result (λ _. Makes (set_all form.aliases (view tree.now) parts.old)
         (all_fit form.aliases (view tree.now)) parts.new faults.old faults.new) }
 {

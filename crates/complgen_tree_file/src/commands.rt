@@ -124,7 +124,7 @@ fn add_children<'t>(
 // that has no other keys.
 #[tactic(auto, unfolding(crate::specs::CommandForm::command_keys))]
 fn find_values<'v, 't>(slots: &mut [Option<&'v Value<'t>>; MOST_KEYS], tree: &'v Value<'t>) -> bool
-    requires { slots.old ≡ replicate 28 None }
+    requires { slots.old ≡ replicate 30 None }
     ensures known { result ≡ has_only form.command_keys (view tree.now) }
     ensures found { Hold slots.new (values_at form.command_keys (view tree.now)) }
 {

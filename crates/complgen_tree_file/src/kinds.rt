@@ -29,6 +29,16 @@ macro_rules! each_hint {
     };
 }
 
+// The names of protocols, with the variants of `ValuesProtocol`. `Lines` has no name.
+macro_rules! each_protocol {
+    ($all:ident! $($asked:tt)*) => {
+        $all! {
+            [$($asked)*]
+            "cobra" Cobra,
+        }
+    };
+}
+
 // Lists the names.
 macro_rules! all_names {
     ([] $($name:literal $variant:ident,)*) => {
@@ -38,6 +48,7 @@ macro_rules! all_names {
 
 pub(crate) use each_action;
 pub(crate) use each_hint;
+pub(crate) use each_protocol;
 
 /// A kind of object in a tree file.
 #[derive(Clone, Copy, Debug, Drop, PartialEq, Eq)]
@@ -95,6 +106,8 @@ pub enum ValueKind {
     Action,
     /// The name of a value hint.
     ValueHint,
+    /// The name of a protocol.
+    ValuesProtocol,
     Object(ObjectKind),
 }
 
@@ -104,6 +117,7 @@ impl ValueKind {
         match self {
             ValueKind::Action => ACTIONS,
             ValueKind::ValueHint => VALUE_HINTS,
+            ValueKind::ValuesProtocol => PROTOCOLS,
             _ => &[],
         }
     }
@@ -112,3 +126,5 @@ impl ValueKind {
 const ACTIONS: &[&str] = each_action!(all_names!);
 
 const VALUE_HINTS: &[&str] = each_hint!(all_names!);
+
+const PROTOCOLS: &[&str] = each_protocol!(all_names!);

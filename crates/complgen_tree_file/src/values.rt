@@ -8,13 +8,13 @@ ghost use Rattle.complgen_tree_file.specs.JsonSlots.{held};
 ghost use Rattle.complgen_tree_file.specs.Faults.{Makes, Reads};
 ghost use Rattle.complgen_tree_file.specs.TreeForm.{action_of, bound_of, character_of};
 ghost use Rattle.complgen_tree_file.specs.TreeForm.{field_from, fits_at, hint_of, number_of, only};
-ghost use Rattle.complgen_tree_file.specs.TreeForm.{range_of, with_item};
+ghost use Rattle.complgen_tree_file.specs.TreeForm.{protocol_of, range_of, with_item};
 
 use crate::faults::{FaultKind, Faults, Step};
 use crate::json_values::{self, Value, is_null};
-use crate::kinds::{ValueKind, each_action, each_hint};
+use crate::kinds::{ValueKind, each_action, each_hint, each_protocol};
 use crate::objects::inside;
-use cc_arg::{ArgAction, ValueHint, ValueRange};
+use cc_arg::{ArgAction, ValueHint, ValueRange, ValuesProtocol};
 use cc_base::{Items, Text};
 use std::alloc::AllocError;
 
@@ -42,7 +42,7 @@ pub trait FromValue: Drop {
 }
 
 /// The most keys that an object may have.
-pub const MOST_KEYS: usize = 28;
+pub const MOST_KEYS: usize = 30;
 
 /// Sets `field` to the value at `key` of the object `tree`, which is in the slot `index`. Leaves it
 /// unchanged if the object lacks the key, or if something is wrong with the value, which it notes.
@@ -60,7 +60,7 @@ pub fn set<'t, T: FromValue>(
     slots: &[Option<&Value<'t>>; MOST_KEYS],
     index: usize,
 ) -> Result<(), AllocError>
-    requires inside { index < 28 }
+    requires inside { index < 30 }
     requires found { held (get_or slots.now index None) ≡ get key.now (view _tree.now) }
     ensures { IfOk result (λ _. Makes (field_from key.now T.form (view _tree.now) field.old)
         (λ before. before && fits_at key.now T.form (view _tree.now)) field.new
@@ -348,4 +348,29 @@ fn hint(value: &Value<'_>) -> Option<ValueHint>
     ensures { result ≡ option_and_then hint_of (as_str (view value.now)) }
 {
     each_hint!(variant_named! ValueHint, json_values::text(value)?)
+}
+
+/// Reads the name of a protocol.
+impl FromValue for ValuesProtocol {
+    ghost use Rattle.serde_json.specs.Find.{as_str};
+    ghost use Rattle.complgen_tree_file.specs.TreeForm.{◌>>=◌, protocol_of};
+
+    ghost form = { λ d. as_str d >>= protocol_of };
+
+    fn read<'t>(
+        faults: &mut Faults<'t>,
+        value: &Value<'t>,
+    ) -> Result<Option<ValuesProtocol>, AllocError> {
+        expected(faults, protocol(value), ValueKind::ValuesProtocol)
+    }
+
+    fn kind() -> ValueKind {
+        ValueKind::ValuesProtocol
+    }
+}
+
+fn protocol(value: &Value<'_>) -> Option<ValuesProtocol>
+    ensures { result ≡ option_and_then protocol_of (as_str (view value.now)) }
+{
+    each_protocol!(variant_named! ValuesProtocol, json_values::text(value)?)
 }

@@ -117,10 +117,13 @@ fn other_kind(
                 {{\"name\": {found}}}"
             )
         }
-        (ValueKind::Action | ValueKind::ValueHint, Some(Value::String(name))) => {
-            no_such_name(alloc, kind.names(), key, *name, found)
+        (
+            ValueKind::Action | ValueKind::ValueHint | ValueKind::ValuesProtocol,
+            Some(Value::String(name)),
+        ) => no_such_name(alloc, kind.names(), key, *name, found),
+        (ValueKind::Action | ValueKind::ValueHint | ValueKind::ValuesProtocol, _) => {
+            no_name(alloc, kind.names(), found)
         }
-        (ValueKind::Action | ValueKind::ValueHint, _) => no_name(alloc, kind.names(), found),
         _ => {
             let expected = expected(kind);
             format!(in alloc; "expected {expected}, found {found}")
@@ -140,6 +143,7 @@ fn expected(kind: ValueKind) -> &'static str {
         }
         ValueKind::Action => "the name of an action",
         ValueKind::ValueHint => "the name of a value hint",
+        ValueKind::ValuesProtocol => "the name of a protocol",
         ValueKind::Object(ObjectKind::Command) => "an object for a command",
         ValueKind::Object(ObjectKind::Argument) => "an object for an argument",
         ValueKind::Object(ObjectKind::PossibleValue) => "an object for a possible value",

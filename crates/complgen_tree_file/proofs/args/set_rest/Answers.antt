@@ -15,12 +15,12 @@ set_values-requires c = held_from 5 form.values argument_keys c.args.slots.now (
 
 pub set_surroundings-requires : goal.set_surroundings-requires
 unfolding argument_keys
-set_surroundings-requires c = held_from 15 form.surroundings argument_keys c.args.slots.now (view c.args.tree.now) c.requires refl
+set_surroundings-requires c = held_from 17 form.surroundings argument_keys c.args.slots.now (view c.args.tree.now) c.requires refl
 
 pub set_flags-requires : goal.set_flags-requires
 unfolding argument_keys
-set_flags-requires c = held_from 19 form.flags argument_keys c.args.slots.now (view c.args.tree.now) c.requires refl
+set_flags-requires c = held_from 21 form.flags argument_keys c.args.slots.now (view c.args.tree.now) c.requires refl
 
 pub set_aliases-requires : goal.set_aliases-requires
 unfolding argument_keys
-set_aliases-requires c = held_from 24 form.aliases argument_keys c.args.slots.now (view c.args.tree.now) c.requires refl
+set_aliases-requires c = held_from 26 form.aliases argument_keys c.args.slots.now (view c.args.tree.now) c.requires refl
