@@ -24,7 +24,7 @@ The parts:
 - off: `COMPLGEN_COMMANDS=0`, and a tree file that is found by a relative path. No command runs;
 - order: of several arguments with a command, the command of one runs;
 - files: `values_file` and `values_split`;
-- examples: the tree files in examples/values, with a makefile, and programs in the place of docker and just;
+- examples: the tree files in examples/values, with a makefile, and programs in the place of docker, hcloud and just;
 - hints: users, hosts and programs.
 
 The script prints a line for each exception, and for each part and shell. Without git, it skips `branches`, and
@@ -735,6 +735,10 @@ PRINTED = {
         "images --filter dangling=false --format {{.Repository}}:{{.Tag}}\t{{.Size}}": "nginx:1.25\t187MB\n",
         "network ls --format {{.Name}}\t{{.Driver}}": "bridge\tbridge\n",
     },
+    "hcloud": {
+        "__complete server ssh we": "web\tDebian 12\n_activeHelp_ Servers\n:4\n",
+        "__complete server create --image=deb": "debian-12\n:4\n",
+    },
     "just": {
         "--list --unsorted --list-heading  --list-prefix ": "test target='all' # Run the tests\nlint        # Check it\n",
     },
@@ -745,7 +749,7 @@ def make_examples(scratch):
     folder = os.path.join(scratch.path, "makes")
     os.mkdir(folder)
     write(os.path.join(folder, "Makefile"), MAKEFILE)
-    for name in ("docker", "just", "make"):
+    for name in ("docker", "hcloud", "just", "make"):
         with open(os.path.join(common.EXAMPLES, "values", name + ".json"), encoding="utf-8") as file:
             scratch.program(json.load(file))
         os.rename(os.path.join(scratch.bin, name), os.path.join(scratch.bin, "record-" + name))
@@ -766,6 +770,8 @@ def try_examples(terminal, scratch, count):
         ("make x", ["x"]), ("docker stop w", ["stop", "web"]), ("docker exec -it d", ["exec", "-it", "db"]),
         ("docker rm o", ["rm", "old"]), ("docker run --network br", ["run", "--network", "bridge"]),
         ("docker rmi nginx:", ["rmi", "nginx:1.25"]), ("just t", ["test"]), ("just --show l", ["--show", "lint"]),
+        ("hcloud server ssh we", ["server", "ssh", "web"]),
+        ("hcloud server create --image=deb", ["server", "create", "--image=debian-12"]),
     ):
         count.tried(lambda: (terminal.received(typed), scratch.marks(folder, ["Makefile"])), words[-1], typed, words)
 
