@@ -39,7 +39,7 @@ RUN = ["cc_tests", "library_calls", "larder", "pantry", *(it for it in common.cr
 # Calls that tests make through others: each `write_complete`, `candidates_and_parser`, `candidates_and_reached_parser`
 # and `run`. The crate is the one in which these call them.
 THROUGH = {
-    "write_complete_from": "cc_env", "parser": "cc_parser", "local_parser": "cc_parser", "run_over": "cc_program",
+    "write_complete_from": "cc_env", "parser": "cc_program", "local_parser": "cc_program", "run_over": "cc_program",
 }
 LAW = {"Model", "Drop"}
 SHOWN = {"ThisError": "Error"}

@@ -1,4 +1,7 @@
+mod AgreementExamples
 mod ClapCases
 mod Ends
+mod Offers
 mod Requested
 mod SeenEnds
+mod Together

@@ -1,7 +1,10 @@
+pub mod BashAgreement
 pub mod ClapParses
 pub mod Described
 pub mod FailureText
 pub mod Messages
+pub mod ParserAgreement
+pub mod Reached
 pub mod Requests
 pub mod Running
 pub mod Seen

@@ -1,6 +1,7 @@
 //! A program that completes its words and parses them by the same tree, and short forms of
 //! describing a command line: arguments and commands as most programs have them, each with its
-//! help text, and steps that pass a failure on.
+//! help text, and steps that pass a failure on. Other calls promise that live completion agrees with
+//! the parser and with a bash script.
 //!
 //! ```rattle
 //! use cc_base::Error;
@@ -18,6 +19,7 @@
 //! ```
 #![tactic(auto)]
 
+mod agreement;
 mod arguments;
 mod commands;
 mod completing;
@@ -31,6 +33,10 @@ mod running;
 mod streams;
 mod word_parser;
 
+pub use crate::agreement::{
+    bash_script_and_candidates, candidates_and_parser, candidates_and_reached_parser,
+    has_no_hidden_alias,
+};
 pub use crate::arguments::{arg, possible_values};
 pub use crate::commands::{command, group, with_alias, with_arg, with_child};
 pub use crate::completing::completes;

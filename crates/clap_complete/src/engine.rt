@@ -11,4 +11,4 @@ pub use cc_engine::{
     possible_value_candidates,
 };
 pub use cc_env::{WithLines, complete_with_lines, wanted_command};
-pub use cc_parser::{bash_script_and_candidates, has_no_hidden_alias};
+pub use cc_program::{bash_script_and_candidates, has_no_hidden_alias};

@@ -27,7 +27,7 @@ use Rattle.cc_arg.specs.declared.parts.ArgParts.{ArgParts as Arg}
 use Rattle.cc_command.specs.declared.node.Node.{Node}
 use Rattle.cc_command.specs.Generated.{copies, help_child, help_command, needs_help_child}
 use Rattle.cc_command.specs.Texts.{help_name}
-use Rattle.cc_parser.specs.BashAgreement.{AgreesWithBash, ArePlain, FailsBefore, BashLeadsTo}
+use Rattle.cc_program.specs.BashAgreement.{AgreesWithBash, ArePlain, FailsBefore, BashLeadsTo}
 
 -- ---- what is generated
 

@@ -2,7 +2,7 @@
 
 ghost use Rattle.std.specs.Prelude.{◌≡◌, ◌++◌, Some, length, map, string_bytes};
 ghost use Rattle.std.specs.Prelude.{IfErr, IfOk, OnOk};
-ghost use Rattle.cc_parser.specs.BashAgreement.{AgreesWithBash, ArePlain, FailsBefore};
+ghost use Rattle.cc_program.specs.BashAgreement.{AgreesWithBash, ArePlain, FailsBefore};
 ghost use Rattle.cc_base.specs.Writes.{CountsWrite};
 ghost use Rattle.cc_bash.specs.Script.{bash_script};
 ghost use Rattle.cc_command.specs.Built.{built_under};

@@ -1,7 +1,7 @@
 use Rattle.std.proofs.Common.{map, string_bytes}
 use Rattle.std.specs.Prelude.{length}
-use Rattle.cc_parser.proofs.Together.{all_agree, all_built, all_written, second_counts, second_fails}
-use Rattle.cc_parser.proofs.agreement.with_bash.bash_script_and_candidates.Goals as goal
+use Rattle.cc_program.proofs.Together.{all_agree, all_built, all_written, second_counts, second_fails}
+use Rattle.cc_program.proofs.agreement.with_bash.bash_script_and_candidates.Goals as goal
 
 pub returns-clause-built : goal.returns-clause-built
 returns-clause-built g c =

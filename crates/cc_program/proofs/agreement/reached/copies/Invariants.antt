@@ -1,6 +1,6 @@
 use Rattle.std.proofs.Common.{◌≡◌, ◌++◌, drop, map}
 use Rattle.std.specs.String.{string_bytes}
-use Rattle.cc_parser.proofs.agreement.reached.copies.Given as goal
+use Rattle.cc_program.proofs.agreement.reached.copies.Given as goal
 
 abbrev pub invariant-loop-word : goal.invariant-loop-word
 invariant-loop-word l =

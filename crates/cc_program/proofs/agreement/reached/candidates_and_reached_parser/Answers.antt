@@ -18,10 +18,10 @@ use Rattle.cc_engine.specs.Values.{MayReturn}
 use Rattle.cc_parser.specs.Taken.{TakesOffered, fits_parser, has_index_or_name}
 use Rattle.cc_engine.specs.Reach.{Descend, NamesNoChild, Reach, Stay}
 use Rattle.clap.specs.Simple.{App}
-use Rattle.cc_parser.specs.Reached.{reached}
-use Rattle.cc_parser.specs.ParserAgreement.{AgreesWhereWordsLead, IsTaken, values_among}
-use Rattle.cc_parser.proofs.Offers.{completes_built, all_taken}
-use Rattle.cc_parser.proofs.agreement.reached.candidates_and_reached_parser.Goals as goal
+use Rattle.cc_program.specs.Reached.{reached}
+use Rattle.cc_program.specs.ParserAgreement.{AgreesWhereWordsLead, IsTaken, values_among}
+use Rattle.cc_program.proofs.Offers.{completes_built, all_taken}
+use Rattle.cc_program.proofs.agreement.reached.candidates_and_reached_parser.Goals as goal
 
 -- ---- where the words lead
 

@@ -9,14 +9,14 @@ ghost use Rattle.cc_engine.specs.Completion.{Completes, is_in_range};
 ghost use Rattle.cc_engine.specs.Finished.{Differ};
 ghost use Rattle.cc_parser.specs.Parsers.{has_globals};
 ghost use Rattle.cc_parser.specs.Taken.{fits_parser};
-ghost use Rattle.cc_parser.specs.ParserAgreement.{AgreesWithParser, IsParserOf, RefusesBoth};
+ghost use Rattle.cc_program.specs.ParserAgreement.{AgreesWithParser, IsParserOf, RefusesBoth};
 
-use crate::command::parser;
 use bumpalo::Bump;
 use cc_base::Error;
 use cc_candidates::CompletionCandidate;
 use cc_command::Command;
 use cc_engine::{Lookup, complete_from};
+use cc_parser::parser;
 use std::alloc::Global;
 
 /// Builds `command` and returns the candidates for the word at `index`, as `complete_from` does,

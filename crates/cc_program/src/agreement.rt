@@ -6,7 +6,7 @@
 //! use cc_candidates::CompletionCandidate;
 //! use cc_command::Command;
 //! use cc_engine::Lookup;
-//! use cc_parser::bash_script_and_candidates;
+//! use cc_program::bash_script_and_candidates;
 //! use std::alloc::Global;
 //!
 //! fn write<L: Lookup, W: Sink>(

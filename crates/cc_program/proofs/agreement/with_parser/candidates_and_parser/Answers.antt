@@ -2,8 +2,8 @@ use Rattle.std.proofs.Common.{◌≡◌, length, subst, true}
 use Rattle.clap.specs.Words.{app_of}
 use Rattle.cc_command.specs.Tree.{Tree}
 use Rattle.cc_engine.specs.Completion.{is_in_range}
-use Rattle.cc_parser.proofs.Offers.{agrees_built, completes_built, parser_built}
-use Rattle.cc_parser.proofs.agreement.with_parser.candidates_and_parser.Goals as goal
+use Rattle.cc_program.proofs.Offers.{agrees_built, completes_built, parser_built}
+use Rattle.cc_program.proofs.agreement.with_parser.candidates_and_parser.Goals as goal
 
 pub returns : goal.returns
 returns g c =

@@ -6,15 +6,15 @@ ghost use Rattle.clap.specs.declared.builder.command.Command.TheViews.{out-Comma
 ghost use Rattle.cc_command.specs.Built.{built_tree};
 ghost use Rattle.cc_engine.specs.Completion.{Completes, is_in_range, words_before};
 ghost use Rattle.cc_engine.specs.Finished.{Differ};
-ghost use Rattle.cc_parser.specs.ParserAgreement.{AgreesWhereWordsLead, IsLocalParserOf, RefusesBoth};
-ghost use Rattle.cc_parser.specs.Reached.{reached};
+ghost use Rattle.cc_program.specs.ParserAgreement.{AgreesWhereWordsLead, IsLocalParserOf, RefusesBoth};
+ghost use Rattle.cc_program.specs.Reached.{reached};
 
-use crate::command::local_parser;
 use bumpalo::Bump;
 use cc_base::Error;
 use cc_candidates::CompletionCandidate;
 use cc_command::Command;
 use cc_engine::{Lookup, complete_from, words_before};
+use cc_parser::local_parser;
 use std::alloc::{AllocError, Global};
 
 /// Builds `command` and returns the candidates for the word at `index`, as `complete_from` does,

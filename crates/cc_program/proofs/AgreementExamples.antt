@@ -8,7 +8,7 @@ use Rattle.cc_bash.specs.CaseTable.{tree_cases}
 use Rattle.cc_command.specs.Made.{new_node, new_tree}
 use Rattle.cc_command.specs.Tree.{Tree, more, none}
 use Rattle.cc_engine.specs.Visible.{HasNoHiddenAlias}
-use Rattle.cc_parser.specs.BashAgreement.{BashLeadsTo}
+use Rattle.cc_program.specs.BashAgreement.{BashLeadsTo}
 
 -- `app` with the child `run`
 abbrev run : Tree

@@ -34,7 +34,7 @@ use Rattle.cc_engine.proofs.FirstOfIds.{all-first_of_ids}
 use Rattle.cc_engine.proofs.FinishingLaws.{all-shown}
 use Rattle.cc_parser.specs.Parsers.{IsAppOf, has_globals}
 use Rattle.cc_parser.specs.Taken.{fits_parser, has_index_or_name, KnowsChild, KnowsLong, KnowsShort, TakesNames, TakesOffered, TakesSiblings}
-use Rattle.cc_parser.specs.ParserAgreement.{AgreesWithParser, IsParserOf, IsTaken, match_values, values_among}
+use Rattle.cc_program.specs.ParserAgreement.{AgreesWithParser, IsParserOf, IsTaken, match_values, values_among}
 use Rattle.cc_engine.specs.Values.{MayReturn, values}
 use Rattle.cc_engine.specs.Lookup.{positional_at}
 use Rattle.cc_engine.specs.WordClasses.{value_character}
