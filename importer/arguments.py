@@ -56,6 +56,8 @@ def add_reading(made: Parser) -> None:
         help="the word that makes a program print its help text (default: --help)")
     add("--one-hyphen", action="store_true",
         help="read names such as -name as --name, for programs that accept both")
+    add("--cobra", action="store_true",
+        help="let the program complete its values itself at a Tab. It is run once with the words __complete and ''")
     add("--seconds", type=whole(1, 600), default=5, metavar="N", help="the time for each help text (default: 5)")
     add("--own-home", action="store_true", help="run programs with your home directory instead of an empty one")
 
@@ -97,6 +99,8 @@ def arguments(words: List[str]) -> argparse.Namespace:
         "--texts takes one PROGRAM": options.texts is not None and len(options.programs) > 1,
         "--list needs --texts": options.list and options.texts is None,
         "--undo and --onto exclude each other": options.undo and options.onto,
+        "--cobra runs the program, which --texts and --undo do not": options.cobra and (
+            options.texts is not None or options.undo),
         "the flag is empty": not options.flag,
     }
     for fault in (text for text, holds in faults.items() if holds):
