@@ -222,6 +222,8 @@ def parts(it: Dict[str, Any]) -> Iterator[str]:
             yield str(it[key])
     if "values_from" in it:
         yield "from " + shlex.join(it["values_from"][1:])
+        yield from (["WORD.."] if it.get("values_words") else [])
+        yield from (["as " + it["values_protocol"]] if "values_protocol" in it else [])
     yield from ("not " + other for other in it.get("conflicts_with", []))
     for key, word in (("required", "required"), ("global", "global"), ("hide", "hidden"),
                       ("allow_hyphen_values", "hyphens")):
@@ -455,7 +457,7 @@ class Trial:
                 tree = renamed(json.loads(ran.out), name)
                 scratch.program(tree)
                 words = shlex.join(self.room.app(library))
-                scratch.recorder(name, before=f"case $* in *__values* | *--complgen-values* | *--values*) "
+                scratch.recorder(name, before=f"case $* in *__complete* | *--complgen-values* | *--values*) "
                                  f"{assignments()} exec {words} \"$@\" ;; esac")
             for shell in shells:
                 terminal = started(shell, scratch, scratch.written(shell))

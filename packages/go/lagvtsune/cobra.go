@@ -6,13 +6,12 @@
 //
 //	lagvtsune.Add(root) // right after root is made
 //
-// This gives the program two hidden commands:
+// This gives the program a hidden command, which prints the tree file:
 //
-//	app __tree             # prints the tree file
-//	app __values WORD.. '' # prints the values that Cobra completes after these words, a line each
+//	app __tree
 //
-// The tree file names the second one for each argument that a function of the program completes, so that its values
-// are offered at a Tab.
+// For each argument that a function of the program completes, the tree file names Cobra's own hidden command
+// `__complete`. So the function is called at a Tab, with the words that were typed.
 package lagvtsune
 
 import (
@@ -24,17 +23,13 @@ import (
 	"reflect"
 	"regexp"
 	"runtime"
-	"strconv"
 	"strings"
 
 	"github.com/spf13/cobra"
 	"github.com/spf13/pflag"
 )
 
-const (
-	treeName   = "__tree"
-	valuesName = "__values"
-)
+const treeName = "__tree"
 
 // A command of a tree file. A further key is a field here, and a line in commandOf.
 type command struct {
@@ -66,6 +61,8 @@ type argument struct {
 	PossibleValues []value  `json:"possible_values,omitempty"`
 	ValueHint      string   `json:"value_hint,omitempty"`
 	ValuesFrom     []string `json:"values_from,omitempty"`
+	ValuesWords    bool     `json:"values_words,omitempty"`
+	ValuesProtocol string   `json:"values_protocol,omitempty"`
 	Default        string   `json:"default_value,omitempty"`
 	Conflicts      []string `json:"conflicts_with,omitempty"`
 	Required       bool     `json:"required,omitempty"`
@@ -83,13 +80,13 @@ type value struct {
 // Cobra's own signature of a function that completes.
 type completer = func(*cobra.Command, []string, string) ([]string, cobra.ShellCompDirective)
 
-// Add adds the two hidden commands to a program.
+// Add adds the hidden command to a program.
 //
-// If one of them is called, what the program prints to os.Stdout from here on goes to the standard error, so that it
-// does not mix with the tree file or the values. Hooks of the program do not run for them.
+// If it is called, what the program prints to os.Stdout from here on goes to the standard error, so that it does not mix
+// with the tree file. Hooks of the program do not run for it.
 func Add(root *cobra.Command) {
 	out := os.Stdout
-	if len(os.Args) > 1 && (os.Args[1] == treeName || os.Args[1] == valuesName) {
+	if len(os.Args) > 1 && os.Args[1] == treeName {
 		os.Stdout = os.Stderr
 	}
 	none := func(*cobra.Command, []string) {}
@@ -97,10 +94,7 @@ func Add(root *cobra.Command) {
 		PersistentPreRun: none, PersistentPostRun: none, SilenceUsage: true}
 	short := tree.Flags().Bool("short", false, "leave out the keys that no Tab reads")
 	tree.RunE = func(*cobra.Command, []string) error { return Write(out, root, *short) }
-	values := &cobra.Command{Use: valuesName, Short: "Print values", Hidden: true, DisableFlagParsing: true,
-		PersistentPreRun: none, PersistentPostRun: none, SilenceUsage: true,
-		RunE: func(_ *cobra.Command, words []string) error { return writeValues(out, root, words) }}
-	root.AddCommand(tree, values)
+	root.AddCommand(tree)
 }
 
 // Write writes the tree file of a program, as a whole or not at all. If short is set, the file lacks the keys that no
@@ -229,7 +223,7 @@ func option(cmd *cobra.Command, flag *pflag.Flag) *argument {
 	case found != nil:
 		made.PossibleValues = values(strings.Split(found[1], "|"))
 	case hasCompleter(cmd, flag):
-		made.ValuesFrom = call(cmd, "--"+flag.Name, "")
+		made.askProgram(cmd)
 	case plainTypes.MatchString(kind):
 		made.ValueHint = "Other"
 	default:
@@ -255,10 +249,10 @@ func hasCompleter(cmd *cobra.Command, flag *pflag.Flag) bool {
 	return completed[flag]
 }
 
-// Returns the words that print the values for an argument of a command.
-func call(cmd *cobra.Command, words ...string) []string {
-	path := strings.Fields(cmd.CommandPath())
-	return append(append([]string{path[0], valuesName}, path[1:]...), words...)
+// Makes Cobra's own hidden command the source of the values.
+func (made *argument) askProgram(cmd *cobra.Command) {
+	made.ValuesFrom = []string{cmd.Root().Name(), cobra.ShellCompRequestCmd}
+	made.ValuesWords, made.ValuesProtocol = true, "cobra"
 }
 
 func values(texts []string) (made []value) {
@@ -351,10 +345,9 @@ func positionals(cmd *cobra.Command) (made []*argument) {
 		case strings.Contains(function, "FixedCompletions.func"): // Go before 1.21 may hide this name
 			texts, _ := cmd.ValidArgsFunction(cmd, nil, "")
 			made[at].PossibleValues, made[at].ValueHint = values(texts), ""
-		case function != "" && at == 0:
-			made[at].ValuesFrom, made[at].PossibleValues, made[at].ValueHint = call(cmd, ""), nil, ""
-		case function != "" && made[at].PossibleValues == nil:
-			made[at].ValueHint = "Other" // the values may depend on the words before, which no tree file has
+		default:
+			made[at].PossibleValues, made[at].ValueHint = nil, ""
+			made[at].askProgram(cmd)
 		}
 	}
 	return made
@@ -401,31 +394,6 @@ func nameOf(function any) string {
 	}
 	name := runtime.FuncForPC(reflect.ValueOf(function).Pointer()).Name()
 	return name[strings.LastIndex(name, "/")+1:]
-}
-
-// Prints the values that Cobra's own command `__complete` finds, without the number of its last line.
-func writeValues(out io.Writer, root *cobra.Command, words []string) error {
-	var text bytes.Buffer
-	root.SetOut(&text)
-	root.SetErr(io.Discard)
-	root.SetArgs(append([]string{cobra.ShellCompRequestCmd}, words...))
-	if err := root.Execute(); err != nil {
-		return err
-	}
-	lines := strings.Split(strings.TrimSpace(text.String()), "\n")
-	last, err := strconv.Atoi(strings.TrimPrefix(lines[len(lines)-1], ":"))
-	paths := cobra.ShellCompDirectiveFilterFileExt | cobra.ShellCompDirectiveFilterDirs | cobra.ShellCompDirectiveError
-	if err != nil || cobra.ShellCompDirective(last)&paths != 0 {
-		return err
-	}
-	var made strings.Builder
-	for _, line := range lines[:len(lines)-1] {
-		if !strings.HasPrefix(line, "_activeHelp_ ") {
-			made.WriteString(line + "\n")
-		}
-	}
-	_, err = io.WriteString(out, made.String())
-	return err
 }
 
 // ---- what a tree file cannot contain
