@@ -33,6 +33,18 @@ def counts_of(found: List[str]) -> str:
     return f"{commands} commands, {named} options{placed}"
 
 
+def asked_count(found: List[str]) -> str:
+    """Returns what the importer says of the arguments whose values come from the program itself."""
+    count = sum(" asked" in row for row in found)
+    own = f"values of {count} argument{'' if count == 1 else 's'} come from {program_of(found)} itself"
+    return f"; {own}, as complgen check notes" if count else ""
+
+
+def of_texts(found: List[str]) -> List[str]:
+    """Returns the rows of a program that is not run, so that it cannot answer."""
+    return sorted(row.replace(" asked", "") for row in found)
+
+
 def program_of(found: List[str]) -> str:
     """Returns the name of the program that some rows describe."""
     return re.split(r"\W", found[0])[0]
@@ -48,9 +60,9 @@ def try_formats(room: Room, options: Any) -> None:
         room.expect(f"{name}: status", 0, status)
         if status == 0:
             room.expect(f"{name}: commands and options", sorted(expected), sorted(rows(room.tree(name), [name])))
-            room.expect(f"{name}: output", f"{name}: {counts_of(expected)}, {dropped}\n", out)
+            room.expect(f"{name}: output", f"{name}: {counts_of(expected)}, {dropped}{asked_count(expected)}\n", out)
         made = room.import_texts(os.path.join(TEXTS, folder), name)
-        room.expect(f"{name}: as texts", sorted(expected), sorted(rows(made.tree or {}, [name])))
+        room.expect(f"{name}: as texts", of_texts(expected), sorted(rows(made.tree or {}, [name])))
 
 
 def try_program(room: Room, options: Any) -> None:
@@ -62,7 +74,8 @@ def try_program(room: Room, options: Any) -> None:
         own = [re.sub(" global$", "", row) for row in rows_here]
         room.printing(name, os.path.join(TEXTS, folder))
         room.run(name)
-        room.expect(f"{name}: runs", [f"{name} --help"], room.logged())
+        runs = [f"{name} --help", *([f"{name} __complete "] if os.path.exists(os.path.join(TEXTS, folder, "answer.txt")) else [])]
+        room.expect(f"{name}: runs", runs, room.logged())
         room.expect(f"{name}: commands and options", sorted(own), sorted(rows(room.tree(name), [name])))
 
 

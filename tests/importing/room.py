@@ -73,8 +73,9 @@ class Room:
         os.chmod(path, 0o755)
 
     def printing(self, name: str, folder: str) -> None:
-        """Makes a program that prints the text of the directory that its words name."""
-        self.script(name, f"at='{folder}'", "for word do", '    case $word in -*) break ;; esac', "    at=$at/$word",
+        """Makes a program that prints the text of the directory that its words name, and an answer to `__complete`, if
+        there is one."""
+        self.script(name, f"at='{folder}'", 'if [ "$1" = __complete ]; then exec cat -- "$at/answer.txt"; fi', "for word do", '    case $word in -*) break ;; esac', "    at=$at/$word",
                     "done", 'cat -- "$at/help.txt"')
 
     def logged(self) -> List[str]:
@@ -241,6 +242,7 @@ def row(argument: Node) -> str:
     words += number_of_values(argument)
     words += [it["name"] for it in argument.get("possible_values", [])]
     words += [argument["value_hint"]] if "value_hint" in argument else []
+    words += ["asked"] if "values_from" in argument else []
     return " ".join(words + (["global"] if argument.get("global") else []))
 
 
