@@ -1,7 +1,9 @@
-use Rattle.std.proofs.Common.{◌≡◌, ◌+◌, OnOk, List, [], ◌∷◌, ◌++◌, Some, length, take, ap, ◌∙◌, subst, sym, arith, rules}
+use Rattle.std.proofs.Common.{◌≡◌, ◌≤◌, ◌+◌, OnOk, List, [], ◌∷◌, ◌++◌, Some, length, take, ap, ◌∙◌, subst, sym, arith, rules}
+use denote.Param.Weighed.{most}
+use Rattle.cc_command.specs.declared.command.Command.TheDeep.{size-Command}
 use Rattle.std.proofs.lemmas.List.{take_more, take_all}
 use Rattle.std.proofs.lemmas.Result.{on_ok_weaker}
-use Rattle.cc_command.specs.Tree.{Tree, forest_of, none}
+use Rattle.cc_command.specs.Tree.{Tree, forest_of, forest_size, none, tree_size}
 use Rattle.cc_command.specs.Names.{full_name, joined_name}
 use Rattle.cc_command.specs.Built.{globals}
 use Rattle.cc_command.specs.Additions.{IsAddition, AreAfter, AreOfTreeAfter}
@@ -50,3 +52,15 @@ pub build::push_additions_to-returns : goal.build::push_additions_to-returns
 build::push_additions_to-returns t c =
     let all : take c.loop-sibling.sibling-index c.args.siblings.now ≡ c.args.siblings.now = take_all c.loop-sibling.sibling-index c.args.siblings.now (omega arith) in
     record { ok = subst (λ trees. AreAfter c.args.inherited.now c.args.parent.now (forest_of trees) c.args.additions.now.items c.loop-sibling.additions.items) all c.loop-sibling.invariant }
+
+-- each tree is smaller than the forest of all trees, by the size that recursion counts with
+smaller_all : (trees : List Tree) → most size-Command trees ≤ forest_size (forest_of trees)
+smaller_all [] = omega arith
+smaller_all (tree ∷ trees) = omega (arith, smaller_all trees)
+
+pub Command::push_additions-push_additions_to-requires : goal.Command::push_additions-push_additions_to-requires
+Command::push_additions-push_additions_to-requires t c =
+    let children : List Tree = c.deref.result.now in
+    let is : forest_size (forest_of children) ≡ tree_size c.args.self.now =
+    ap (λ trees. forest_size (forest_of trees)) c.deref.ensures.value ∙ ap tree_size c.self.view_is in
+    (omega (arith, smaller_all children, is), tt)
