@@ -78,6 +78,7 @@ unfoldable pub call_begins : List ℕ
 call_begins =
     codes "=bash \\\n"
     ++ codes "            _COMPLGEN_VALUES=$values \\\n"
+    ++ codes "            _COMPLGEN_SPACE=1 \\\n"
     ++ codes "            _COMPLGEN_WIDTH=$width \\\n"
     ++ codes "            _COMPLGEN_KEPT=$kept \\\n"
     ++ codes "            _COMPLGEN_QUOTE=$quote \\\n"
@@ -95,7 +96,7 @@ call_ends =
     ++ codes "            reply=${reply#*$'\\v'}\n"
     ++ codes "        done\n"
     ++ codes "    done\n"
-    ++ codes "    [[ $code == 0 ]] || return\n"
+    ++ codes "    [[ $code == [04] ]] || return\n"
     ++ codes "    # Its lines, of which none is a pattern.\n"
     ++ codes "    set -f\n"
     ++ codes "    COMPREPLY=($reply)\n"
@@ -105,7 +106,8 @@ call_ends =
     ++ codes "    # `~/` leads home only where it was typed.\n"
     ++ codes "    [[ $2 == \"$home\"* || -n $kept$quote || $'\\n'$reply != *$'\\n'\"$home\"* ]] ||\n"
     ++ codes "        COMPREPLY=(\"${COMPREPLY[@]/#$home/\\\\$home}\")\n"
-    ++ codes "    [[ ${COMPREPLY-} =~ [=/:]$ ]] || compopt +o nospace 2>/dev/null\n"
+    ++ codes "    # After status 4, the value may be only the beginning of a word.\n"
+    ++ codes "    [[ $code == 4 || ${COMPREPLY-} =~ [=/:]$ ]] || compopt +o nospace 2>/dev/null\n"
     ++ codes "}\n"
 
 -- unfolds each of these texts

@@ -22,7 +22,7 @@ function_head =
     ++ codes "    local folder='(\\\\?|[^\\\\:])#/(|:*)'\n"
     ++ codes "    # The words up to the cursor, without the quotes that they were typed with.\n"
     ++ codes "    local -a typed=(\"${(@Q)words[1,CURRENT-1]}\" \"${(Q):-$quote$PREFIX${quote#$}}\")\n"
-    ++ codes "    local -a run=(:) items=() dirs=() other=()\n"
+    ++ codes "    local -a run=(:) items=() dirs=() other=() ends=()\n"
     ++ codes "    # Asks for candidates; where complgen asks back, with what the words that it names print.\n"
     ++ codes "    for values in ask stdin; do\n"
     ++ codes "        reply=$({ \"${run[@]}\" || : } </dev/null 2>/dev/null | \\\n"
@@ -33,6 +33,7 @@ unfoldable pub call_begins : List ℕ
 call_begins =
     codes "=zsh \\\n"
     ++ codes "            _COMPLGEN_VALUES=$values \\\n"
+    ++ codes "            _COMPLGEN_SPACE=1 \\\n"
     ++ codes "            _COMPLGEN_ASCII=$ascii \\\n"
     ++ codes "            "
 
@@ -43,7 +44,9 @@ call_ends =
     ++ codes "        [[ $code == 3 ]] || break\n"
     ++ codes "        run=(command env -- \"${(@ps:\\v:)${reply%$'\\v'}}\")\n"
     ++ codes "    done\n"
-    ++ codes "    [[ $code == 0 && -n $reply ]] || return\n"
+    ++ codes "    [[ $code == [04] && -n $reply ]] || return\n"
+    ++ codes "    # After status 4, the value may be only the beginning of a word.\n"
+    ++ codes "    [[ $code == 4 ]] && ends=(-S '')\n"
     ++ codes "    # `~/` leads home only where it was typed, and so stays as it is.\n"
     ++ codes "    [[ -z $quote && $PREFIX == \\~/* ]] && compset -P '\\~/' && home='~/'\n"
     ++ codes "    items=(\"${(@)${(@f)reply}#$home}\")\n"
@@ -56,7 +59,7 @@ call_ends =
     ++ codes "        dirs+=(\"$completion[1,value-1]$completion[value+1,-1]\")\n"
     ++ codes "    done\n"
     ++ codes "    [[ -n $dirs ]] && _describe -V 'values' dirs -S '/' -r '/' && found=0\n"
-    ++ codes "    [[ -n $other ]] && _describe -V 'values' other && found=0\n"
+    ++ codes "    [[ -n $other ]] && _describe -V 'values' other \"${ends[@]}\" && found=0\n"
     ++ codes "    return found\n"
     ++ codes "}\n"
 

@@ -74,6 +74,7 @@ const FUNCTION_HEAD: &str = "() {
 
 const CALL_BEGINS: &str = "=bash \\
             _COMPLGEN_VALUES=$values \\
+            _COMPLGEN_SPACE=1 \\
             _COMPLGEN_WIDTH=$width \\
             _COMPLGEN_KEPT=$kept \\
             _COMPLGEN_QUOTE=$quote \\
@@ -88,7 +89,7 @@ const CALL_ENDS: &str = " -- \"${words[@]}\") && code=0 || code=$?
             reply=${reply#*$'\\v'}
         done
     done
-    [[ $code == 0 ]] || return
+    [[ $code == [04] ]] || return
     # Its lines, of which none is a pattern.
     set -f
     COMPREPLY=($reply)
@@ -98,7 +99,8 @@ const CALL_ENDS: &str = " -- \"${words[@]}\") && code=0 || code=$?
     # `~/` leads home only where it was typed.
     [[ $2 == \"$home\"* || -n $kept$quote || $'\\n'$reply != *$'\\n'\"$home\"* ]] ||
         COMPREPLY=(\"${COMPREPLY[@]/#$home/\\\\$home}\")
-    [[ ${COMPREPLY-} =~ [=/:]$ ]] || compopt +o nospace 2>/dev/null
+    # After status 4, the value may be only the beginning of a word.
+    [[ $code == 4 || ${COMPREPLY-} =~ [=/:]$ ]] || compopt +o nospace 2>/dev/null
 }
 ";
 

@@ -13,7 +13,13 @@ const FUNCTION_HEAD: &str = "
     # The words up to the cursor, without the quotes that they were typed with.
     set -l words (commandline --current-process --tokenize --cut-at-cursor)
     set -l word (commandline --current-token --cut-at-cursor)
-    set -a words (string unescape -- $word; or echo)
+    set -l last (string unescape -- $word; or echo)
+    set -a words $last
+    # fish prints one word per line. Nothing is offered if one has a line feed, which makes it two.
+    test (count $word $last) -eq 2
+    and commandline --current-process --cut-at-cursor | read --null --list --tokenize --local typed
+    and not string match --quiet --regex '\\n' -- $typed[1..-2]
+    or return
     # Asks for candidates; where complgen asks back, with what the words that it names print.
     set -l run true
     set -l code

@@ -21,7 +21,7 @@ const FUNCTION_HEAD: &str = "() {
     local folder='(\\\\?|[^\\\\:])#/(|:*)'
     # The words up to the cursor, without the quotes that they were typed with.
     local -a typed=(\"${(@Q)words[1,CURRENT-1]}\" \"${(Q):-$quote$PREFIX${quote#$}}\")
-    local -a run=(:) items=() dirs=() other=()
+    local -a run=(:) items=() dirs=() other=() ends=()
     # Asks for candidates; where complgen asks back, with what the words that it names print.
     for values in ask stdin; do
         reply=$({ \"${run[@]}\" || : } </dev/null 2>/dev/null | \\
@@ -29,6 +29,7 @@ const FUNCTION_HEAD: &str = "() {
 
 const CALL_BEGINS: &str = "=zsh \\
             _COMPLGEN_VALUES=$values \\
+            _COMPLGEN_SPACE=1 \\
             _COMPLGEN_ASCII=$ascii \\
             ";
 
@@ -36,7 +37,9 @@ const CALL_ENDS: &str = " -- \"${typed[@]}\" 2>/dev/null) && code=0 || code=$?
         [[ $code == 3 ]] || break
         run=(command env -- \"${(@ps:\\v:)${reply%$'\\v'}}\")
     done
-    [[ $code == 0 && -n $reply ]] || return
+    [[ $code == [04] && -n $reply ]] || return
+    # After status 4, the value may be only the beginning of a word.
+    [[ $code == 4 ]] && ends=(-S '')
     # `~/` leads home only where it was typed, and so stays as it is.
     [[ -z $quote && $PREFIX == \\~/* ]] && compset -P '\\~/' && home='~/'
     items=(\"${(@)${(@f)reply}#$home}\")
@@ -49,7 +52,7 @@ const CALL_ENDS: &str = " -- \"${typed[@]}\" 2>/dev/null) && code=0 || code=$?
         dirs+=(\"$completion[1,value-1]$completion[value+1,-1]\")
     done
     [[ -n $dirs ]] && _describe -V 'values' dirs -S '/' -r '/' && found=0
-    [[ -n $other ]] && _describe -V 'values' other && found=0
+    [[ -n $other ]] && _describe -V 'values' other \"${ends[@]}\" && found=0
     return found
 }
 ";
