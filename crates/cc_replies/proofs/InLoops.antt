@@ -1,5 +1,5 @@
 -- Beginnings of texts that loops write in two parts, or space by space.
-use Rattle.std.proofs.Common.{◌≡◌, ◌≤◌, ◌<◌, ◌+◌, ◌-◌, ap, ℕ, suc, List, [], ◌∷◌, ◌++◌, length, true, replicate, arith}
+use Rattle.std.proofs.Common.{◌≡◌, ◌<◌, ◌+◌, ◌-◌, ap, ℕ, suc, ◌∷◌, replicate, arith}
 use Rattle.cc_base.specs.Partly.{partly_split}
 use Rattle.cc_base.proofs.WrittenTexts.{in_steps, within_byte}
 use Rattle.cc_replies.specs.BashList.{space}

@@ -1,5 +1,5 @@
 -- The lines of bash's list with a description fit the terminal.
-use Rattle.std.proofs.Common.{◌≡◌, ◌==◌, ◌≤◌, ◌<◌, ◌+◌, ◌-◌, ◌&&◌, ℕ, zero, suc, Bool, true, false, cond, List, [], ◌∷◌, ◌++◌, map, replicate, codes, inl, inr, refl, sym, ◌∙◌, ap, arith}
+use Rattle.std.proofs.Common.{◌≡◌, ◌==◌, ◌≤◌, ◌<◌, ◌+◌, ◌-◌, ◌&&◌, ℕ, zero, suc, Bool, true, false, cond, List, [], ◌∷◌, ◌++◌, map, replicate, codes, inl, inr, refl, ◌∙◌, ap, arith}
 use Rattle.std.proofs.lemmas.Bool.Decides.{nat_tests}
 use Rattle.std.specs.Fmt.{char_count, is_char_start, take_chars}
 use Rattle.std.specs.Prelude.{nat_le, nat_lt}
@@ -92,7 +92,7 @@ line_fits width longest room word description body same fits some is =
       cut_fits room description (omega (arith, some)),
     )
 
--- a room is the width that is left beside the longest word, and at least 22
+-- a room that is not 0 is all that is left of the width, and at least 22 columns
 pub room_is : (left : ℕ) (two : Bool) → (cond (nat_le 22 left && two) left 0 == 0) ≡ false
     → (cond (nat_le 22 left && two) left 0 ≡ left) × (22 ≤ left)
 room_is left two h = by_tests (nat_le 22 left) two refl h

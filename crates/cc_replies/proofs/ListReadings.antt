@@ -338,7 +338,7 @@ module _ (cursor : Cursor) where
 
   -- ---- the width
 
-  -- a line whose word stands alone has no description
+  -- a line that is only a word has no description
   word_alone_fits : (text value : List ℕ) → read text ≡ Some (shown_as value None) → Fits cursor text
   word_alone_fits text value reads has = let none : false ≡ true = subst (λ item. HasDescription item) reads has in cc
 

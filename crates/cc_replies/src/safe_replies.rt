@@ -40,7 +40,8 @@ pub fn write_safe_values<W: Sink>(
 /// tab.
 ///
 /// Leaves out a value that is empty, has a control character, begins with `~` but not with `~/`, or
-/// begins with a blank that is not ASCII. Leaves out the first line of a help text if it is empty or has a control character.
+/// begins with a blank that is not ASCII. Leaves out the first line of a help text if it is empty or
+/// has a control character.
 ///
 /// # Errors
 ///
@@ -150,8 +151,8 @@ fn is_tilde_plain(value: &[u8]) -> bool
     }
 }
 
-// Returns whether the value begins with a blank that is not ASCII. fish does not quote such a blank,
-// and drops it at the beginning of a word.
+// Returns whether the value begins with a blank that is not ASCII. fish does not quote such a
+// blank, and drops it at the beginning of a word.
 fn begins_blank(value: &[u8]) -> bool
     ensures { result ≡ begins_blank value.now }
 {
