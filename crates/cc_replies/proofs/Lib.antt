@@ -1,6 +1,7 @@
 pub mod BashReadings
 pub mod Beginnings
 pub mod Characters
+mod CobraExamples
 pub mod Cutting
 mod EntryExamples
 pub mod EntryReadings

@@ -68,13 +68,17 @@ quote_of env = open_quote (unwrap_or (value_of (codes "_COMPLGEN_QUOTE") env) (c
 -- ---- the width of the terminal in which bash lists candidates
 
 -- one to five digits, and nothing else
-abbrev pub is_width : List ℕ → Bool
-is_width text = is_in_range 1 5 (length text) && list_all is_ascii_digit text
+abbrev pub is_short_number : List ℕ → Bool
+is_short_number text = is_in_range 1 5 (length text) && list_all is_ascii_digit text
 
--- the number that such a text spells, or 0
+-- the number that such a text spells
+abbrev pub short_number : List ℕ → Option ℕ
+short_number text = if is_short_number text then Some (digits_value 10 text) else None
+
+-- that number, or 0
 abbrev pub width_in : Option (List ℕ) → ℕ
 width_in None = 0
-width_in (Some text) = if is_width text then digits_value 10 text else 0
+width_in (Some text) = unwrap_or (short_number text) 0
 
 abbrev pub width_of : EnvValues → ℕ
 width_of env = width_in (value_of (codes "_COMPLGEN_WIDTH") env)

@@ -1,5 +1,6 @@
 pub mod BashList
 pub mod BashWords
+pub mod CobraReply
 pub mod Environment
 pub mod GivenLines
 pub mod PowershellEntries

@@ -8,8 +8,8 @@ ghost use Rattle.std.specs.Prelude.{option_map, find};
 ghost use Rattle.std.specs.Str.{bytes_eq};
 ghost use Rattle.std.specs.String.{string_bytes};
 ghost use Rattle.cc_replies.specs.Environment.{asks_safely, ascii_only_of, index_name, kept_of};
-ghost use Rattle.cc_replies.specs.Environment.{is_width, quote_of, separator_of, value_of};
-ghost use Rattle.cc_replies.specs.Environment.{width_in, width_of};
+ghost use Rattle.cc_replies.specs.Environment.{is_short_number, quote_of, separator_of};
+ghost use Rattle.cc_replies.specs.Environment.{short_number, value_of, width_in, width_of};
 ghost use Rattle.cc_replies.specs.Environment.{IsIndex, IsNumberOf};
 
 use crate::cursor::OpenQuote;
@@ -123,7 +123,17 @@ impl EnvValues {
 fn width(text: &str) -> usize
     ensures { result ≡ width_in (Some text.now) }
 {
-    if is_width(text) { number(text) } else { 0 }
+    short_number(text).unwrap_or(0)
+}
+
+/// Returns the number that the text spells if it has one to five digits and nothing else.
+pub(crate) fn short_number(text: &str) -> Option<usize>
+    ensures { result ≡ short_number text.now }
+{
+    if !is_short_number(text) {
+        return None;
+    }
+    Some(number(text))
 }
 
 fn is_named(variable: &(String, String), name: &str) -> bool
@@ -133,8 +143,8 @@ fn is_named(variable: &(String, String), name: &str) -> bool
 }
 
 // Returns whether the text has one to five digits, and nothing else.
-fn is_width(text: &str) -> bool
-    ensures { result ≡ is_width text.now }
+fn is_short_number(text: &str) -> bool
+    ensures { result ≡ is_short_number text.now }
 {
     matches!(text.len(), 1..=5) && are_digits(text.as_bytes())
 }

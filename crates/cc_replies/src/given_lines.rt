@@ -1,11 +1,13 @@
 //! Candidates from given lines: the output of a command, or the contents of a file.
 
-ghost use Rattle.std.specs.Prelude.{◌≡◌, ◌∷◌, ◌++◌, [], IfOk, MatchOption, None, OnOk, Some, filter, if◌then◌else◌, map};
+ghost use Rattle.std.specs.Prelude.{◌≡◌, ◌∷◌, ◌++◌, ◌==◌, [], IfOk, MatchOption, None, OnOk, Some};
+ghost use Rattle.std.specs.Prelude.{filter, if◌then◌else◌, length, map};
 ghost use Rattle.std.specs.Option.{option_copied, option_map, option_to_list};
 ghost use Rattle.std.specs.String.{string_bytes};
 ghost use Rattle.cc_base.specs.Bytes.{is_blank};
 ghost use Rattle.cc_base.specs.Found.{after, cut_at, without_blanks};
-ghost use Rattle.cc_replies.specs.GivenLines.{begins_dash, candidates_of_lines, cut_entry, description_help};
+ghost use Rattle.cc_replies.specs.GivenLines.{begins_dash, candidates_of_lines, cut_entry};
+ghost use Rattle.cc_replies.specs.GivenLines.{description_help};
 ghost use Rattle.cc_replies.specs.GivenLines.{entry_candidate, first_of_values, given_entries};
 ghost use Rattle.cc_replies.specs.GivenLines.{if_given, is_given_text, line_entry, trimmed};
 ghost use Rattle.cc_replies.specs.GivenLines.{trimmed_entry, without_controls, without_last_blanks};
@@ -40,9 +42,26 @@ impl GivenLines {
             ≡ candidates_of_lines (option_copied split.entry) bytes.now) }
     {
         let entries = first_of_values(alloc, given_entries(alloc, bytes, split)?)?;
+        GivenLines::of_entries(alloc, entries.as_slice())
+    }
+
+    /// Makes the candidates of entries.
+    pub(crate) fn of_entries(
+        alloc: Global,
+        entries: &[GivenEntry],
+    ) -> Result<GivenLines, AllocError>
+        ensures { IfOk result (λ lines. lines.candidates ≡ map entry_candidate entries.now) }
+    {
         Ok(GivenLines {
-            candidates: Items::from(candidates_of(alloc, entries.as_slice())?),
+            candidates: Items::from(candidates_of(alloc, entries)?),
         })
+    }
+
+    /// Returns whether there is no candidate.
+    pub(crate) fn is_empty(&self) -> bool
+        ensures { result ≡ (length self.now.candidates == 0) }
+    {
+        self.candidates.as_slice().is_empty()
     }
 }
 
@@ -126,11 +145,11 @@ impl<'a> Model for Cut<'a> {
     ghost view = { λ cut. record { value = cut.value.now; description = cut.description.now } };
 }
 
-// A value that is UTF-8, and its description.
+/// A value that is UTF-8, and its description.
 #[derive(Drop)]
-struct GivenEntry<'a> {
-    value: &'a str,
-    description: &'a [u8],
+pub(crate) struct GivenEntry<'a> {
+    pub(crate) value: &'a str,
+    pub(crate) description: &'a [u8],
 }
 
 impl<'a> Model for GivenEntry<'a> {
@@ -188,8 +207,8 @@ fn without_controls(alloc: Global, text: &str) -> Result<String, AllocError>
         .collect(alloc)
 }
 
-// Keeps the entries whose value no earlier one has.
-fn first_of_values<'a>(
+/// Keeps the entries whose value no earlier one has.
+pub(crate) fn first_of_values<'a>(
     alloc: Global,
     entries: Vec<GivenEntry<'a>>,
 ) -> Result<Vec<GivenEntry<'a>>, AllocError>
@@ -206,8 +225,8 @@ fn first_of_values<'a>(
     Ok(kept)
 }
 
-// Returns the entries of the lines that count.
-fn given_entries<'a>(
+/// Returns the entries of the lines that count.
+pub(crate) fn given_entries<'a>(
     alloc: Global,
     text: &'a [u8],
     split: Option<&str>,

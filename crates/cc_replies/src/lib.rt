@@ -16,6 +16,7 @@
 
 mod bash_list;
 mod bash_words;
+mod cobra_reply;
 mod columns;
 mod cursor;
 mod environment;
@@ -31,6 +32,7 @@ mod system;
 
 pub use crate::bash_list::write_bash_list;
 pub use crate::bash_words::write_bash_words;
+pub use crate::cobra_reply::{CobraReply, PathKind};
 pub use crate::cursor::{Cursor, OpenQuote};
 pub use crate::environment::EnvValues;
 pub use crate::given_lines::GivenLines;
@@ -39,6 +41,6 @@ pub use crate::readable::{
     are_readable_entries, are_readable_lines, are_readable_values, are_readable_zsh_items,
 };
 pub use crate::reply::{write_lines, write_values, write_zsh_items};
-pub use crate::requests::is_request;
+pub use crate::requests::{is_request, wants_nothing};
 pub use crate::safe_replies::{write_safe_lines, write_safe_values, write_safe_zsh_items};
 pub use crate::system::{home, variables, words};

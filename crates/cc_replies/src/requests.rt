@@ -4,6 +4,7 @@ ghost use Rattle.std.specs.Prelude.{◌≡◌, codes, map, string_bytes};
 ghost use Rattle.std.specs.Option.{option_copied};
 ghost use Rattle.cc_replies.specs.Environment.{value_of};
 ghost use Rattle.cc_replies.specs.Requests.{begins_request, is_request, names_shell};
+ghost use Rattle.cc_replies.specs.Requests.{wants_nothing};
 
 use crate::environment::EnvValues;
 
@@ -21,9 +22,16 @@ fn names_shell(value: Option<&str>) -> bool
     ensures { result ≡ names_shell (option_copied value.entry) }
 {
     match value {
-        Some(value) => value != "" && value != "0",
+        Some(value) => !wants_nothing(value),
         None => false,
     }
+}
+
+/// Returns whether a value of `COMPLETE` requests nothing: whether it is empty or `0`.
+pub fn wants_nothing(value: &str) -> bool
+    ensures { result ≡ wants_nothing value.now }
+{
+    value == "" || value == "0"
 }
 
 fn begins_request(words: &[String]) -> bool
