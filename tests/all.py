@@ -88,6 +88,7 @@ def listed() -> List[Test]:
     runs = [
         *(tested(complgen, [shell], "tests/safe_live.py", "--shells", shell, *only(SAFE_PARTS)) for shell in SHELLS),
         *(tested(complgen, [shell], "tests/values_from.py", "--shells", shell, *only(VALUE_PARTS)) for shell in SHELLS),
+        *(tested(complgen, [shell], "tests/typed_words.py", "--shells", shell) for shell in SHELLS),
         *(tested(complgen, [shell], "tests/scripts.py", "--shells", shell) for shell in SHELLS),
         tested(complgen, [], "tests/values_from.py", *only(("protocol", "random"))),
         tested(both, [], "tests/hostile.py"), tested([], [], "tests/import.py"), tested([], [], "tests/import_parsers.py"),

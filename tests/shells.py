@@ -220,7 +220,7 @@ class Shell:
     # ---- the terminal
 
     def send(self, text: str) -> None:
-        os.write(self.terminal, text.encode())
+        os.write(self.terminal, text.encode("utf-8", "surrogateescape"))
 
     def read(self, seconds: float) -> bool:
         """Reads what the shell prints. Returns whether it printed anything within these seconds."""
