@@ -47,7 +47,7 @@ PYTHON = "/usr/bin/python3"
 PICOCLI = "/usr/share/java/picocli.jar"
 GO_SOURCES = "/usr/share/gocode/src/github.com/spf13/cobra"
 LONGEST = 120
-# What the programs of exporters.d print beside the tree file.
+# Lines that the programs of exporters.d print in addition to the tree file.
 NOISE = ("this is no part of a tree", "nor is this")
 FLAGS = ("SetTrue", "SetFalse", "Count", "Help", "Version")
 PATHS = ("AnyPath", "FilePath", "DirPath", "ExecutablePath")

@@ -33,7 +33,7 @@ VALUES = {
 }
 FLAGS = (("--color", "The colours"), ("--colour", None), ("--verbose", LONG))
 FILES = (("folder/", None), ("one file", None), ("other", None))
-# What is typed after the program, in all settings and by default, and then keys that list or insert.
+# Texts that are typed after the program: in all settings, and more without any. Then keys that list or insert.
 TYPED = ("few ", "few al", "few 'tw", "one ", "keys k=", "file ")
 MORE_TYPED = ('few "', "common ", "twin ", "kept k=", "keys k", "bare ", "--")
 WIDTHS = (40, 80, 200)

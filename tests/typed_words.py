@@ -17,7 +17,7 @@ The parts:
 - cut: words behind the cursor, and a cursor within a word;
 - places: the places of tests/safe_places.py, such as quotes, `$(..)`, backticks and here-documents;
 - keys: without `values_words` no typed word is added;
-- cobra: lines of Cobra with a directive, which is no value, and what follows a value: with `:6` no space in bash and zsh.
+- cobra: lines of Cobra with a directive, which is no value. After `:6`, no space follows a value in bash and zsh.
 
 The script prints a line for each exception, and for each shell and part: "received" counts the Tabs at which the probe
 received the expected words, and "not inserted" those at which it must not run, with the reasons. The status is 0 if
@@ -140,13 +140,14 @@ def try_values(terminal, scratch, count):
 OTHER = "another command or place for the shell"
 HYPHEN, LINE_FEED, VERTICAL_TAB, NOT_UTF8 = "a hyphen", "a line feed", "a vertical tab", "not UTF-8"
 EXPANDED, BACKTICK, NO_WORD = "bash would expand it", "a backtick", "not a word of Elvish"
-OWN, OPEN = "zsh completes it itself", "a quote of an earlier line in zsh"
+OWN, OPEN = "the shell completes it itself", "a quote of an earlier line in zsh"
 # What is typed after `asks `, and the words for each shell that has no row of its own.
 TYPED = {
     "": [""], "'": [""], "a  b ": ["a", "b", ""], "'' \"\" x": ["", "", "x"], "é漢 ü": ["é漢", "ü"],
     "$(touch hit) x": ["$(touch hit)", "x"], '"$(touch hit)" x': ["$(touch hit)", "x"],
     "'$(touch hit)' x": ["$(touch hit)", "x"], "$(touch hit)": ["$(touch hit)"], '"$(touch hit)': ["$(touch hit)"],
-    "'$(touch hit)": ["$(touch hit)"], "$(touch": OTHER, "`touch hit` x": BACKTICK, "`touch hit`": BACKTICK,
+    "'$(touch hit)": ["$(touch hit)"], "~": ["~"], "*": ["*"], "{a,b}": ["{a,b}"], "$HOME": ["$HOME"],
+    "$(touch": OTHER, "`touch hit` x": BACKTICK, "`touch hit`": BACKTICK,
     ";touch hit": OTHER, "x;touch hit ": OTHER, "& x": OTHER, "| x": OTHER, "x | asks y z": ["y", "z"],
     "';touch hit' x": [";touch hit", "x"], "';touch hit": [";touch hit"], '";touch hit': [";touch hit"],
     "\\;touch\\ hit x": [";touch hit", "x"], "'&' '|' '>hit' x": ["&", "|", ">hit", "x"],
@@ -163,8 +164,7 @@ TYPED = {
 # Keys that type a control character, and bytes that are not UTF-8.
 TYPED_POSIX = {
     "'a\x16\tb' x": ["a\tb", "x"], "'a\x16\tb": ["a\tb"], "'a\x16\rb' x": ["a\rb", "x"],
-    "'a\x16\x1bb' x": ["a\x1bb", "x"],
-    "'a\x16\vb' x": VERTICAL_TAB, "'a\x16\vb": VERTICAL_TAB,
+    "'a\x16\x1bb' x": ["a\x1bb", "x"], "'a\x16\vb' x": VERTICAL_TAB, "'a\x16\vb": VERTICAL_TAB,
 }
 TYPED_IN = {
     "bash": {
@@ -173,12 +173,13 @@ TYPED_IN = {
         '"a\n;touch hit': LINE_FEED,
     },
     "zsh": {
-        **TYPED_POSIX, "~": OWN, "$HOME": OWN, "$'\\xff' x": NOT_UTF8, "$'\\xff'": NOT_UTF8, "$'a\\tb' x": ["a\tb", "x"],
-        '--onto="`touch hit`': BACKTICK, "'a\nb": OPEN, '"a\n;touch hit': OPEN,
+        **TYPED_POSIX, "~": OWN, "$HOME": OWN, "$'a\\tb' x": ["a\tb", "x"], "$'\\xff' x": NOT_UTF8,
+        "$'\\xff'": NOT_UTF8, '--onto="`touch hit`': BACKTICK, "'a\nb": OPEN, '"a\n;touch hit': OPEN,
     },
     "fish": {
         "`touch hit` x": ["`touch", "hit`", "x"], "`touch hit`": ["`touch", "hit`"], "x >hit y": ["x", "hit", "y"],
-        "'a\\\\' x": ["a\\", "x"], "a\\tb x": ["a\tb", "x"], "a\\vb x": VERTICAL_TAB, "a\\vb": VERTICAL_TAB,
+        "~": OWN, "$HOME": OWN, "'a\\\\' x": ["a\\", "x"],
+        "a\\tb x": ["a\tb", "x"], "a\\vb x": VERTICAL_TAB, "a\\vb": VERTICAL_TAB,
         "a\\Xffb x": NOT_UTF8, "a\\Xff": NOT_UTF8, "'a\nb' x": LINE_FEED, "'a\nb": LINE_FEED,
         '"a\n;touch hit': LINE_FEED, "a\\nb x": LINE_FEED, "a\\nb": LINE_FEED,
     },
@@ -186,7 +187,8 @@ TYPED_IN = {
     "elvish": {
         "$(touch hit) x": ["x"], "$(touch hit)": NO_WORD, "`touch hit` x": NO_WORD, "`touch hit`": NO_WORD,
         "\\;touch\\ hit x": OTHER, "$HOME ~ * {a,b} x": ["<home>", "x"], "~ x": ["<home>", "x"],
-        "(touch hit) x": ["x"], "--onto=$(touch hit)": NO_WORD, "a\\": ["a\\"],
+        "(touch hit) x": ["x"], "~": ["<home>"], "*": NO_WORD, "{a,b}": NO_WORD, "$HOME": NO_WORD,
+        "--onto=$(touch hit)": NO_WORD, "a\\": ["a\\"],
         '"a\\tb" x': ["a\tb", "x"], '"a\\vb" x': VERTICAL_TAB, '"a\\vb': VERTICAL_TAB,
         '"a\\xffb" x': NOT_UTF8, '"a\\xff': NOT_UTF8,
     },
@@ -260,8 +262,8 @@ def try_keys(terminal, scratch, count):
 
 # ---- lines of Cobra
 
-# The lines that a command prints, by the name of its program. The first sixteen directives:
-# 1 is an error, 2 is no space, 4 is no paths, 8 and 16 are paths alone.
+# The lines that a command prints, by the name of its program. A directive is a sum: 1 is an error, 2 no space, 4 no
+# paths, 8 and 16 paths alone.
 LINES = {
     "spaced": ("value\tof it", "_activeHelp_ help", ":4"), "unspaced": ("value\tof it", ":6"), "error": ("value", ":5"),
     "nothing": (":4",), "anything": (":0",), "paths": (":8",), "folders": ("value", ":16"), "lines": ("value", "other"),
@@ -272,13 +274,14 @@ RECEIVED = (
     ("spaced va", ["value"]), ("spaced --onto=va", ["--onto=value"]), ("spaced --onto ", ["--onto", "value"]),
     ("spaced 'va", ["value"]), ("spaced :", [":"]), ("spaced _", ["_"]), ("unspaced va", ["value"]),
     ("unspaced --onto=va", ["--onto=value"]), ("error va", ["va"]), ("error fi", ["fi"]), ("nothing fi", ["fi"]),
-    ("nothing :", [":"]), ("anything fi", ["file-1"]), ("anything --onto=fi", ["--onto=file-1"]), ("anything fo", ["folder-1/"]),
-    ("paths fi", ["file-1"]), ("folders va", ["va"]), ("folders fi", ["fi"]), ("folders f", ["folder-1/"]),
+    ("nothing :", [":"]), ("anything fi", ["file-1"]), ("anything --onto=fi", ["--onto=file-1"]),
+    ("anything fo", ["folder-1/"]), ("paths fi", ["file-1"]), ("folders va", ["va"]), ("folders fi", ["fi"]),
+    ("folders f", ["folder-1/"]),
     ("lines v", ["value"]), ("lines fi", ["fi"]),
 )
-# What is typed, and the line after a Tab in bash and zsh.
+# What is typed, and the line after a Tab in bash and zsh, without quotes.
 SPACES = (
-    ("spaced va", "spaced value "), ("unspaced va", "unspaced value"), ("unspaced 'va", "unspaced 'value"),
+    ("spaced va", "spaced value "), ("unspaced va", "unspaced value"), ("unspaced 'va", "unspaced value"),
     ("unspaced --onto=va", "unspaced --onto=value"), ("spaced --onto=va", "spaced --onto=value "),
     ("unspaced --on", "unspaced --onto "), ("anything fi", "anything file-1 "), ("lines va", "lines value "),
 )
@@ -286,7 +289,8 @@ SPACES = (
 
 def make_cobra(scratch):
     for name, lines in LINES.items():
-        scratch.program(tree(name, values_from=["printf", "%s\\n", *lines], values_words=False, values_protocol="cobra"))
+        words = ["printf", "%s\\n", *lines]
+        scratch.program(tree(name, values_from=words, values_words=False, values_protocol="cobra"))
     write(os.path.join(scratch.path, "cobra", "file-1"), "")
     os.mkdir(os.path.join(scratch.path, "cobra", "folder-1"))
 
@@ -303,7 +307,7 @@ def try_cobra(terminal, scratch, count):
 def line_after(terminal, typed):
     line = terminal.inserted(typed)
     terminal.clear()
-    return line
+    return (line or "").replace("'", "")
 
 
 # ---- all

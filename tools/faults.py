@@ -59,7 +59,7 @@ SPENT = threading.local()
 # Messages of a check about a name in a proof file that no longer exists.
 MISSING = r"has no field|is not in scope|has no `|was not admitted"
 
-# What a check says of a function with goals that stay open.
+# The message of a check about a function with goals that stay open.
 OPEN_GOALS = r"`search` did not prove (.*)"
 
 

@@ -14,7 +14,7 @@ import builds
 SEPARATOR = "__subcmd__"
 SEEN = "; and __fish_seen_subcommand_from "
 UNREACHABLE = "entered unreachable code"
-# What this project answers if the index is not that of a word to complete.
+# The answer of this project if the index is not that of a word to complete.
 NO_COMPLETION = ("error", "no completion generated")
 
 Tree = Dict[str, Any]
@@ -112,8 +112,8 @@ def capitals(case: Case, ours: str, theirs: str) -> Both:
     return ours, re.sub(r"('-([^\x00-\x7f])) ', \[", lambda it: f"{it[1]}', [" if it[2].isupper() else it[0], theirs)
 
 
-# The places of the bin name and of the completer in registrations, by shell. NAME stands for the command's name,
-# which is a part of the function's name in zsh, and may have spaces.
+# Patterns that find the bin name and the completer in a registration, by shell. NAME stands for the command's name.
+# It is a part of the function's name in zsh, and may have spaces.
 QUOTED = {
     "bash": [r'^        "(.*)" -- "\$\{words'],
     "elvish": [r"arg-completer\[(.*)\] = ", r'="elvish" (.*) -- \$@words'],

@@ -1,6 +1,6 @@
 //! Tests of the library: what neither a clause nor a case of `complgen_cases` shows, and that calls
 //! succeed which nothing else makes. Their contracts state what they return if they succeed.
-//! `tools/rows.txt` says where everything else is shown. `proofs/` has rows over definitions.
+//! `tools/rows.txt` lists where everything else is shown. `proofs/` has rows over definitions.
 //!
 //! A function of its own borrows a command, because proving the drop of a command at each `?` takes
 //! seconds.
