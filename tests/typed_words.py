@@ -35,7 +35,7 @@ import common
 import safe_places
 from judging import Count, letter_in
 from safe_live import VALUES
-from shells import SHELLS, TreeScratch, started, unlink, write
+from shells import SHELLS, TreeScratch, is_before_fish_4, started, unlink, write
 
 POSIX = ("bash", "zsh")
 PARTS = ("values", "typed", "cut", "places", "keys", "cobra")
@@ -206,15 +206,15 @@ def try_typed(terminal, scratch, count):
 # ---- the cursor
 
 def try_cut(terminal, scratch, count):
-    """Moves the cursor to the left before the Tab. In a word, all but bash complete the whole word."""
-    word = ["one", "two" if terminal.name == "bash" else "twothree"]
+    """Moves the cursor to the left before the Tab. Some shells complete the whole word in which it is."""
+    is_whole = terminal.name == "zsh" or terminal.name == "fish" and is_before_fish_4()
     for typed, behind, expected in (
-        ("one two three", " three", ["one", "two"]), ("one two three", "two three", ["one", ""]),
-        ("one twothree four", "three four", word), ("one '$(touch hit)", "", ["one", "$(touch hit)"]),
-        ("one $(touch hit)", " $(touch hit)", ["one"]), ("one '$(touch hit)'", " '$(touch hit)'", ["one"]),
+        ("one two three", " three", ["one", "two"]),
+        ("one two three", "two three", ["one", "two" if is_whole else ""]),
+        ("one twothree four", "three four", ["one", "twothree" if is_whole or terminal.name == "elvish" else "two"]),
+        ("one '$(touch hit)", "", ["one", "$(touch hit)"]), ("one $(touch hit)", " $(touch hit)", ["one"]),
+        ("one '$(touch hit)'", " '$(touch hit)'", ["one"]),
     ):
-        if behind == "two three" and terminal.name in ("zsh", "fish"):
-            expected = ["one", "two"]
         try_row(terminal, scratch, count, f"asks {typed}", expected, LEFT * len(behind))
 
 
