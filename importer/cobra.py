@@ -24,7 +24,7 @@ LAST_LINE = re.compile('Use "([^"]+)" for more information about a command[.]')
 LAST_WORDS = " [command] --help"
 SCRIPTS = "completion"
 COMPLETE = "__complete"
-DIRECTIVE = re.compile(rb":[0-9]{1,9}")
+DIRECTIVE = re.compile(rb":[0-9]{1,5}")
 NO_DIRECTIVE = "its last line is not one such as :4"
 
 

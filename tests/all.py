@@ -92,7 +92,7 @@ def listed() -> List[Test]:
         *(tested(complgen, [shell], "tests/scripts.py", "--shells", shell) for shell in SHELLS),
         tested(complgen, [], "tests/values_from.py", *only(("protocol", "random"))),
         tested(both, [], "tests/hostile.py"), tested([], [], "tests/import.py"), tested([], [], "tests/import_parsers.py"),
-        tested([], [], "tests/exporters.py"),
+        tested([], [], "tests/exporters.py"), tested(complgen, [], "tests/cobra.py"),
         refused(),
         tested([], ["bash", "zsh"], "tests/running.py"), tested(both, [], "tests/live.py"),
         tested(both, [], "tests/offered.py"), tested(complgen, needs_of_folders(), "tests/folders"),
