@@ -1,9 +1,7 @@
 //! The arguments of the subcommands.
 
-ghost use Rattle.std.specs.Prelude.{◌≡◌, false};
-ghost use Rattle.clap.specs.Words.{rule_of};
-ghost use Rattle.complgen_command_line.specs.CommandLine.{flag_rule, option_rule, optional_rule};
-ghost use Rattle.complgen_command_line.specs.CommandLine.{tree_rule, words_rule};
+ghost use Rattle.complgen_command_line.specs.CommandLine.{IsRule, flag_rule, option_rule};
+ghost use Rattle.complgen_command_line.specs.CommandLine.{optional_rule, tree_rule, words_rule};
 
 use crate::texts::{TREE_HELP, WORDS_HELP};
 use clap::{Arg, ArgAction};
@@ -17,8 +15,7 @@ pub fn option<'a>(
     value_name: &'static str,
     help: &'static str,
 ) -> Arg<'a>
-    ensures rule { rule_of result ≡ option_rule name.entry.now }
-    ensures local { result.global ≡ false }
+    ensures { IsRule (option_rule name.entry.now) result }
 {
     Arg::new(alloc, name)
         .long(name)
@@ -34,8 +31,7 @@ pub fn optional<'a>(
     value_name: &'static str,
     help: &'static str,
 ) -> Arg<'a>
-    ensures rule { rule_of result ≡ optional_rule name.entry.now }
-    ensures local { result.global ≡ false }
+    ensures { IsRule (optional_rule name.entry.now) result }
 {
     Arg::new(alloc, name)
         .long(name)
@@ -45,8 +41,7 @@ pub fn optional<'a>(
 
 /// Returns the flag with the id and long `name`, and the help text `help`.
 pub fn flag<'a>(alloc: Global, name: &'static str, help: &'static str) -> Arg<'a>
-    ensures rule { rule_of result ≡ flag_rule name.entry.now }
-    ensures local { result.global ≡ false }
+    ensures { IsRule (flag_rule name.entry.now) result }
 {
     Arg::new(alloc, name)
         .long(name)
@@ -56,8 +51,7 @@ pub fn flag<'a>(alloc: Global, name: &'static str, help: &'static str) -> Arg<'a
 
 /// Returns the required argument `TREE`.
 pub fn tree<'a>(alloc: Global) -> Arg<'a>
-    ensures rule { rule_of result ≡ tree_rule }
-    ensures local { result.global ≡ false }
+    ensures { IsRule tree_rule result }
 {
     Arg::new(alloc, "tree")
         .value_name("TREE")
@@ -67,8 +61,7 @@ pub fn tree<'a>(alloc: Global) -> Arg<'a>
 
 /// Returns the argument `WORDS`, which takes any number of words.
 pub fn words<'a>(alloc: Global) -> Arg<'a>
-    ensures rule { rule_of result ≡ words_rule }
-    ensures local { result.global ≡ false }
+    ensures { IsRule words_rule result }
 {
     Arg::new(alloc, "words")
         .value_name("WORDS")

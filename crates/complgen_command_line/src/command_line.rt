@@ -1,11 +1,11 @@
 //! The command line: the words that `complgen` accepts.
 
-ghost use Rattle.std.specs.Prelude.{◌≡◌, IfOk, codes, false};
+ghost use Rattle.std.specs.Prelude.{◌≡◌, IfOk, codes};
 ghost use Rattle.std.specs.Result.{IsOkAnd};
 ghost use Rattle.clap.specs.Built.{AddsArg, AddsSubcommand};
 ghost use Rattle.clap.specs.Words.{app_of};
-ghost use Rattle.clap.specs.declared.builder.command.Command.TheViews.{out-Command};
-ghost use Rattle.complgen_command_line.specs.CommandLine.{asking_line, candidates_line, check_line, checking_line};
+ghost use Rattle.complgen_command_line.specs.CommandLine.{IsLine, asking_line, candidates_line};
+ghost use Rattle.complgen_command_line.specs.CommandLine.{check_line, checking_line};
 ghost use Rattle.complgen_command_line.specs.CommandLine.{man_line, program_line, scripts_line, shell_line};
 ghost use Rattle.complgen_command_line.specs.CommandLine.{top_line, wanted_line, writing_line};
 
@@ -77,8 +77,7 @@ fn for_shell<'a>(
     about: &'static str,
     shells: &'static str,
 ) -> Result<Command<'a>, AllocError>
-    ensures shape { IfOk result (λ command. app_of command ≡ shell_line name.entry.now) }
-    ensures local { IfOk result (λ command. (out-Command command).has_globals ≡ false) }
+    ensures { IfOk result (IsLine (shell_line name.entry.now)) }
 {
     let command = Command::new(alloc, name).about(about);
     let command = command.arg(option(alloc, "shell", "SHELL", shells));
@@ -88,8 +87,7 @@ fn for_shell<'a>(
 
 // Returns the subcommand `script --shell S --bin N TREE`.
 fn script<'a>(alloc: Global) -> Result<Command<'a>, AllocError>
-    ensures shape { IfOk result (λ command. app_of command ≡ shell_line (codes "script")) }
-    ensures local { IfOk result (λ command. (out-Command command).has_globals ≡ false) }
+    ensures { IfOk result (IsLine (shell_line (codes "script"))) }
 {
     match for_shell(alloc, "script", SCRIPT_ABOUT, SCRIPT_SHELL_HELP) {
         Ok(command) => Ok(command.after_long_help(SCRIPT_FILES)),
@@ -99,8 +97,7 @@ fn script<'a>(alloc: Global) -> Result<Command<'a>, AllocError>
 
 // Returns the subcommand `scripts --bin N --out-dir DIR TREE`.
 fn scripts<'a>(alloc: Global) -> Result<Command<'a>, AllocError>
-    ensures shape { IfOk result (λ command. app_of command ≡ scripts_line) }
-    ensures local { IfOk result (λ command. (out-Command command).has_globals ≡ false) }
+    ensures { IfOk result (IsLine scripts_line) }
 {
     let command = Command::new(alloc, "scripts")
         .about(SCRIPTS_ABOUT)
@@ -112,8 +109,7 @@ fn scripts<'a>(alloc: Global) -> Result<Command<'a>, AllocError>
 
 // Returns the subcommand `candidates --index I [--values FILE] TREE WORDS..`.
 fn candidates<'a>(alloc: Global) -> Result<Command<'a>, AllocError>
-    ensures shape { IfOk result (λ command. app_of command ≡ candidates_line) }
-    ensures local { IfOk result (λ command. (out-Command command).has_globals ≡ false) }
+    ensures { IfOk result (IsLine candidates_line) }
 {
     let command = Command::new(alloc, "candidates").about(CANDIDATES_ABOUT);
     let command = command.arg(option(alloc, "index", "INDEX", INDEX_HELP));
@@ -124,8 +120,7 @@ fn candidates<'a>(alloc: Global) -> Result<Command<'a>, AllocError>
 
 // Returns the subcommand `wanted --index I TREE WORDS..`.
 fn wanted<'a>(alloc: Global) -> Result<Command<'a>, AllocError>
-    ensures shape { IfOk result (λ command. app_of command ≡ wanted_line) }
-    ensures local { IfOk result (λ command. (out-Command command).has_globals ≡ false) }
+    ensures { IfOk result (IsLine wanted_line) }
 {
     let command = Command::new(alloc, "wanted").about(WANTED_ABOUT);
     let command = command.arg(option(alloc, "index", "INDEX", INDEX_HELP));
@@ -135,8 +130,7 @@ fn wanted<'a>(alloc: Global) -> Result<Command<'a>, AllocError>
 
 // Returns the subcommand `check [--bin N] [--json] TREE`.
 fn check<'a>(alloc: Global) -> Result<Command<'a>, AllocError>
-    ensures shape { IfOk result (λ command. app_of command ≡ check_line) }
-    ensures local { IfOk result (λ command. (out-Command command).has_globals ≡ false) }
+    ensures { IfOk result (IsLine check_line) }
 {
     let command = Command::new(alloc, "check")
         .about(CHECK_ABOUT)
@@ -148,8 +142,7 @@ fn check<'a>(alloc: Global) -> Result<Command<'a>, AllocError>
 
 // Returns the subcommand `man --bin N TREE`.
 fn man<'a>(alloc: Global) -> Result<Command<'a>, AllocError>
-    ensures shape { IfOk result (λ command. app_of command ≡ man_line) }
-    ensures local { IfOk result (λ command. (out-Command command).has_globals ≡ false) }
+    ensures { IfOk result (IsLine man_line) }
 {
     let command = Command::new(alloc, "man")
         .about(MAN_ABOUT)

@@ -3,6 +3,9 @@ use Rattle.complgen_command_line.proofs.command_line.writing.Goals as goal
 
 pub returns : goal.returns
 returns c =
-    let one = subcommand_added _ _ _ _ c.with_subcommand-line.result c.top.ensures c.script.ensures.shape c.script.ensures.local c.with_subcommand-line.ensures in
-    let two = subcommand_added _ _ _ _ c.with_subcommand-line-2.result one c.scripts.ensures.shape c.scripts.ensures.local c.with_subcommand-line-2.ensures in
-    subcommand_added _ _ _ _ c.with_subcommand.result two c.for_shell-register.ensures.shape c.for_shell-register.ensures.local c.with_subcommand.ensures
+    let one = subcommand_added _ _ _ _ c.with_subcommand-line.result c.top.ensures
+    c.script.ensures c.with_subcommand-line.ensures in
+    let two = subcommand_added _ _ _ _ c.with_subcommand-line-2.result one
+    c.scripts.ensures c.with_subcommand-line-2.ensures in
+    subcommand_added _ _ _ _ c.with_subcommand.result two
+    c.for_shell-register.ensures c.with_subcommand.ensures
