@@ -23,10 +23,10 @@ fn started(rt: &HostRuntime) -> Result<ExitCode, Failure<io::Error>> {
     let mut completers = Completers::none(rt.alloc());
     let installed = completers.add_completer(Box::new(rt.alloc(), Installed::new(*rt))?)?;
     let tree = |alloc: Global| larder(alloc, installed);
-    run(rt, tree, &completers, |found| carry_out(rt, found))
+    run(rt, tree, &completers, |found| manage_packages(rt, found))
 }
 
-fn carry_out(rt: &HostRuntime, found: &ArgMatches<'_>) -> io::Result<()> {
+fn manage_packages(rt: &HostRuntime, found: &ArgMatches<'_>) -> io::Result<()> {
     match found.subcommand() {
         Some(("install", values)) => install(rt, values),
         Some(("remove", values)) => remove(rt, values),

@@ -23,7 +23,7 @@ fn main(rt: HostRuntime) -> ExitCode {
 fn started(rt: &HostRuntime) -> Result<ExitCode, Failure<io::Error>> {
     let completers = Completers::none(rt.alloc());
     let tree = |alloc: Global| pantry(alloc);
-    run(rt, tree, &completers, |found| carry_out(rt, found))
+    run(rt, tree, &completers, |found| print_chosen(rt, found))
 }
 
 // Returns the whole tree.
@@ -44,7 +44,7 @@ fn pantry(alloc: Global) -> Result<Command, Error> {
     with_child(pantry, with_alias(alloc, list, "ls"))
 }
 
-fn carry_out(rt: &HostRuntime, found: &ArgMatches<'_>) -> io::Result<()> {
+fn print_chosen(rt: &HostRuntime, found: &ArgMatches<'_>) -> io::Result<()> {
     match found.subcommand() {
         Some(("label", values)) => print_labels(rt, values),
         Some(("list", values)) => print_list(rt, values),
