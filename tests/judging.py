@@ -10,7 +10,7 @@ import collections
 import re
 from typing import Any, Callable, Counter, Iterator, Optional, Sequence, Tuple
 
-from shells import is_before_fish_4
+from shells import fish_hides_dots
 
 # The reason for a value that a shell leaves out at some Tabs only.
 MAY_LEAVE_OUT = "bash may complete nothing after a `"
@@ -71,7 +71,7 @@ def left_out_in_fish(value: str, typed: str) -> Optional[str]:
         return "~ in fish"
     if begins_blank(value):
         return "a blank of Unicode in fish"
-    if value.startswith(".") and not typed and is_before_fish_4():
+    if value.startswith(".") and not typed and fish_hides_dots():
         return "fish hides a leading dot"
     if typed == "*" and value != typed:
         return "fish completes nothing after *"

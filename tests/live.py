@@ -112,7 +112,7 @@ def replied(scratch: shells.TreeScratch, writer: str, line: str, shell: str) -> 
             tree = os.path.join(common.EXAMPLES, words[0] + ".json")
         found = output(scratch, ["complgen", "candidates", "--index", index, tree, "--", *words])
     values = [row.partition("\t")[0] for row in found]
-    hides = shell == "fish" and not words[-1].startswith(".") and shells.is_before_fish_4()
+    hides = shell == "fish" and not words[-1].startswith(".") and shells.fish_hides_dots()
     return sorted(value for value in values if not (hides and value.startswith(".")))
 
 

@@ -559,9 +559,8 @@ set edit:rprompt = {{ }}
 
 
 @functools.lru_cache(maxsize=None)
-def is_before_fish_4() -> bool:
-    """Returns whether the installed fish is older than fish 4. It offers names that begin with a dot only after a dot,
-    and completes the whole word if the cursor is within one."""
+def fish_hides_dots() -> bool:
+    """Returns whether the installed fish offers names that begin with a dot only after a dot, as before fish 4."""
     said = subprocess.run(["fish", "--version"], stdout=subprocess.PIPE, check=True).stdout.decode()
     return int(re.findall(r"\d+", said)[0]) < 4
 

@@ -35,7 +35,7 @@ import common
 import safe_places
 from judging import Count, letter_in
 from safe_live import VALUES
-from shells import SHELLS, TreeScratch, is_before_fish_4, started, unlink, write
+from shells import SHELLS, TreeScratch, started, unlink, write
 
 POSIX = ("bash", "zsh")
 PARTS = ("values", "typed", "cut", "places", "keys", "cobra")
@@ -100,12 +100,22 @@ def call_at(terminal, scratch, typed, keys=""):
     return found
 
 
+class Either(tuple):
+    """The words that one release of a shell passes, and those of another."""
+
+
 def try_row(terminal, scratch, count, typed, expected, keys=""):
     """Presses Tab after a text. The probe has to receive the expected words once. If they are a text, it must not run,
     for that reason."""
     reason = expected if isinstance(expected, str) else None
-    calls = [] if reason else [["__complete", *expected]]
-    count.tried(lambda: call_at(terminal, scratch, typed, keys), typed, typed, calls, reason, [[]])
+    ways = expected if isinstance(expected, Either) else (expected,)
+    calls = [[] if reason else [["__complete", *words]] for words in ways]
+
+    def attempt():
+        got, marks = call_at(terminal, scratch, typed, keys)
+        return calls[0] if got in calls else got, marks
+
+    count.tried(attempt, typed, typed, calls[0], reason, [[]])
 
 
 # ---- values
@@ -177,7 +187,8 @@ TYPED_IN = {
         "$'\\xff'": NOT_UTF8, '--onto="`touch hit`': BACKTICK, "'a\nb": OPEN, '"a\n;touch hit': OPEN,
     },
     "fish": {
-        "`touch hit` x": ["`touch", "hit`", "x"], "`touch hit`": ["`touch", "hit`"], "x >hit y": ["x", "hit", "y"],
+        "`touch hit` x": ["`touch", "hit`", "x"], "`touch hit`": ["`touch", "hit`"],
+        "x >hit y": Either((["x", "hit", "y"], ["x", "y"])),
         "~": OWN, "$HOME": OWN, "'a\\\\' x": ["a\\", "x"],
         "a\\tb x": ["a\tb", "x"], "a\\vb x": VERTICAL_TAB, "a\\vb": VERTICAL_TAB,
         "a\\Xffb x": NOT_UTF8, "a\\Xff": NOT_UTF8, "'a\nb' x": LINE_FEED, "'a\nb": LINE_FEED,
@@ -198,7 +209,7 @@ TYPED_IN = {
 def try_typed(terminal, scratch, count):
     for program in ("asks", "cobra"):
         for typed, expected in {**TYPED, **TYPED_IN[terminal.name]}.items():
-            if not isinstance(expected, str):
+            if isinstance(expected, list):
                 expected = [scratch.home if word == "<home>" else word for word in expected]
             try_row(terminal, scratch, count, f"{program} {typed}", expected)
 
@@ -206,12 +217,12 @@ def try_typed(terminal, scratch, count):
 # ---- the cursor
 
 def try_cut(terminal, scratch, count):
-    """Moves the cursor to the left before the Tab. Some shells complete the whole word in which it is."""
-    is_whole = terminal.name == "zsh" or terminal.name == "fish" and is_before_fish_4()
+    """Moves the cursor to the left before the Tab. Within a word, all but bash may complete the whole word."""
+    before, within = (["one", ""], ["one", "two"]), (["one", "two"], ["one", "twothree"])
     for typed, behind, expected in (
         ("one two three", " three", ["one", "two"]),
-        ("one two three", "two three", ["one", "two" if is_whole else ""]),
-        ("one twothree four", "three four", ["one", "twothree" if is_whole or terminal.name == "elvish" else "two"]),
+        ("one two three", "two three", before[0] if terminal.name == "bash" else Either(before)),
+        ("one twothree four", "three four", within[0] if terminal.name == "bash" else Either(within)),
         ("one '$(touch hit)", "", ["one", "$(touch hit)"]), ("one $(touch hit)", " $(touch hit)", ["one"]),
         ("one '$(touch hit)'", " '$(touch hit)'", ["one"]),
     ):
