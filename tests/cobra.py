@@ -36,7 +36,7 @@ from typing import Any, Dict, Iterator, List, NamedTuple, Optional, Sequence, Se
 
 sys.path.append(os.path.join(os.path.dirname(os.path.realpath(__file__)), "..", "tools"))
 import common
-from shells import SHELLS, Shell, TreeScratch, is_before_fish_4, started, write
+from shells import SHELLS, Shell, TreeScratch, fish_hides_dots, started, write
 
 # The words that import each program, and those before the name of a shell that print its own script.
 PROGRAMS = {"hcloud": ([], ["completion"]), "hugo": ([], ["completion"]), "gh": (["--cobra"], ["completion", "-s"])}
@@ -210,7 +210,7 @@ class Trial:
         """Types a line into a shell with the imported programs, and into one with the programs' own scripts."""
         *words, word = line.text.split(" ")
         found = offers(terminal, line.text)
-        hides_dots = terminal.name == "fish" and is_before_fish_4()
+        hides_dots = terminal.name == "fish" and fish_hides_dots()
         expected = wanted(answer_of(self.scratch, [*words, word]), word, hides_dots)
         what = f"{terminal.name}: {line.text!r}"
         options = {it for it in found if it.startswith("-")} if not word else set()
