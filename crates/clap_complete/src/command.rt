@@ -2,7 +2,7 @@
 
 pub use cc_arg::{
     Arg, ArgAction, LongAndVisibleAliases, PossibleValue, ShortAndVisibleAliases, ValueHint,
-    ValueRange,
+    ValueRange, ValuesProtocol,
 };
 pub use cc_base::{Text, is_plain_name};
 pub use cc_command::{Arguments, Command, NameAndVisibleAliases};

@@ -9,6 +9,6 @@ pub use cc_env::{
 pub use cc_lines::SystemLines;
 pub use cc_quote::is_plain_path;
 pub use cc_replies::{
-    EnvValues, GivenLines, are_readable_entries, are_readable_lines, are_readable_values,
-    are_readable_zsh_items,
+    CobraReply, EnvValues, GivenLines, PathKind, are_readable_entries, are_readable_lines,
+    are_readable_values, are_readable_zsh_items,
 };
