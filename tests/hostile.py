@@ -13,10 +13,10 @@ tree file, changed or not, whose arguments have values from commands, files and 
 on the standard input. The input need not be UTF-8.
 
 Each run has to end within a second, or on a busy machine after less than a second of processor time. It
-has to end by no signal, with status 0, 1 or 2, or with 3 if a shell requests something. With status 0, it
-prints nothing to the standard error, except how many tree files it skipped. With status 3, it prints words
-to the standard output, each with a vertical tab after it, and nothing else. With another status, it prints
-nothing to the standard output. To the standard error it prints one of the texts that docs/TEXTS.md lists,
+has to end by no signal, with status 0, 1 or 2, or with 3 or 4 if a shell requests something. With status 0
+or 4, it prints nothing to the standard error, except how many tree files it skipped. With status 3, it
+prints words to the standard output, each with a vertical tab after it, and nothing else. With another
+status, it prints nothing to the standard output. To the standard error it prints one of the texts that docs/TEXTS.md lists,
 or the command line's own text, or nothing if a program has no tree file. Only `check` prints findings to
 the standard output, at least one if the status is 1.
 
@@ -204,9 +204,9 @@ def limit_processor_time():
 def judged(kind, status, written, printed):
     if kind == "check":
         return f"status {status}", fault_of_check(status, written, printed)
-    if status == 0:
+    if status == 0 or status == 4 and kind == "complgen":
         known = not printed or kind == "complgen" and re.fullmatch(PASSED_OVER, printed)
-        return "status 0", None if known else f"prints {printed!r}"
+        return f"status {status}", None if known else f"prints {printed!r}"
     if status == 3 and kind == "complgen":
         whole = written.endswith(b"\v") and b"\0" not in written and not printed
         return "status 3", None if whole else f"prints {written!r} and {printed!r}"
@@ -284,6 +284,8 @@ SOURCES = json.dumps({
     "args": [
         {"id": "onto", "long": "onto", "short": "o", "values_from": ["git", "branch"]},
         {"id": "image", "long": "image", "values_from": ["docker", "images", ""], "values_split": " "},
+        {"id": "server", "long": "server", "values_from": ["hcloud", "__complete"], "values_words": True,
+         "values_protocol": "cobra"},
         {"id": "package", "long": "package", "values_file": "lines"},
         {"id": "user", "long": "user", "value_hint": "Username"},
         {"id": "host", "long": "host", "value_hint": "Hostname"},
@@ -294,7 +296,7 @@ SOURCES = json.dumps({
 
 LINE_PIECES = [
     b"main", b"-x", b"--exec=touch hit", b"$(touch hit)", b"`hit`", b"a b", b"\t", b":", b" ", b"\r", b"\0",
-    b"\x1b[31m", b"\xff", b"\xc3", b"\xc3\xa9", b"'", b'"', b"", b"x" * 5000,
+    b"\x1b[31m", b"\xff", b"\xc3", b"\xc3\xa9", b"'", b'"', b"", b"x" * 5000, b"_activeHelp_ ",
 ]
 
 
@@ -307,7 +309,7 @@ def with_lines(chance, path):
         file.write(tree)
     with open(os.path.join(folder, b"lines"), "wb") as file:
         file.write(odd_lines(chance))
-    asked = chance.choice([b"--onto", b"-o", b"--image", b"--package", b"--user", b"--host", b"--program"])
+    asked = chance.choice([b"--onto", b"-o", b"--image", b"--server", b"--package", b"--user", b"--host", b"--program"])
     before = chance.choice([[], [asked], [asked + b"="], odd_words(chance, 3)])
     variables = {
         **asking(chance),
@@ -323,7 +325,8 @@ def with_lines(chance, path):
 def odd_lines(chance):
     ends = [b"\n", b"\n", b"\n", b"\r\n", b""]
     lines = (chance.choice(LINE_PIECES) + chance.choice(LINE_PIECES) + chance.choice(ends) for _ in range(40))
-    return b"".join(lines) if chance.randrange(8) else chance.getrandbits(24000).to_bytes(3000, "little")
+    last = chance.choice([b"", b"", b":0", b":2\n", b":4\r\n", b":8", b":18\n", b":1\n\n", b":99999", b":100000"])
+    return b"".join(lines) + last if chance.randrange(8) else chance.getrandbits(24000).to_bytes(3000, "little")
 
 
 def words_over(chance, path):
@@ -363,6 +366,7 @@ def asking(chance):
         "_COMPLGEN_ASCII": chance.choice(["", "1", "x"]),
         "_COMPLGEN_KEPT": chance.choice(["", "", "--color=", "a b", "'", "\\", "é", "\n"]),
         "_COMPLGEN_QUOTE": chance.choice(["", "'", '"', "`", "''", "é"]),
+        "_COMPLGEN_SPACE": chance.choice(["1", "1", "", "x"]),
         "_COMPLGEN_WIDTH": chance.choice(["", "0", "40", "80", "65535", "99999", "100000", "-80", "8é", "+80"]),
     }
     asked = {name: value for name, value in values.items() if chance.randrange(5)}
