@@ -1,9 +1,15 @@
 -- Lists with the candidates in lines, and lines that a caller passed, for some arguments.
-use Rattle.std.proofs.Common.{◌≡◌, List, [], ◌∷◌, Some, codes, refl}
+use Rattle.std.proofs.Common.{◌≡◌, true, false, List, [], ◌∷◌, Some, codes, refl}
 use Rattle.cc_arg.specs.Arguments.{new_arg}
+use Rattle.cc_arg.specs.declared.parts.ArgParts.{ArgParts as Arg}
+use Rattle.cc_arg.specs.declared.value_hint.ValueHint.TheVariants.{AnyPath, DirPath, FilePath}
+use Rattle.cc_arg.specs.declared.value_source.SourceValues.TheVariants.{Listed, Paths}
+use Rattle.cc_arg.specs.declared.values_protocol.ValuesProtocol.TheVariants.{Cobra}
 use Rattle.cc_candidates.specs.Candidate.{new_candidate}
 use Rattle.cc_candidates.specs.declared.candidate.CompletionCandidate.{CompletionCandidate}
-use Rattle.cc_env.specs.WithLines.{lists_with, passed_lines}
+use Rattle.cc_env.specs.ValuesRead.{read_values}
+use Rattle.cc_env.specs.WithLines.{lines_list, lists_with, passed_lines}
+use Rattle.cc_env.specs.declared.asking.values_read.ValuesRead.{ValuesRead}
 
 abbrev main : CompletionCandidate
 main = new_candidate (codes "main")
@@ -30,3 +36,53 @@ command_row = refl
 file_row : passed_lines (codes "main\n")
     (record (new_arg (codes "branch")) { values_file = Some (codes "/branches") }) ≡ []
 file_row = refl
+
+-- ---- the lines of a program with Cobra
+
+abbrev pod : Arg
+pod = record (new_arg (codes "pod")) { values_from = Some (codes "kubectl" ∷ []) }
+
+abbrev cobra_pod : Arg
+cobra_pod = record pod { values_protocol = Cobra }
+
+-- `main` alone, in the list of the lines
+abbrev only_main : ValuesRead
+only_main = record {
+  lines = record { candidates = main ∷ [] };
+  values = Listed lines_list;
+  no_space = false;
+}
+
+abbrev no_values : ValuesRead
+no_values = record only_main { lines = record { candidates = [] } }
+
+values_row : read_values cobra_pod (codes "main\n:4\n") ≡ only_main
+values_row = refl
+
+-- to an argument of plain lines the directive is a value
+plain_row : read_values pod (codes "main\n:4\n")
+    ≡ record only_main { lines = record { candidates = main ∷ new_candidate (codes ":4") ∷ [] } }
+plain_row = refl
+
+no_space_row : read_values cobra_pod (codes "main\n:6\n") ≡ record only_main { no_space = true }
+no_space_row = refl
+
+error_row : read_values cobra_pod (codes "main\n:1\n") ≡ no_values
+error_row = refl
+
+any_row : read_values cobra_pod (codes ":0\n") ≡ record no_values { values = Paths AnyPath }
+any_row = refl
+
+none_row : read_values cobra_pod (codes ":4\n") ≡ no_values
+none_row = refl
+
+files_row : read_values cobra_pod (codes "json\n:8\n") ≡ record no_values { values = Paths FilePath }
+files_row = refl
+
+directories_row : read_values cobra_pod (codes ":16\n")
+    ≡ record no_values { values = Paths DirPath }
+directories_row = refl
+
+-- without a directive, the lines are as any others
+undirected_row : read_values cobra_pod (codes "main\n") ≡ only_main
+undirected_row = refl

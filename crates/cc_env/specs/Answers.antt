@@ -1,5 +1,5 @@
 -- The answer to a request: a text, or the words of a command for the shell to run.
-use Rattle.std.specs.Prelude.{◌≡◌, ℕ, Bool, List, map, Option, Result, Ok, Err}
+use Rattle.std.specs.Prelude.{◌≡◌, ◌-◌, ℕ, Bool, List, length, map, Option, Result, Ok, Err}
 use Rattle.std.specs.Option.{option_copied}
 use Rattle.std.specs.String.{string_bytes}
 use Rattle.cc_arg.specs.declared.parts.ArgParts.{ArgParts as Arg}
@@ -20,15 +20,16 @@ use Rattle.cc_env.specs.Steps.{MakesText, Names, program_names}
 use Rattle.cc_env.specs.declared.safe_shell.SafeShell.{SafeShell}
 use Rattle.cc_engine.specs.Values.{MayReturn}
 use Rattle.cc_candidates.specs.Folders.{FolderFacts}
-use Rattle.cc_replies.specs.GivenLines.{candidates_of_lines}
 use Rattle.cc_replies.specs.declared.environment.EnvValues.{EnvValues}
-use Rattle.cc_env.specs.Asking.{AsksOver, CannotAsk, command_words, next_step, values_mode}
-use Rattle.cc_env.specs.WithLines.{lines_list, with_lines}
+use Rattle.cc_env.specs.Asking.{AsksOver, CannotAsk, next_step, typed_words, values_mode}
+use Rattle.cc_env.specs.ValuesRead.{AreRead}
+use Rattle.cc_env.specs.WithLines.{with_lines}
 use Rattle.cc_env.specs.declared.asking.answers.Answer.{Answer}
 use Rattle.cc_env.specs.declared.asking.answers.Answer.TheVariants as answer_as
 use Rattle.cc_env.specs.declared.asking.answers.Call.{Call}
 use Rattle.cc_env.specs.declared.asking.asked.AnswerStep.{AnswerStep}
 use Rattle.cc_env.specs.declared.asking.asked.AnswerStep.TheVariants.{ReadLines, Reply, Run}
+use Rattle.cc_env.specs.declared.asking.values_read.ValuesRead.{ValuesRead}
 
 -- ---- the request
 
@@ -81,13 +82,12 @@ MakesAlone parts tree result =
     MakesText (λ made. made ≡ Ok tree) (safe_spec parts.shell) parts.names parts.env
     (Completes parts.returned) parts.args result
 
--- The text over a command in which each argument with the source of `asked` has these lines as its
--- list.
-abbrev pub MakesOver : Parts → Arg → List ℕ → Tree → Result (List ℕ) Error → Type 0
-MakesOver parts asked given tree result =
-    MakesText (λ made. made ≡ Ok (listed_tree asked lines_list tree)) (safe_spec parts.shell)
-    parts.names parts.env
-    (Completes (with_lines parts.returned (candidates_of_lines asked.values_split given)))
+-- The text over a command in which each argument with the source of `asked` has the values that were
+-- read.
+abbrev pub MakesOver : Parts → Arg → ValuesRead → Tree → Result (List ℕ) Error → Type 0
+MakesOver parts asked read tree result =
+    MakesText (λ made. made ≡ Ok (listed_tree asked read.values tree)) (safe_spec parts.shell)
+    parts.names parts.env (Completes (with_lines parts.returned read.lines.candidates))
     parts.args result
 
 -- The answer by a step, where `Gives` is true of the lines that an argument may be given.
@@ -96,12 +96,11 @@ pub data AnswersStep (parts : Parts) (Gives : Arg → List ℕ → Type 0) (tree
   -- no lines are asked for, or none can be had
   replied : (result : Result (List ℕ) Error) → MakesAlone parts tree result
       → AnswersStep parts Gives tree Reply (told result)
-  -- the shell is to run a command
-  runs : (argument : Arg)
-      → AnswersStep parts Gives tree (Run argument) (Ok (words (command_words argument)))
+  -- the shell is to run these words
+  runs : (command : List (List ℕ)) → AnswersStep parts Gives tree (Run command) (Ok (words command))
   -- the reply over lines
-  over_lines : (argument : Arg) (given : List ℕ) (result : Result (List ℕ) Error)
-      → Gives argument given → MakesOver parts argument given tree result
+  over_lines : (argument : Arg) (read : ValuesRead) (result : Result (List ℕ) Error)
+      → AreRead Gives argument read → MakesOver parts argument read tree result
       → AnswersStep parts Gives tree (ReadLines argument) (told result)
   -- out of memory
   out_of_memory : (step : AnswerStep) → AnswersStep parts Gives tree step (Err Memory)
@@ -110,6 +109,15 @@ pub data AnswersStep (parts : Parts) (Gives : Arg → List ℕ → Type 0) (tree
 abbrev pub AsksFor : Parts → Tree → Option Arg → Type 0
 AsksFor parts tree asked =
     AsksOver (values_mode parts.env) (built_tree tree) (words_after parts.args) asked
+
+-- the typed words, of which the last one is to complete
+abbrev pub typed_in : Parts → Tree → List (List ℕ)
+typed_in parts tree =
+    typed_words (built_tree tree).node (words_after parts.args) (length (words_after parts.args) - 1)
+
+-- the step for the argument that is asked for
+abbrev pub step_in : Parts → Tree → Option Arg → AnswerStep
+step_in parts tree asked = next_step parts.env parts.trusted asked (typed_in parts tree)
 
 -- the answer over a command
 pub data Answers (parts : Parts) (Gives : Arg → List ℕ → Type 0) (tree : Tree)
@@ -120,5 +128,5 @@ pub data Answers (parts : Parts) (Gives : Arg → List ℕ → Type 0) (tree : T
       → Answers parts Gives tree (Err error)
   -- the answer by the argument that is asked for
   answered : (asked : Option Arg) (result : Result Told Error) → AsksFor parts tree asked
-      → AnswersStep parts Gives tree (next_step parts.env parts.trusted asked) result
+      → AnswersStep parts Gives tree (step_in parts tree asked) result
       → Answers parts Gives tree result

@@ -11,6 +11,7 @@ pub mod WantedWords
 pub mod Answers
 pub mod Asking
 pub mod Completion
+pub mod ValuesRead
 pub mod WithLines
 pub mod OwnAnswers
 pub mod OwnEnds

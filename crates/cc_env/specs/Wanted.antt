@@ -1,14 +1,10 @@
 -- The shell that the environment requests, by the value of a variable.
-use Rattle.std.specs.Prelude.{find, ◌≡◌, ◌⊎◌, ◌||◌, ℕ, Bool, List, [], ◌++◌, Option, Some, None, map, codes, unwrap_or, if◌then◌else◌}
+use Rattle.std.specs.Prelude.{find, ◌≡◌, ◌⊎◌, ℕ, Bool, List, ◌++◌, Option, Some, None, map, codes, unwrap_or, if◌then◌else◌}
 use Rattle.std.specs.Path.{path_file_stem}
-use Rattle.std.specs.Str.{bytes_eq}
 use Rattle.cc_base.specs.Joined.{joined}
 use Rattle.cc_base.specs.declared.error.Error.{Error}
 use Rattle.cc_base.specs.declared.error.Error.TheVariants.{Memory, UnknownShell}
-
--- a value that requests nothing: the empty text and `0`
-abbrev pub wants_nothing : List ℕ → Bool
-wants_nothing value = bytes_eq value [] || bytes_eq value (codes "0")
+use Rattle.cc_replies.specs.Requests.{wants_nothing}
 
 -- the name of a shell in a value: the last piece of a path without its extension; the whole value
 -- if it has no such piece

@@ -9,6 +9,7 @@ mod asked;
 mod completion;
 mod line_source;
 mod own_answers;
+mod values_read;
 mod with_lines;
 mod writing;
 

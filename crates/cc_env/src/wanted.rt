@@ -5,12 +5,13 @@ ghost use Rattle.std.specs.Prelude.{None, Some, IfErr, IfOk, OnOk};
 ghost use Rattle.std.specs.Option.{option_copied};
 ghost use Rattle.std.specs.String.{string_bytes};
 ghost use Rattle.cc_base.specs.Joined.{joined, separator};
-ghost use Rattle.cc_env.specs.Wanted.{wanted_name, wants_nothing, quoted_name, unknown_shell};
+ghost use Rattle.cc_env.specs.Wanted.{wanted_name, quoted_name, unknown_shell};
 ghost use Rattle.cc_env.specs.Wanted.{IsUnknownShell};
 
 use crate::env_completer::EnvCompleter;
 use crate::shells::Shells;
 use cc_base::{Error, Text};
+use cc_replies::wants_nothing;
 use std::alloc::{AllocError, Global};
 use std::path::Path;
 
@@ -25,12 +26,6 @@ pub fn wanted_name(value: Option<&str>) -> Option<&str>
         return None;
     }
     Some(Path::new(value).file_stem().unwrap_or(value))
-}
-
-fn wants_nothing(value: &str) -> bool
-    ensures { result ≡ wants_nothing value.now }
-{
-    value == "" || value == "0"
 }
 
 /// Returns the first of the shells that has a name.

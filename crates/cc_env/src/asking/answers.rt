@@ -1,17 +1,17 @@
 //! The answer to a request: a text, or the words of a command that lists values.
 
-ghost use Rattle.std.specs.Prelude.{◌≡◌, IfErr, IfOk};
+ghost use Rattle.std.specs.Prelude.{◌≡◌};
 ghost use Rattle.cc_arg.specs.declared.parts.ArgParts.{ArgParts as Arg};
 ghost use Rattle.cc_base.specs.declared.sources.CandidateSources.{Ghosts};
 ghost use Rattle.cc_env.specs.Steps.{made_bytes};
 ghost use Rattle.cc_env.specs.Answers.{Answers, AnswersStep, MakesOver, parts_of};
-ghost use Rattle.cc_env.specs.Answers.{seen, seen_answer, told, words};
-ghost use Rattle.cc_env.specs.Asking.{command_words};
+ghost use Rattle.cc_env.specs.Answers.{seen_answer, told};
 
 use crate::arguments::words_after;
-use crate::asking::asked::{AnswerStep, asked_by, command_words, next_step};
-use crate::asking::line_source::{LineSource, lines_of};
-use crate::asking::with_lines::{WithLines, lines_list};
+use crate::asking::asked::{AnswerStep, asked_by, behind_name, next_step};
+use crate::asking::line_source::LineSource;
+use crate::asking::values_read::{ValuesRead, read_from};
+use crate::asking::with_lines::WithLines;
 use crate::safe_shell::SafeShell;
 use crate::shell_program::ShellProgram;
 use cc_arg::Arg;
@@ -19,7 +19,7 @@ use cc_base::{CandidateSources, Collected, Error, Items, Text};
 use cc_candidates::{CompletionCandidate, Folder};
 use cc_command::{Command, list_values};
 use cc_engine::Sources;
-use cc_replies::{EnvValues, GivenLines};
+use cc_replies::EnvValues;
 use std::alloc::Global;
 
 /// A run of a program by a shell.
@@ -50,9 +50,10 @@ pub enum Answer {
 /// If the request comes from a safe registration, and the last word asks for the values of an
 /// argument that come from outside the tree, these are needed first:
 ///
-/// - If they come from a command, `_COMPLGEN_VALUES` decides. If it is `ask`, the answer is `Run`.
-///   If it is `stdin`, `lines` has the output of the command. Otherwise the argument has no values.
-///   It has none either if the variable `COMPLGEN_COMMANDS` is `0`, or if `call.trusted` is false.
+/// - If they come from a command, `_COMPLGEN_VALUES` decides. If it is `ask`, the answer is `Run`,
+///   with the words that `wanted_command` returns, if it returns any. If it is `stdin`, `lines` has
+///   the output of the command. Otherwise the argument has no values. It has none either if the
+///   variable `COMPLGEN_COMMANDS` is `0`, or if `call.trusted` is false.
 /// - If they come from a file or from the system, `lines` has them.
 ///
 /// All other candidates come from `command` and `sources`.
@@ -75,12 +76,17 @@ where
     ensures { Answers (parts_of C.CandidateSources (D.facts sources.now.folder.now) call.now
         sources.now) (S.gives lines.now) command (seen_answer result) }
 {
-    match asked_by(alloc, &mut command, call.env, words_after(call.args)) {
+    let words = words_after(call.args);
+    match asked_by(alloc, &mut command, call.env, words) {
         Ok(asked) => {
-            let step = next_step(call.env, call.trusted, asked);
-            let answer = answer_step(alloc, call, command, sources, lines, &step);
-            drop(step);
-            answer
+            let typed = behind_name(&command, words);
+            match next_step(alloc, call.env, call.trusted, asked, typed) {
+                Ok(step) => answer_step(alloc, call, command, sources, lines, step),
+                Err(_) => {
+                    drop(command);
+                    Err(Error::Memory)
+                }
+            }
         }
         Err(error) => {
             drop(command);
@@ -96,14 +102,14 @@ fn answer_step<D, C, S>(
     command: Command,
     sources: &Sources<'_, D, C>,
     lines: &S,
-    step: &AnswerStep,
+    step: AnswerStep,
 ) -> Result<Answer, Error>
 where
     D: Folder,
     C: CandidateSources<Candidate = CompletionCandidate>,
     S: LineSource,
     ensures { AnswersStep (parts_of C.CandidateSources (D.facts sources.now.folder.now) call.now
-        sources.now) (S.gives lines.now) command step.now (seen_answer result) }
+        sources.now) (S.gives lines.now) command step (seen_answer result) }
 {
     match step {
         AnswerStep::Reply => {
@@ -112,12 +118,14 @@ where
                     .text(alloc, command, call.args, call.env, sources),
             )
         }
-        AnswerStep::Run(asked) => {
+        AnswerStep::Run(words) => {
             drop(command);
-            run_answer(alloc, asked)
+            Ok(Answer::Run(words))
         }
         AnswerStep::ReadLines(asked) => {
-            text_answer(text_of_lines(alloc, call, command, sources, lines, asked))
+            let text = text_of_lines(alloc, call, command, sources, lines, &asked);
+            drop(asked);
+            text_answer(text)
         }
     }
 }
@@ -130,14 +138,6 @@ fn text_answer(text: Result<Collected, Error>) -> Result<Answer, Error>
         Ok(text) => Ok(Answer::Text(text)),
         Err(error) => Err(error),
     }
-}
-
-// Returns the words of the argument's command, as an answer.
-fn run_answer(alloc: Global, asked: &Arg) -> Result<Answer, Error>
-    ensures runs { IfOk result (λ answer. seen answer ≡ words (command_words asked.now)) }
-    ensures memory { IfErr result (λ error. error ≡ Error.Memory) }
-{
-    Ok(Answer::Run(command_words(alloc, asked)?))
 }
 
 // Returns the text over a command and the lines that are the values of `asked`.
@@ -157,8 +157,12 @@ where
         sources.now) (S.gives lines.now) command (AnswerStep.ReadLines asked.now)
         (told (made_bytes result)) }
 {
-    match lines_of(alloc, lines, asked) {
-        Ok(given) => text_over(alloc, call, command, sources, asked, given.as_slice()),
+    match read_from(alloc, lines, asked) {
+        Ok(read) => {
+            let text = text_over(alloc, call, command, sources, asked, &read);
+            drop(read);
+            text
+        }
         Err(error) => {
             drop(command);
             Err(error)
@@ -166,40 +170,32 @@ where
     }
 }
 
-// Returns the text over a command in which the lines are the values of each argument whose values
-// come from where those of `asked` come from.
+// Returns the text over a command in which the values that were read are those of each argument whose
+// values come from where those of `asked` come from.
 fn text_over<D, C>(
     alloc: Global,
     call: &Call<'_>,
     mut command: Command,
     sources: &Sources<'_, D, C>,
     asked: &Arg,
-    lines: &[u8],
+    read: &ValuesRead,
 ) -> Result<Collected, Error>
 where
     D: Folder,
     C: CandidateSources<Candidate = CompletionCandidate>,
     ensures { MakesOver (parts_of C.CandidateSources (D.facts sources.now.folder.now) call.now
-        sources.now) asked.now lines.now command (made_bytes result) }
+        sources.now) asked.now read.now command (made_bytes result) }
 {
-    list_values(&mut command, asked, lines_list());
-    match GivenLines::new(alloc, lines, asked.get_values_split()) {
-        Ok(given) => {
-            let completers = WithLines {
-                sources: sources.completers,
-                lines: &given,
-            };
-            let with_lines = Sources {
-                current_dir: sources.current_dir,
-                folder: sources.folder,
-                completers: &completers,
-            };
-            call.program
-                .text(alloc, command, call.args, call.env, &with_lines)
-        }
-        Err(_) => {
-            drop(command);
-            Err(Error::Memory)
-        }
-    }
+    list_values(&mut command, asked, read.values);
+    let completers = WithLines {
+        sources: sources.completers,
+        lines: &read.lines,
+    };
+    let with_lines = Sources {
+        current_dir: sources.current_dir,
+        folder: sources.folder,
+        completers: &completers,
+    };
+    call.program
+        .text(alloc, command, call.args, call.env, &with_lines)
 }

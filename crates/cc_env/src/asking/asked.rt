@@ -1,14 +1,15 @@
 //! The argument whose values a request asks for, and what answers the request then.
 
-ghost use Rattle.std.specs.Prelude.{◌≡◌, IfErr, IfOk, OnOk, length, map, string_bytes, true};
+ghost use Rattle.std.specs.Prelude.{◌≡◌, ◌++◌, IfErr, IfOk, OnOk, drop, length, map, string_bytes, true};
 ghost use Rattle.std.specs.Option.{option_copied};
 ghost use Rattle.cc_command.specs.Built.{built_tree};
-ghost use Rattle.cc_engine.specs.Completion.{Refuses, is_in_range};
+ghost use Rattle.cc_engine.specs.Completion.{Refuses, is_in_range, names_before};
 ghost use Rattle.cc_env.specs.Asking.{AsksAtLast, AsksOver, CannotAsk, CannotAskAtLast, Wants};
-ghost use Rattle.cc_env.specs.Asking.{command_of, command_words, may_run};
-ghost use Rattle.cc_env.specs.Asking.{next_step, step_of_mode, turns_off, values_mode};
+ghost use Rattle.cc_env.specs.Asking.{if_runnable, may_run, next_step, passed_words, run_words};
+ghost use Rattle.cc_env.specs.Asking.{step_of_mode, step_of_words, turns_off, values_mode};
+ghost use Rattle.cc_env.specs.Asking.{words_for};
 
-use cc_arg::Arg;
+use cc_arg::{Arg, is_runnable};
 use cc_base::{Error, Items, Text};
 use cc_command::Command;
 use cc_engine::asked_argument;
@@ -27,15 +28,17 @@ const COMMANDS: &str = "COMPLGEN_COMMANDS";
 pub enum AnswerStep {
     /// The reply, without values from outside the tree.
     Reply,
-    /// The words of the argument's command, for the shell to run.
-    Run(Arg),
+    /// These words, for the shell to run.
+    Run(Items<Text>),
     /// The reply over lines, which are the values of the argument.
     ReadLines(Arg),
 }
 
-/// Returns the words of the command that lists the values for the word at `index`, counted from 0,
-/// in a command line of `command`, which is built first. Returns `None` if no argument is asked for
-/// there, or if its values do not come from a command. The `words` are those that `complete_from`
+/// Returns the words to run for the values of the word at `index`, counted from 0, in a command line
+/// of `command`, which is built first. They are those of the argument that is asked for there, and
+/// if it gets words of the command line, then those from the first one behind the program's name to
+/// the one at `index`. Returns `None` if no argument is asked for there, if its values do not come
+/// from a command, or if a shell cannot run the words. The `words` are those that `complete_from`
 /// takes.
 ///
 /// # Errors
@@ -55,21 +58,83 @@ pub fn wanted_command(
     ensures errors { IfErr result (Refuses command.old command.new (length words.now) index) }
 {
     let asked = asked_argument(alloc, command, words, index)?;
-    let found = command_of(alloc, &asked);
+    let found = words_for(alloc, &asked, behind_name(command, &words[..index + 1]));
     drop(asked);
     Ok(found?)
 }
 
-// Returns a copy of the words of the argument's command, if it has one.
-fn command_of(alloc: Global, asked: &Option<Arg>) -> Result<Option<Items<Text>>, AllocError>
-    ensures { IfOk result (λ words. words ≡ command_of asked.now) }
+/// Returns the words behind the program's name.
+pub(crate) fn behind_name<'w>(command: &Command, words: &'w [String]) -> &'w [String]
+    ensures { map string_bytes result.now
+        ≡ drop (names_before command.now.node) (map string_bytes words.now) }
 {
-    let Some(asked) = asked else {
+    match words {
+        [_name, rest @ ..] if !command.is_no_binary_name_set() => rest,
+        _ => words,
+    }
+}
+
+// Returns the words that run for the argument that is asked for.
+fn words_for(
+    alloc: Global,
+    asked: &Option<Arg>,
+    typed: &[String],
+) -> Result<Option<Items<Text>>, AllocError>
+    ensures { IfOk result
+        (λ words. words ≡ words_for asked.now (map string_bytes typed.now)) }
+{
+    match asked {
+        Some(asked) => run_words(alloc, asked, typed),
+        None => Ok(None),
+    }
+}
+
+// Returns the words that run for an argument, if there are any.
+fn run_words(
+    alloc: Global,
+    asked: &Arg,
+    typed: &[String],
+) -> Result<Option<Items<Text>>, AllocError>
+    ensures { IfOk result
+        (λ words. words ≡ run_words asked.now (map string_bytes typed.now)) }
+{
+    let Some(own) = asked.get_values_from() else {
         return Ok(None);
     };
-    match asked.get_values_from() {
-        Some(words) => Ok(Some(Items::copy_of_texts(alloc, words)?)),
-        None => Ok(None),
+    let mut words = Items::copy_of_texts(alloc, own)?;
+    push_words(alloc, &mut words, passed_words(asked, typed))?;
+    Ok(if_runnable(words))
+}
+
+// Returns the typed words that the argument's command gets.
+fn passed_words<'w>(asked: &Arg, typed: &'w [String]) -> &'w [String]
+    ensures { map string_bytes result.now
+        ≡ passed_words asked.now.values_words (map string_bytes typed.now) }
+{
+    if asked.is_values_words_set() {
+        typed
+    } else {
+        &[]
+    }
+}
+
+fn push_words(alloc: Global, words: &mut Items<Text>, more: &[String]) -> Result<(), AllocError>
+    ensures { OnOk result (words.new ≡ words.old ++ map string_bytes more.now) }
+{
+    for word in more {
+        words.push(Text::copy_of(alloc, word.as_str())?)?;
+    }
+    Ok(())
+}
+
+// Returns the words if a shell can run them.
+fn if_runnable(words: Items<Text>) -> Option<Items<Text>>
+    ensures { result ≡ if_runnable words }
+{
+    if is_runnable(words.as_slice()) {
+        Some(words)
+    } else {
+        None
     }
 }
 
@@ -117,38 +182,68 @@ fn asked_at_last(
     asked_argument(alloc, command, words, words.len() - 1)
 }
 
-/// Returns what answers a request that asks for the values of `asked`.
+/// Returns what answers a request that asks for the values of `asked`, after these typed words.
 ///
 /// The command of an argument is only run if its tree is `trusted` and the user has not turned
 /// commands off.
-pub(crate) fn next_step(env: &EnvValues, trusted: bool, asked: Option<Arg>) -> AnswerStep
-    ensures { result ≡ next_step env.now trusted asked }
+///
+/// # Errors
+///
+/// `AllocError` if an allocation fails.
+pub(crate) fn next_step(
+    alloc: Global,
+    env: &EnvValues,
+    trusted: bool,
+    asked: Option<Arg>,
+    typed: &[String],
+) -> Result<AnswerStep, AllocError>
+    ensures { IfOk result
+        (λ step. step ≡ next_step env.now trusted asked (map string_bytes typed.now)) }
 {
     let Some(asked) = asked else {
-        return AnswerStep::Reply;
+        return Ok(AnswerStep::Reply);
     };
     if asked.get_values_from().is_none() {
-        return AnswerStep::ReadLines(asked);
+        return Ok(AnswerStep::ReadLines(asked));
     }
     if may_run(env, trusted) {
-        step_of_mode(env.get(VALUES), asked)
+        step_of_mode(alloc, env.get(VALUES), asked, typed)
     } else {
         drop(asked);
-        AnswerStep::Reply
+        Ok(AnswerStep::Reply)
     }
 }
 
 // Returns the step for an argument with a command that may run.
-fn step_of_mode(mode: Option<&str>, asked: Arg) -> AnswerStep
-    ensures { result ≡ step_of_mode (option_copied mode.entry) asked }
+fn step_of_mode(
+    alloc: Global,
+    mode: Option<&str>,
+    asked: Arg,
+    typed: &[String],
+) -> Result<AnswerStep, AllocError>
+    ensures { IfOk result (λ step. step
+        ≡ step_of_mode (option_copied mode.entry) asked (map string_bytes typed.now)) }
 {
     match mode {
-        Some("ask") => AnswerStep::Run(asked),
-        Some("stdin") => AnswerStep::ReadLines(asked),
+        Some("ask") => {
+            let words = run_words(alloc, &asked, typed);
+            drop(asked);
+            Ok(step_of_words(words?))
+        }
+        Some("stdin") => Ok(AnswerStep::ReadLines(asked)),
         _ => {
             drop(asked);
-            AnswerStep::Reply
+            Ok(AnswerStep::Reply)
         }
+    }
+}
+
+fn step_of_words(words: Option<Items<Text>>) -> AnswerStep
+    ensures { result ≡ step_of_words words }
+{
+    match words {
+        Some(words) => AnswerStep::Run(words),
+        None => AnswerStep::Reply,
     }
 }
 
@@ -164,19 +259,5 @@ fn turns_off(value: Option<&str>) -> bool
     match value {
         Some(value) => value == "0",
         None => false,
-    }
-}
-
-/// Returns copies of the words of the argument's command; none if it has no command.
-///
-/// # Errors
-///
-/// `AllocError` if an allocation fails.
-pub(crate) fn command_words(alloc: Global, asked: &Arg) -> Result<Items<Text>, AllocError>
-    ensures { IfOk result (λ words. words ≡ command_words asked.now) }
-{
-    match asked.get_values_from() {
-        Some(words) => Items::copy_of_texts(alloc, words),
-        None => Ok(Items::new(alloc)),
     }
 }

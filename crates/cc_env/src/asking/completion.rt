@@ -8,28 +8,28 @@ ghost use Rattle.cc_engine.specs.Asked.{Asks};
 ghost use Rattle.cc_engine.specs.Completion.{Completes, Refuses, is_in_range};
 ghost use Rattle.cc_engine.specs.Sources.{returned_of};
 ghost use Rattle.cc_engine.specs.Finished.{Differ};
-ghost use Rattle.cc_replies.specs.GivenLines.{candidates_of_lines};
 ghost use Rattle.cc_env.specs.Completion.{CompletesWith, LeavesListed, RefusesWith};
-ghost use Rattle.cc_env.specs.WithLines.{lines_list, with_lines};
+ghost use Rattle.cc_env.specs.ValuesRead.{read_values};
+ghost use Rattle.cc_env.specs.WithLines.{with_lines};
 
-use crate::asking::with_lines::{WithLines, lines_list};
+use crate::asking::values_read::{ValuesRead, read_values};
+use crate::asking::with_lines::WithLines;
 use cc_arg::Arg;
 use cc_base::{CandidateSources, Error};
 use cc_candidates::{CompletionCandidate, Folder};
 use cc_command::{Command, list_values};
 use cc_engine::{Sources, asked_argument, complete_from};
-use cc_replies::GivenLines;
 use std::alloc::{AllocError, Global};
 
 /// Returns the candidates for the word at `index`, counted from 0, of a command line of `command`,
 /// as `complete_from` does.
 ///
 /// If the word asks for the values of an argument that come from a command, a file or the system,
-/// `lines` has these values, as `GivenLines::new` reads them. Each argument with values from there
-/// then has a list with the candidates in the lines, and keeps it, also after `Memory`. So take
-/// another command for the next word. The number of this list is `usize::MAX`; a list of that
-/// number in `sources` is not used then. If the word asks for no such argument, the lines do not
-/// count.
+/// `lines` has these values. `GivenLines::new` reads them, or if the program prints those of Cobra,
+/// `CobraReply::new`. Each argument with values from there then has a list with the candidates in
+/// the lines, or the hint of the paths to offer, and keeps it, also after `Memory`. So take another
+/// command for the next word. The number of this list is `usize::MAX`; a list of that number in
+/// `sources` is not used then. If the word asks for no such argument, the lines do not count.
 ///
 /// # Errors
 ///
@@ -50,20 +50,20 @@ where
         command.old (map string_bytes words.items) index found.items) }
     ensures differ { IfOk result (λ found. Differ found.items) }
     ensures built { OnOk result
-        (LeavesListed command.old command.new (map string_bytes words.items) index) }
+        (LeavesListed lines.now command.old command.new (map string_bytes words.items) index) }
     ensures in_range { OnOk result
         (is_in_range command.old.node (length words.items) index ≡ true) }
     ensures errors { IfErr result
-        (RefusesWith command.old command.new (map string_bytes words.items) index) }
+        (RefusesWith lines.now command.old command.new (map string_bytes words.items) index) }
 {
     let Some(asked) = asked_of(alloc, command, words.as_slice(), index)? else {
         return complete_from(alloc, command, words, index, sources);
     };
     match list_lines(alloc, command, &asked, lines) {
-        Ok(given) => {
+        Ok(read) => {
             // One call here, instead of a drop of each field at each return.
             drop(asked);
-            complete_over(alloc, command, words, index, &given, sources)
+            complete_over(alloc, command, words, index, &read, sources)
         }
         Err(_) => {
             drop(asked);
@@ -91,31 +91,31 @@ fn asked_of(
     asked_argument(alloc, command, words, index)
 }
 
-// Returns the candidates in the lines, and gives their list to each argument whose values come from
-// where those of `asked` come from.
+// Returns what the lines say, and gives the values to each argument whose values come from where
+// those of `asked` come from.
 fn list_lines(
     alloc: Global,
     command: &mut Command,
     asked: &Arg,
     lines: &[u8],
-) -> Result<GivenLines, AllocError>
-    ensures given { IfOk result (λ given.
-        given.candidates ≡ candidates_of_lines asked.now.values_split lines.now) }
-    ensures listed { OnOk result (command.new ≡ listed_tree asked.now lines_list command.old) }
+) -> Result<ValuesRead, AllocError>
+    ensures read { IfOk result (λ read. read ≡ read_values asked.now lines.now) }
+    ensures listed { OnOk result (command.new
+        ≡ listed_tree asked.now (read_values asked.now lines.now).values command.old) }
     ensures untouched { IfErr result (λ _. command.new ≡ command.old) }
 {
-    let given = GivenLines::new(alloc, lines, asked.get_values_split())?;
-    list_values(command, asked, lines_list());
-    Ok(given)
+    let read = read_values(alloc, asked, lines)?;
+    list_values(command, asked, read.values);
+    Ok(read)
 }
 
-// Returns the candidates, with those in the given lines as one list more.
+// Returns the candidates, with those in the lines as one list more.
 fn complete_over<D, C>(
     alloc: Global,
     command: &mut Command,
     words: Vec<String>,
     index: usize,
-    given: &GivenLines,
+    read: &ValuesRead,
     sources: &Sources<'_, D, C>,
 ) -> Result<Vec<CompletionCandidate>, Error>
 where
@@ -123,7 +123,7 @@ where
     C: CandidateSources<Candidate = CompletionCandidate>,
     ensures candidates { IfOk result (λ found. Completes (with_lines
         (returned_of C.CandidateSources (D.facts sources.now.folder.now) sources.now)
-        given.now.candidates) command.new (map string_bytes words.items) index found.items) }
+        read.now.lines.candidates) command.new (map string_bytes words.items) index found.items) }
     ensures differ { IfOk result (λ found. Differ found.items) }
     ensures built { OnOk result (command.new ≡ built_tree command.old) }
     ensures in_range { OnOk result
@@ -132,7 +132,7 @@ where
 {
     let completers = WithLines {
         sources: sources.completers,
-        lines: given,
+        lines: &read.lines,
     };
     let sources = Sources {
         current_dir: sources.current_dir,

@@ -1,10 +1,9 @@
 //! Sources of the lines that are the values of an argument.
 
-ghost use Rattle.std.specs.Prelude.{◌≡◌, ℕ, IfErr, IfOk, List};
+ghost use Rattle.std.specs.Prelude.{◌≡◌, ℕ, IfOk, List};
 ghost use Rattle.cc_arg.specs.declared.parts.ArgParts.{ArgParts as Arg};
 
 use cc_arg::Arg;
-use cc_base::Error;
 use std::alloc::{AllocError, Global};
 
 /// Reads the lines that are the values of an argument.
@@ -41,20 +40,4 @@ impl LineSource for PassedLines<'_> {
         }
         Ok(lines)
     }
-}
-
-/// Returns the lines that are the values of `asked`.
-///
-/// # Errors
-///
-/// `Memory` if an allocation fails.
-pub(crate) fn lines_of<S: LineSource>(
-    alloc: Global,
-    source: &S,
-    asked: &Arg,
-) -> Result<Vec<u8>, Error>
-    ensures ok { IfOk result (λ lines. S.gives source.now asked.now lines.items) }
-    ensures memory { IfErr result (λ error. error ≡ Error.Memory) }
-{
-    Ok(source.lines(alloc, asked)?)
 }

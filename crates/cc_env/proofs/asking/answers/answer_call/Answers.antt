@@ -1,11 +1,14 @@
-use Rattle.cc_env.proofs.AnswerLemmas.{answered_built, asked_failed}
+use Rattle.cc_env.proofs.AnswerLemmas.{answered_built, asked_failed, out_of_memory_at}
 use Rattle.cc_env.proofs.asking.answers.answer_call.Goals as goal
 
 pub returns-in-Err : goal.returns-in-Err
-returns-in-Err g c = asked_failed _ _ _ _ _ c.words_after.ensures c.in-Err.ensures.errors
+returns-in-Err g c = asked_failed _ _ _ _ _ c.words_after-words.ensures c.in-Err.ensures.errors
 
-pub returns-in-Ok : goal.returns-in-Ok
-returns-in-Ok g c =
-    answered_built _ _ _ _ _ _ _ _ c.words_after.ensures c.in-Ok.ensures.asks
-    c.in-Ok.ensures.built c.in-Ok.ensures.whole c.next_step-step.ensures
-    c.answer_step-answer.ensures
+pub returns-in-Ok-in-Err : goal.returns-in-Ok-in-Err
+returns-in-Ok-in-Err g c = out_of_memory_at _ _ _
+
+pub returns-in-Ok-in-Ok : goal.returns-in-Ok-in-Ok
+returns-in-Ok-in-Ok g c =
+    answered_built _ _ _ _ _ _ _ _ _ c.words_after-words.ensures c.in-Ok.ensures.asks
+    c.in-Ok.ensures.built c.in-Ok.ensures.whole c.behind_name-typed.ensures
+    c.in-Ok-in-Ok.ensures c.answer_step.ensures

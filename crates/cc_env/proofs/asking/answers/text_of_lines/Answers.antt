@@ -6,5 +6,4 @@ returns-in-Err g c = rw c.in-Err.ensures.memory (out_of_memory _)
 
 pub returns-in-Ok : goal.returns-in-Ok
 returns-in-Ok g c =
-    over_lines c.args.asked.now c.as_slice.result.now _
-    (rw c.as_slice.ensures.value c.in-Ok.ensures.ok) c.text_over.ensures
+    over_lines c.args.asked.now c.in-Ok.read _ c.in-Ok.ensures.ok c.text_over-text.ensures

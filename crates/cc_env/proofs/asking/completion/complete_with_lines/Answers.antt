@@ -1,4 +1,3 @@
-use Rattle.std.proofs.Common.{refl}
 use Rattle.cc_env.proofs.CompletionLemmas.{completes_alone, completes_over, leaves_alone, leaves_listed, ranges, refuses_over}
 use Rattle.cc_env.proofs.asking.completion.complete_with_lines.Goals as goal
 
@@ -15,23 +14,23 @@ returns-in-Ok-clause-candidates g c =
     completes_over c.args.words.items _ c.as_slice.ensures.value c.args.index c.args.command.now
     c.asked_of.new.command c.in_ok-asked.ensures.built c.in_ok-asked.ensures.whole
     (λ found. found.items) _ c.args.lines.now c.list_lines.new.command
-    c.complete_over.new.command _ c.in-Some.asked _ _ _ c.complete_over.result c.in-Some.is
-    c.in_ok-asked.ensures.asks refl c.in-Ok.ensures.given refl c.in-Ok.ensures.listed
+    c.complete_over.new.command _ c.in-Some.asked c.in-Ok.read c.complete_over.result c.in-Some.is
+    c.in_ok-asked.ensures.asks c.in-Ok.ensures.read c.in-Ok.ensures.listed
     c.complete_over.ensures.built c.complete_over.ensures.candidates
 
 pub returns-in_default-clause-built : goal.returns-in_default-clause-built
 returns-in_default-clause-built g c =
     leaves_alone c.args.words.items _ c.as_slice.ensures.value c.args.index c.args.command.now
     c.asked_of.new.command c.in_ok-asked.ensures.built c.in_ok-asked.ensures.whole
-    c.complete_from.new.command _ c.complete_from.result c.in_default.is c.in_ok-asked.ensures.asks
+    c.args.lines.now c.complete_from.new.command _ c.complete_from.result c.in_default.is c.in_ok-asked.ensures.asks
     c.complete_from.ensures.built
 
 pub returns-in-Ok-clause-built : goal.returns-in-Ok-clause-built
 returns-in-Ok-clause-built g c =
     leaves_listed c.args.words.items _ c.as_slice.ensures.value c.args.index c.args.command.now
     c.asked_of.new.command c.in_ok-asked.ensures.built c.in_ok-asked.ensures.whole
-    c.list_lines.new.command c.complete_over.new.command _ c.in-Some.asked _ c.complete_over.result
-    c.in-Some.is c.in_ok-asked.ensures.asks refl c.in-Ok.ensures.listed
+    c.args.lines.now c.list_lines.new.command c.complete_over.new.command _ c.in-Some.asked
+    c.complete_over.result c.in-Some.is c.in_ok-asked.ensures.asks c.in-Ok.ensures.listed
     c.complete_over.ensures.built
 
 pub returns-in-Ok-clause-in_range : goal.returns-in-Ok-clause-in_range
@@ -44,6 +43,6 @@ pub returns-in-Ok-clause-errors : goal.returns-in-Ok-clause-errors
 returns-in-Ok-clause-errors g c =
     refuses_over c.args.words.items _ c.as_slice.ensures.value c.args.index c.args.command.now
     c.asked_of.new.command c.in_ok-asked.ensures.built c.in_ok-asked.ensures.whole
-    c.list_lines.new.command c.complete_over.new.command _ c.in-Some.asked _ c.complete_over.result
-    c.in-Some.is c.in_ok-asked.ensures.asks c.in_ok-asked.ensures.in_range refl
+    c.args.lines.now c.list_lines.new.command c.complete_over.new.command _ c.in-Some.asked
+    c.complete_over.result c.in-Some.is c.in_ok-asked.ensures.asks c.in_ok-asked.ensures.in_range
     c.in-Ok.ensures.listed c.complete_over.ensures.errors

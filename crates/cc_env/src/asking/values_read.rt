@@ -1,0 +1,101 @@
+//! Reads the lines of a source in the form of an argument.
+
+ghost use Rattle.std.specs.Prelude.{◌≡◌, IfErr, IfOk};
+ghost use Rattle.std.specs.Option.{option_copied};
+ghost use Rattle.cc_env.specs.ValuesRead.{AreRead, directed_values, hint_of, plain_values};
+ghost use Rattle.cc_env.specs.ValuesRead.{read_values, values_of};
+
+use crate::asking::line_source::LineSource;
+use crate::asking::with_lines::lines_list;
+use cc_arg::{Arg, SourceValues, ValueHint, ValuesProtocol};
+use cc_base::Error;
+use cc_replies::{CobraReply, GivenLines, PathKind};
+use std::alloc::{AllocError, Global};
+
+/// What the lines of a source say of its values.
+#[derive(Drop)]
+pub struct ValuesRead {
+    /// The candidates in the lines.
+    pub lines: GivenLines,
+    /// The values: the list of the lines, or paths.
+    pub values: SourceValues,
+    /// True if no space is to follow a value.
+    pub no_space: bool,
+}
+
+/// Reads the lines that `source` has for the values of `asked`.
+///
+/// # Errors
+///
+/// `Memory` if an allocation fails.
+pub(crate) fn read_from<S: LineSource>(
+    alloc: Global,
+    source: &S,
+    asked: &Arg,
+) -> Result<ValuesRead, Error>
+    ensures ok { IfOk result (λ read. AreRead (S.gives source.now) asked.now read) }
+    ensures memory { IfErr result (λ error. error ≡ Error.Memory) }
+{
+    let lines = source.lines(alloc, asked)?;
+    Ok(read_values(alloc, asked, lines.as_slice())?)
+}
+
+/// Reads lines that are the values of `asked`, in the form that its program prints.
+///
+/// # Errors
+///
+/// `AllocError` if an allocation fails.
+pub(crate) fn read_values(
+    alloc: Global,
+    asked: &Arg,
+    lines: &[u8],
+) -> Result<ValuesRead, AllocError>
+    ensures { IfOk result (λ read. read ≡ read_values asked.now lines.now) }
+{
+    match asked.get_values_protocol() {
+        ValuesProtocol::Lines => plain_values(alloc, lines, asked.get_values_split()),
+        ValuesProtocol::Cobra => Ok(directed_values(CobraReply::new(alloc, lines)?)),
+    }
+}
+
+// Reads lines each of which is a value.
+fn plain_values(alloc: Global, lines: &[u8], split: Option<&str>) -> Result<ValuesRead, AllocError>
+    ensures { IfOk result
+        (λ read. read ≡ plain_values (option_copied split.entry) lines.now) }
+{
+    Ok(ValuesRead {
+        lines: GivenLines::new(alloc, lines, split)?,
+        values: SourceValues::Listed(lines_list()),
+        no_space: false,
+    })
+}
+
+// Returns what a program with Cobra replied.
+fn directed_values(reply: CobraReply) -> ValuesRead
+    ensures { result ≡ directed_values reply }
+{
+    ValuesRead {
+        lines: reply.values,
+        values: values_of(reply.paths),
+        no_space: reply.no_space,
+    }
+}
+
+fn values_of(paths: Option<PathKind>) -> SourceValues
+    ensures { result ≡ values_of paths }
+{
+    match paths {
+        Some(kind) => SourceValues::Paths(hint_of(kind)),
+        None => SourceValues::Listed(lines_list()),
+    }
+}
+
+fn hint_of(kind: PathKind) -> ValueHint
+    ensures { result ≡ hint_of kind }
+{
+    match kind {
+        PathKind::Any => ValueHint::AnyPath,
+        PathKind::Files => ValueHint::FilePath,
+        PathKind::Directories => ValueHint::DirPath,
+    }
+}
