@@ -1,5 +1,5 @@
 -- Lists with the candidates in lines, and lines that a caller passed, for some arguments.
-use Rattle.std.proofs.Common.{◌≡◌, true, false, List, [], ◌∷◌, Some, codes, refl}
+use Rattle.std.proofs.Common.{◌≡◌, true, false, List, [], ◌∷◌, None, Some, codes, refl}
 use Rattle.cc_arg.specs.Arguments.{new_arg}
 use Rattle.cc_arg.specs.declared.parts.ArgParts.{ArgParts as Arg}
 use Rattle.cc_arg.specs.declared.value_hint.ValueHint.TheVariants.{AnyPath, DirPath, FilePath}
@@ -7,7 +7,9 @@ use Rattle.cc_arg.specs.declared.value_source.SourceValues.TheVariants.{Listed, 
 use Rattle.cc_arg.specs.declared.values_protocol.ValuesProtocol.TheVariants.{Cobra}
 use Rattle.cc_candidates.specs.Candidate.{new_candidate}
 use Rattle.cc_candidates.specs.declared.candidate.CompletionCandidate.{CompletionCandidate}
-use Rattle.cc_env.specs.ValuesRead.{read_values}
+use Rattle.cc_env.specs.Answers.{text_by}
+use Rattle.cc_env.specs.ValuesRead.{is_one, read_values}
+use Rattle.cc_env.specs.WrittenAnswers.{status_of}
 use Rattle.cc_env.specs.WithLines.{lines_list, lists_with, passed_lines}
 use Rattle.cc_env.specs.declared.asking.values_read.ValuesRead.{ValuesRead}
 
@@ -86,3 +88,17 @@ directories_row = refl
 -- without a directive, the lines are as any others
 undirected_row : read_values cobra_pod (codes "main\n") ≡ only_main
 undirected_row = refl
+
+-- ---- no space after a value
+
+registration_row : is_one (Some (codes "1")) ≡ true
+registration_row = refl
+
+other_registration_row : is_one (Some (codes "0")) ≡ false
+other_registration_row = refl
+
+older_registration_row : is_one None ≡ false
+older_registration_row = refl
+
+status_row : status_of (text_by true (codes "x")) ≡ 4
+status_row = refl

@@ -1,5 +1,5 @@
 -- The answer to a request: a text, or the words of a command for the shell to run.
-use Rattle.std.specs.Prelude.{◌≡◌, ◌-◌, ℕ, Bool, List, length, map, Option, Result, Ok, Err}
+use Rattle.std.specs.Prelude.{◌≡◌, ◌-◌, ℕ, Bool, true, false, List, length, map, Option, Result, Ok, Err}
 use Rattle.std.specs.Option.{option_copied}
 use Rattle.std.specs.String.{string_bytes}
 use Rattle.cc_arg.specs.declared.parts.ArgParts.{ArgParts as Arg}
@@ -22,7 +22,7 @@ use Rattle.cc_engine.specs.Values.{MayReturn}
 use Rattle.cc_candidates.specs.Folders.{FolderFacts}
 use Rattle.cc_replies.specs.declared.environment.EnvValues.{EnvValues}
 use Rattle.cc_env.specs.Asking.{AsksOver, CannotAsk, next_step, typed_words, values_mode}
-use Rattle.cc_env.specs.ValuesRead.{AreRead}
+use Rattle.cc_env.specs.ValuesRead.{AreRead, omits_space}
 use Rattle.cc_env.specs.WithLines.{with_lines}
 use Rattle.cc_env.specs.declared.asking.answers.Answer.{Answer}
 use Rattle.cc_env.specs.declared.asking.answers.Answer.TheVariants as answer_as
@@ -58,23 +58,30 @@ parts_of members facts call sources = record {
 
 -- ---- the answer
 
--- the content of an answer to the shell: a text, or the words of a command to run
+-- the content of an answer to the shell: a text, a reply after whose values no space follows, or the
+-- words of a command to run
 pub data Told : Type 0 where
   text : List ℕ → Told
+  text_without_space : List ℕ → Told
   words : List (List ℕ) → Told
 
 abbrev pub seen : Answer → Told
 seen (answer_as.Text made) = text (collected_bytes made)
+seen (answer_as.TextWithoutSpace made) = text_without_space (collected_bytes made)
 seen (answer_as.Run command) = words command
 
 abbrev pub seen_answer : Result Answer Error → Result Told Error
 seen_answer (Ok answer) = Ok (seen answer)
 seen_answer (Err error) = Err error
 
--- a text that was made, as an answer
-abbrev pub told : Result (List ℕ) Error → Result Told Error
-told (Ok made) = Ok (text made)
-told (Err error) = Err error
+-- a text that was made, as an answer: a space follows a value unless the test holds
+abbrev pub text_by : Bool → List ℕ → Told
+text_by true made = text_without_space made
+text_by false made = text made
+
+abbrev pub told_by : Bool → Result (List ℕ) Error → Result Told Error
+told_by no_space (Ok made) = Ok (text_by no_space made)
+told_by no_space (Err error) = Err error
 
 -- the text over a command, as if no source outside the tree had values
 abbrev pub MakesAlone : Parts → Tree → Result (List ℕ) Error → Type 0
@@ -95,13 +102,14 @@ pub data AnswersStep (parts : Parts) (Gives : Arg → List ℕ → Type 0) (tree
     : AnswerStep → Result Told Error → Type 0 where
   -- no lines are asked for, or none can be had
   replied : (result : Result (List ℕ) Error) → MakesAlone parts tree result
-      → AnswersStep parts Gives tree Reply (told result)
+      → AnswersStep parts Gives tree Reply (told_by false result)
   -- the shell is to run these words
   runs : (command : List (List ℕ)) → AnswersStep parts Gives tree (Run command) (Ok (words command))
   -- the reply over lines
   over_lines : (argument : Arg) (read : ValuesRead) (result : Result (List ℕ) Error)
       → AreRead Gives argument read → MakesOver parts argument read tree result
-      → AnswersStep parts Gives tree (ReadLines argument) (told result)
+      → AnswersStep parts Gives tree (ReadLines argument)
+      (told_by (omits_space parts.env read) result)
   -- out of memory
   out_of_memory : (step : AnswerStep) → AnswersStep parts Gives tree step (Err Memory)
 

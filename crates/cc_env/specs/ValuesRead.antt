@@ -1,5 +1,5 @@
 -- What the lines of a source say of its values.
-use Rattle.std.specs.Prelude.{◌≡◌, ℕ, false, List, Option, None, Some}
+use Rattle.std.specs.Prelude.{◌≡◌, ◌&&◌, ℕ, Bool, false, List, Option, None, Some, bytes_eq, codes}
 use Rattle.cc_arg.specs.declared.parts.ArgParts.{ArgParts as Arg}
 use Rattle.cc_arg.specs.declared.value_hint.ValueHint.{ValueHint}
 use Rattle.cc_arg.specs.declared.value_hint.ValueHint.TheVariants.{AnyPath, DirPath, FilePath}
@@ -8,10 +8,12 @@ use Rattle.cc_arg.specs.declared.value_source.SourceValues.TheVariants.{Listed, 
 use Rattle.cc_arg.specs.declared.values_protocol.ValuesProtocol.{ValuesProtocol}
 use Rattle.cc_arg.specs.declared.values_protocol.ValuesProtocol.TheVariants.{Cobra, Lines}
 use Rattle.cc_replies.specs.CobraReply.{cobra_reply}
+use Rattle.cc_replies.specs.Environment.{value_of}
 use Rattle.cc_replies.specs.GivenLines.{candidates_of_lines}
 use Rattle.cc_replies.specs.declared.cobra_reply.CobraReply.{CobraReply}
 use Rattle.cc_replies.specs.declared.cobra_reply.PathKind.{PathKind}
 use Rattle.cc_replies.specs.declared.cobra_reply.PathKind.TheVariants.{Any, Directories, Files}
+use Rattle.cc_replies.specs.declared.environment.EnvValues.{EnvValues}
 use Rattle.cc_env.specs.WithLines.{lines_list}
 use Rattle.cc_env.specs.declared.asking.values_read.ValuesRead.{ValuesRead}
 
@@ -56,3 +58,13 @@ pub record AreRead (Gives : Arg → List ℕ → Type 0) (asked : Arg) (read : V
   pub given : List ℕ
   pub gives : Gives asked given
   pub is : read ≡ read_values asked given
+
+-- ---- the space after a value
+
+abbrev pub is_one : Option (List ℕ) → Bool
+is_one None = false
+is_one (Some value) = bytes_eq value (codes "1")
+
+-- no space is to follow a value, and the registration can do so
+abbrev pub omits_space : EnvValues → ValuesRead → Bool
+omits_space env read = read.no_space && is_one (value_of (codes "_COMPLGEN_SPACE") env)

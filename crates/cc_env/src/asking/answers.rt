@@ -5,12 +5,12 @@ ghost use Rattle.cc_arg.specs.declared.parts.ArgParts.{ArgParts as Arg};
 ghost use Rattle.cc_base.specs.declared.sources.CandidateSources.{Ghosts};
 ghost use Rattle.cc_env.specs.Steps.{made_bytes};
 ghost use Rattle.cc_env.specs.Answers.{Answers, AnswersStep, MakesOver, parts_of};
-ghost use Rattle.cc_env.specs.Answers.{seen_answer, told};
+ghost use Rattle.cc_env.specs.Answers.{seen_answer, told_by};
 
 use crate::arguments::words_after;
 use crate::asking::asked::{AnswerStep, asked_by, behind_name, next_step};
 use crate::asking::line_source::LineSource;
-use crate::asking::values_read::{ValuesRead, read_from};
+use crate::asking::values_read::{ValuesRead, omits_space, read_from};
 use crate::asking::with_lines::WithLines;
 use crate::safe_shell::SafeShell;
 use crate::shell_program::ShellProgram;
@@ -40,6 +40,8 @@ pub struct Call<'r> {
 pub enum Answer {
     /// A reply, or a registration.
     Text(Collected),
+    /// A reply after whose values no space follows.
+    TextWithoutSpace(Collected),
     /// The words of a command for the shell to run. What they print are the values of an argument.
     Run(Items<Text>),
 }
@@ -55,6 +57,9 @@ pub enum Answer {
 ///   the output of the command. Otherwise the argument has no values. It has none either if the
 ///   variable `COMPLGEN_COMMANDS` is `0`, or if `call.trusted` is false.
 /// - If they come from a file or from the system, `lines` has them.
+///
+/// The answer over lines is `TextWithoutSpace` if the lines say that no space follows a value, and
+/// `_COMPLGEN_SPACE` is `1`.
 ///
 /// All other candidates come from `command` and `sources`.
 ///
@@ -113,55 +118,57 @@ where
 {
     match step {
         AnswerStep::Reply => {
-            text_answer(
-                call.program
-                    .text(alloc, command, call.args, call.env, sources),
-            )
+            let text = call
+                .program
+                .text(alloc, command, call.args, call.env, sources);
+            text_answer(text, false)
         }
         AnswerStep::Run(words) => {
             drop(command);
             Ok(Answer::Run(words))
         }
         AnswerStep::ReadLines(asked) => {
-            let text = text_of_lines(alloc, call, command, sources, lines, &asked);
+            let answer = answer_over_lines(alloc, call, command, sources, lines, &asked);
             drop(asked);
-            text_answer(text)
+            answer
         }
     }
 }
 
 // Returns a text that was made, as an answer.
-fn text_answer(text: Result<Collected, Error>) -> Result<Answer, Error>
-    ensures { seen_answer result ≡ told (made_bytes text) }
+fn text_answer(text: Result<Collected, Error>, no_space: bool) -> Result<Answer, Error>
+    ensures { seen_answer result ≡ told_by no_space (made_bytes text) }
 {
     match text {
+        Ok(text) if no_space => Ok(Answer::TextWithoutSpace(text)),
         Ok(text) => Ok(Answer::Text(text)),
         Err(error) => Err(error),
     }
 }
 
-// Returns the text over a command and the lines that are the values of `asked`.
-fn text_of_lines<D, C, S>(
+// Returns the answer over a command and the lines that are the values of `asked`.
+fn answer_over_lines<D, C, S>(
     alloc: Global,
     call: &Call<'_>,
     command: Command,
     sources: &Sources<'_, D, C>,
     lines: &S,
     asked: &Arg,
-) -> Result<Collected, Error>
+) -> Result<Answer, Error>
 where
     D: Folder,
     C: CandidateSources<Candidate = CompletionCandidate>,
     S: LineSource,
     ensures { AnswersStep (parts_of C.CandidateSources (D.facts sources.now.folder.now) call.now
         sources.now) (S.gives lines.now) command (AnswerStep.ReadLines asked.now)
-        (told (made_bytes result)) }
+        (seen_answer result) }
 {
     match read_from(alloc, lines, asked) {
         Ok(read) => {
             let text = text_over(alloc, call, command, sources, asked, &read);
+            let no_space = omits_space(call.env, &read);
             drop(read);
-            text
+            text_answer(text, no_space)
         }
         Err(error) => {
             drop(command);

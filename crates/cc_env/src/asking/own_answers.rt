@@ -25,9 +25,9 @@ pub struct Called<'r> {
 }
 
 /// Writes the answer of `answer_own` to `out`, and returns the exit status: 0 after a reply or a
-/// registration, and 3 after the words of a command for the shell to run. Returns `None` if the
-/// environment requests nothing, and writes nothing then. The whole answer is made before any of it
-/// is written.
+/// registration, 3 after the words of a command for the shell to run, and 4 after a reply after
+/// whose values no space follows. Returns `None` if the environment requests nothing, and writes
+/// nothing then. The whole answer is made before any of it is written.
 ///
 /// If a status is returned, the program ends with it, and writes nothing else to `out`.
 ///

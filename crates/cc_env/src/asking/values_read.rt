@@ -3,14 +3,17 @@
 ghost use Rattle.std.specs.Prelude.{◌≡◌, IfErr, IfOk};
 ghost use Rattle.std.specs.Option.{option_copied};
 ghost use Rattle.cc_env.specs.ValuesRead.{AreRead, directed_values, hint_of, plain_values};
-ghost use Rattle.cc_env.specs.ValuesRead.{read_values, values_of};
+ghost use Rattle.cc_env.specs.ValuesRead.{is_one, omits_space, read_values, values_of};
 
 use crate::asking::line_source::LineSource;
 use crate::asking::with_lines::lines_list;
 use cc_arg::{Arg, SourceValues, ValueHint, ValuesProtocol};
 use cc_base::Error;
-use cc_replies::{CobraReply, GivenLines, PathKind};
+use cc_replies::{CobraReply, EnvValues, GivenLines, PathKind};
 use std::alloc::{AllocError, Global};
+
+// The variable that a safe registration sets to `1` if it can leave out the space after a value.
+const SPACE: &str = "_COMPLGEN_SPACE";
 
 /// What the lines of a source say of its values.
 #[derive(Drop)]
@@ -97,5 +100,21 @@ fn hint_of(kind: PathKind) -> ValueHint
         PathKind::Any => ValueHint::AnyPath,
         PathKind::Files => ValueHint::FilePath,
         PathKind::Directories => ValueHint::DirPath,
+    }
+}
+
+/// Returns whether no space is to follow a value, and the registration can leave it out.
+pub(crate) fn omits_space(env: &EnvValues, read: &ValuesRead) -> bool
+    ensures { result ≡ omits_space env.now read.now }
+{
+    read.no_space && is_one(env.get(SPACE))
+}
+
+fn is_one(value: Option<&str>) -> bool
+    ensures { result ≡ is_one (option_copied value.entry) }
+{
+    match value {
+        Some(value) => value == "1",
+        None => false,
     }
 }

@@ -11,13 +11,14 @@ use cc_base::{Error, Sink, Text, put_all, put_piece};
 use std::io::ErrorKind;
 
 impl Answer {
-    /// Returns the exit status after the answer: 0 after a text, and 3 after the words of a command
-    /// for the shell to run.
+    /// Returns the exit status after the answer: 0 after a text, 3 after the words of a command for
+    /// the shell to run, and 4 after a reply after whose values no space follows.
     pub fn status(&self) -> u8
         ensures { result ≡ status_of (seen self.now) }
     {
         match self {
             Answer::Text(_) => 0,
+            Answer::TextWithoutSpace(_) => 4,
             Answer::Run(_) => 3,
         }
     }
@@ -35,6 +36,7 @@ pub fn write_answer<W: Sink>(answer: &Answer, out: &mut W) -> Result<(), Error>
 {
     match answer {
         Answer::Text(text) => put_all(out, text.as_slice()),
+        Answer::TextWithoutSpace(text) => put_all(out, text.as_slice()),
         Answer::Run(words) => write_run_words(words.as_slice(), out),
     }
 }
