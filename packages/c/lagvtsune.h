@@ -84,7 +84,8 @@ enum {
     LAGVTSUNE_NOT_UTF8 = 2,      /* an argument is not UTF-8; there is no text, and the result is 0 */
     LAGVTSUNE_NOT_REQUESTED = 3, /* lagvtsune_live: no shell requests anything; the result is 0 */
     LAGVTSUNE_WANTS_FOLDER = 4,  /* lagvtsune_live: the text is the path of a directory; its names are needed */
-    LAGVTSUNE_RUN = 5            /* lagvtsune_live: the text is the words of a command; the shell runs it */
+    LAGVTSUNE_RUN = 5,           /* lagvtsune_live: the text is the words of a command; the shell runs it */
+    LAGVTSUNE_MADE_WITHOUT_SPACE = 6 /* lagvtsune_live: the text is a reply; no space follows its values */
 };
 
 /*
@@ -154,9 +155,9 @@ size_t lagvtsune_registration(bool safe, const uint8_t *shell, size_t shell_leng
  * starting with its name. `variables` are names and values, alternating:
  *
  * - `COMPLETE` makes the request, and its value names the shell.
- * - `_COMPLGEN_VALUES`, `_COMPLGEN_ASCII`, `_COMPLGEN_KEPT`, `_COMPLGEN_QUOTE` and
- *   `_COMPLGEN_WIDTH` have the values that the registration sets. A registration of the original's
- *   form sets `_CLAP_COMPLETE_INDEX` and `_CLAP_IFS` instead.
+ * - `_COMPLGEN_VALUES`, `_COMPLGEN_ASCII`, `_COMPLGEN_KEPT`, `_COMPLGEN_QUOTE`, `_COMPLGEN_WIDTH`
+ *   and `_COMPLGEN_SPACE` have the values that the registration sets. A registration of the
+ *   original's form sets `_CLAP_COMPLETE_INDEX` and `_CLAP_IFS` instead.
  * - `COMPLGEN_COMMANDS` turns off the commands of `values_from` if it is `0`.
  * - `HOME` is the user's home directory, and `PWD` the directory where relative paths begin.
  *
@@ -180,6 +181,8 @@ size_t lagvtsune_registration(bool safe, const uint8_t *shell, size_t shell_leng
  * - 5: the text is the words of a command, each with a vertical tab after it. Write the text to the
  *   standard output, and end your program with exit status 3. The shell then runs the command, and
  *   makes the request again. In that request, `_COMPLGEN_VALUES` is `stdin`.
+ * - 6: the text is made, a reply after whose values no space follows. Write the text to the standard
+ *   output, and end your program with exit status 4.
  *
  * Proved (`crates/complgen_c/src/live.rt`):
  *

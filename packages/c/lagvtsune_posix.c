@@ -47,7 +47,7 @@ static const lagvtsune_bytes NOTHING = {(const uint8_t *)"", 0};
 
 /* The variables that registrations set. */
 static const char *const REQUESTS[] = {"COMPLETE", "_COMPLGEN_VALUES", "_COMPLGEN_ASCII", "_COMPLGEN_KEPT",
-    "_COMPLGEN_QUOTE", "_COMPLGEN_WIDTH", "_CLAP_COMPLETE_INDEX", "_CLAP_IFS"};
+    "_COMPLGEN_QUOTE", "_COMPLGEN_WIDTH", "_COMPLGEN_SPACE", "_CLAP_COMPLETE_INDEX", "_CLAP_IFS"};
 
 static const char OUT_OF_MEMORY[] = "out of memory\n";
 
@@ -260,7 +260,7 @@ static int finish(int status, const struct text *text, FILE *out)
 {
     if (status == LAGVTSUNE_NOT_REQUESTED)
         return status;
-    if (status == LAGVTSUNE_MADE || status == LAGVTSUNE_RUN) {
+    if (status == LAGVTSUNE_MADE || status == LAGVTSUNE_RUN || status == LAGVTSUNE_MADE_WITHOUT_SPACE) {
         bool is_written = fwrite(text->room, 1, text->length, out) == text->length && fflush(out) == 0;
         if (!is_written)
             perror("write");
@@ -295,7 +295,16 @@ int lagvtsune_complete(const char *tree, int argc, char *const argv[])
 
 int lagvtsune_exit_status(int result)
 {
-    return result == LAGVTSUNE_MADE ? 0 : result == LAGVTSUNE_RUN ? 3 : 2;
+    switch (result) {
+    case LAGVTSUNE_MADE:
+        return 0;
+    case LAGVTSUNE_RUN:
+        return 3;
+    case LAGVTSUNE_MADE_WITHOUT_SPACE:
+        return 4;
+    default:
+        return 2;
+    }
 }
 
 int lagvtsune_write_script(const char *shell, const char *bin, const char *tree, FILE *out)

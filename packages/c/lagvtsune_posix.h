@@ -25,14 +25,15 @@ extern "C" {
  * then end with the status that lagvtsune_exit_status returns. The function returns
  *
  * - LAGVTSUNE_MADE after it wrote the registration or the reply to stdout;
+ * - LAGVTSUNE_MADE_WITHOUT_SPACE after it wrote a reply there, after whose values no space follows;
  * - LAGVTSUNE_RUN after it wrote the words of a command there, which the shell then runs;
  * - LAGVTSUNE_FAILED after it wrote a message to stderr.
  */
 int lagvtsune_complete(const char *tree, int argc, char *const argv[]);
 
 /*
- * Returns the exit status after one of these results: 0 after LAGVTSUNE_MADE, 3 after LAGVTSUNE_RUN, and
- * otherwise 2. The shell runs a command only after the status 3.
+ * Returns the exit status after one of these results: 0 after LAGVTSUNE_MADE, 3 after LAGVTSUNE_RUN, 4
+ * after LAGVTSUNE_MADE_WITHOUT_SPACE, and otherwise 2. The shell runs a command only after the status 3.
  */
 int lagvtsune_exit_status(int result);
 

@@ -15,13 +15,14 @@ const REQUEST: &str = "COMPLETE";
 // The variables by which a shell requests something, by the safe registration or by one of the
 // original's form; the one by which a user turns commands off; and the one that lists the
 // directories of programs.
-const VARIABLES: [&str; 10] = [
+const VARIABLES: [&str; 11] = [
     REQUEST,
     "_COMPLGEN_VALUES",
     "_COMPLGEN_ASCII",
     "_COMPLGEN_KEPT",
     "_COMPLGEN_QUOTE",
     "_COMPLGEN_WIDTH",
+    "_COMPLGEN_SPACE",
     "_CLAP_COMPLETE_INDEX",
     "_CLAP_IFS",
     "COMPLGEN_COMMANDS",

@@ -43,7 +43,8 @@ pub struct Program<'s, P, F, C> {
 /// - if they are wrong, writes the parser's message to `streams.err`.
 ///
 /// Returns status 0 after a completion, a help text, the version and the program's own work; status
-/// 2 after a mistake; and status 3 after the words of a command for the shell to run.
+/// 2 after a mistake; status 3 after the words of a command for the shell to run; and
+/// status 4 after a reply after whose values no space follows.
 ///
 /// # Errors
 ///

@@ -45,7 +45,8 @@ use std::rt::Files;
 /// to the standard output, and messages about mistakes to the standard error.
 ///
 /// Returns status 0 after a completion, a help text, the version and the program's own work; status
-/// 2 after a mistake; and status 3 after the words of a command for the shell to run.
+/// 2 after a mistake; status 3 after the words of a command for the shell to run; and
+/// status 4 after a reply after whose values no space follows.
 ///
 /// # Errors
 ///

@@ -22,13 +22,14 @@ use std::rt::Files;
 
 // The environment variables that shells set, the one that turns commands off, those that name the
 // directories of tree files, and the one that lists the directories of programs.
-const VARIABLES: [&str; 14] = [
+const VARIABLES: [&str; 15] = [
     "COMPLETE",
     "_COMPLGEN_VALUES",
     "_COMPLGEN_ASCII",
     "_COMPLGEN_KEPT",
     "_COMPLGEN_QUOTE",
     "_COMPLGEN_WIDTH",
+    "_COMPLGEN_SPACE",
     "_CLAP_COMPLETE_INDEX",
     "_CLAP_IFS",
     "COMPLGEN_COMMANDS",
@@ -50,8 +51,9 @@ struct TreeFile {
 }
 
 /// Writes what a shell requests, and returns the exit status: 3 if the shell is to run a command
-/// whose words are written, and 1 if nothing is written, because the completed program has no tree
-/// file. Then the shell goes on without candidates. `words` are all words of the command line.
+/// whose words are written, 4 if no space follows a value, and 1 if nothing is written, because the
+/// completed program has no tree file. Then the shell goes on without candidates. `words` are all
+/// words of the command line.
 ///
 /// # Errors
 ///

@@ -18,7 +18,7 @@ use Rattle.complgen_c.specs.Listings.{Listing, facts_of, handed}
 use Rattle.complgen_c.specs.Requests.{AreUtf8, HoldsVariables, NotUtf8Texts}
 use Rattle.complgen_c.specs.declared.live.PassedRequest.{PassedRequest}
 use Rattle.complgen_c.specs.declared.outcome.Outcome.{Outcome}
-use Rattle.complgen_c.specs.declared.outcome.Outcome.TheVariants.{Failed, Made, NotRequested, NotUtf8, Run, WantsFolder}
+use Rattle.complgen_c.specs.declared.outcome.Outcome.TheVariants.{Failed, Made, MadeWithoutSpace, NotRequested, NotUtf8, Run, WantsFolder}
 
 -- the variable with the user's home directory
 abbrev pub home_name : List ℕ
@@ -47,6 +47,7 @@ RunsWords command _ = ⊥
 -- the outcome after an answer
 abbrev pub Tells : Told → Outcome → Type 0
 Tells (told.text made) outcome = outcome ≡ Made made
+Tells (told.text_without_space made) outcome = outcome ≡ MadeWithoutSpace made
 Tells (told.words command) outcome = RunsWords command outcome
 
 -- The outcomes of the call, by the path of the directory that the caller passed and by the answer.

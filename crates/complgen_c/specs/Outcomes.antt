@@ -4,7 +4,7 @@ use Rattle.cc_base.specs.declared.failures.Failures.{Failures}
 use Rattle.complgen_scripts.specs.Refusals as refusals
 use Rattle.complgen_scripts.specs.declared.refusals.Refusal.{Refusal}
 use Rattle.complgen_c.specs.declared.outcome.Outcome.{Outcome}
-use Rattle.complgen_c.specs.declared.outcome.Outcome.TheVariants.{Failed, Made, NotRequested, NotUtf8, Run, WantsFolder}
+use Rattle.complgen_c.specs.declared.outcome.Outcome.TheVariants.{Failed, Made, MadeWithoutSpace, NotRequested, NotUtf8, Run, WantsFolder}
 
 abbrev pub status_of : Outcome → ℕ
 status_of (Made text) = 0
@@ -13,6 +13,7 @@ status_of NotUtf8 = 2
 status_of NotRequested = 3
 status_of (WantsFolder path) = 4
 status_of (Run words) = 5
+status_of (MadeWithoutSpace text) = 6
 
 abbrev pub text_of : Outcome → List ℕ
 text_of (Made text) = text
@@ -21,6 +22,7 @@ text_of NotUtf8 = []
 text_of NotRequested = []
 text_of (WantsFolder path) = path
 text_of (Run words) = words
+text_of (MadeWithoutSpace text) = text
 
 -- The text is at the start of the room if it fits there. Otherwise the room is unchanged. The count
 -- is the length of the text.

@@ -63,9 +63,9 @@ pub struct PassedRequest<'p> {
 /// starting with its name. `variables` are names and values, alternating:
 ///
 /// - `COMPLETE` makes the request, and its value names the shell.
-/// - `_COMPLGEN_VALUES`, `_COMPLGEN_ASCII`, `_COMPLGEN_KEPT`, `_COMPLGEN_QUOTE` and
-///   `_COMPLGEN_WIDTH` have the values that the registration sets. A registration of the original's
-///   form sets `_CLAP_COMPLETE_INDEX` and `_CLAP_IFS` instead.
+/// - `_COMPLGEN_VALUES`, `_COMPLGEN_ASCII`, `_COMPLGEN_KEPT`, `_COMPLGEN_QUOTE`, `_COMPLGEN_WIDTH`
+///   and `_COMPLGEN_SPACE` have the values that the registration sets. A registration of the
+///   original's form sets `_CLAP_COMPLETE_INDEX` and `_CLAP_IFS` instead.
 /// - `COMPLGEN_COMMANDS` turns off the commands of `values_from` if it is `0`.
 /// - `HOME` is the user's home directory, and `PWD` the directory where relative paths begin.
 ///
@@ -89,6 +89,8 @@ pub struct PassedRequest<'p> {
 /// - 5: the text is the words of a command, each with a vertical tab after it. Write the text to
 ///   the standard output, and end your program with exit status 3. The shell then runs the command,
 ///   and makes the request again. In that request, `_COMPLGEN_VALUES` is `stdin`.
+/// - 6: the text is made, a reply after whose values no space follows. Write the text to the standard
+///   output, and end your program with exit status 4.
 #[unsafe(no_mangle)]
 pub extern "C" fn lagvtsune_live(
     alloc: Global,
@@ -177,6 +179,9 @@ fn answer_outcome(alloc: Global, answer: Answer) -> Outcome
 {
     match answer {
         Answer::Text(text) => Outcome::Made(Items::from(text.into_vec())),
+        Answer::TextWithoutSpace(text) => {
+            Outcome::MadeWithoutSpace(Items::from(text.into_vec()))
+        }
         Answer::Run(words) => run_outcome(alloc, words.as_slice()),
     }
 }

@@ -21,6 +21,8 @@ pub enum Outcome {
     WantsFolder(Text),
     /// 5: the shell is to run a command. The text is its words, each with a vertical tab after it.
     Run(Items<u8>),
+    /// 6: the text is made, a reply after whose values no space follows.
+    MadeWithoutSpace(Items<u8>),
 }
 
 impl Outcome {
@@ -43,6 +45,7 @@ impl Outcome {
             Outcome::NotRequested => 3,
             Outcome::WantsFolder(_) => 4,
             Outcome::Run(_) => 5,
+            Outcome::MadeWithoutSpace(_) => 6,
         }
     }
 
@@ -51,6 +54,7 @@ impl Outcome {
     {
         match self {
             Outcome::Made(text) | Outcome::Run(text) => text.as_slice(),
+            Outcome::MadeWithoutSpace(text) => text.as_slice(),
             Outcome::Failed(refusal) => refusal.text.as_str().as_bytes(),
             Outcome::NotUtf8 | Outcome::NotRequested => b"",
             Outcome::WantsFolder(path) => path.as_str().as_bytes(),

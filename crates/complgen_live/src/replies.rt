@@ -12,8 +12,9 @@ use cc_env::{LineSource, write_answer};
 use std::alloc::Global;
 
 /// Writes the answer to `request` to `out`, and returns the exit status: 0 after a reply or a
-/// registration, 3 after the words of a command for the shell to run, and 1 if there is no tree
-/// file or no request. The whole answer is made before any of it is written.
+/// registration, 3 after the words of a command for the shell to run, 4 after a reply after whose
+/// values no space follows, and 1 if there is no tree file or no request. The whole answer is made
+/// before any of it is written.
 ///
 /// # Errors
 ///

@@ -14,14 +14,15 @@ import functools
 import os
 import sys
 
-MADE, FAILED, NOT_UTF8, NOT_REQUESTED, WANTS_FOLDER, RUN = range(6)
+MADE, FAILED, NOT_UTF8, NOT_REQUESTED, WANTS_FOLDER, RUN, MADE_WITHOUT_SPACE = range(7)
 # The variables that registrations set.
 REQUESTS = (
     "COMPLETE", "_COMPLGEN_VALUES", "_COMPLGEN_ASCII", "_COMPLGEN_KEPT", "_COMPLGEN_QUOTE",
-    "_COMPLGEN_WIDTH", "_CLAP_COMPLETE_INDEX", "_CLAP_IFS",
+    "_COMPLGEN_WIDTH", "_COMPLGEN_SPACE", "_CLAP_COMPLETE_INDEX", "_CLAP_IFS",
 )
-# The exit statuses after an answer. After the second one, the shell runs the command whose words were written.
-EXITS = {MADE: 0, RUN: 3}
+# The exit statuses after an answer. After the second one, the shell runs the command whose words were written, and
+# after the third one, no space follows a value.
+EXITS = {MADE: 0, RUN: 3, MADE_WITHOUT_SPACE: 4}
 # The most bytes of a command's output that count.
 MOST_OUTPUT = 16 << 20
 # The size of the first room for a text. A longer text takes a second call.
@@ -85,8 +86,8 @@ def answer(tree, words, variables, current_dir=None, output=b""):
     """Returns an exit status and the bytes that a shell requests, or `None` if the variables request nothing.
 
     `words` are the program's arguments, starting with its name. `output` is what a command printed, if the
-    variable _COMPLGEN_VALUES is `stdin`. The status is 0 with a registration or a reply, and 3 with the words of
-    a command, which the shell then runs. Raises `Failed`.
+    variable _COMPLGEN_VALUES is `stdin`. The status is 0 with a registration or a reply, 3 with the words of a
+    command, which the shell then runs, and 4 with a reply after whose values no space follows. Raises `Failed`.
     """
     requests = {name: variables[name] for name in REQUESTS if name in variables}
     others = {**{name: variables.get(name) for name in ("HOME", "COMPLGEN_COMMANDS")}, "PWD": current_dir}
@@ -117,7 +118,8 @@ def complete(tree, words=None):
 
     Call it before your program does anything else. `tree` is a tree file, or a function that returns one. If
     _COMPLGEN_VALUES is `stdin`, the function reads the standard input, which has what a command printed. The
-    exit status is 0, 3 after the words of a command, or 2 after a message on stderr.
+    exit status is 0, 3 after the words of a command, 4 if no space follows a value, or 2 after a message on
+    stderr.
     """
     if os.environ.get("COMPLETE", "0") in ("", "0"):
         return
