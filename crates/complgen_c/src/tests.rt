@@ -92,11 +92,14 @@ fn nothing_is_requested(rt: HostRuntime) -> Result<(), Fail> {
     Ok(())
 }
 
-// Two arguments with a command each, and one whose values are in a file.
+// Two arguments with a command each, one whose values are in a file, and one whose command gets the
+// typed words and replies as Cobra does.
 const COMMANDS: &[u8] = b"{\"name\": \"app\", \"disable_help_flag\": true, \"args\": [
     {\"id\": \"branch\", \"values_from\": [\"git\", \"branch\"]},
     {\"id\": \"remote\", \"long\": \"remote\", \"values_from\": [\"git\", \"remote\"]},
-    {\"id\": \"user\", \"long\": \"user\", \"values_file\": \"/etc/passwd\"}]}";
+    {\"id\": \"user\", \"long\": \"user\", \"values_file\": \"/etc/passwd\"},
+    {\"id\": \"pod\", \"long\": \"pod\", \"values_from\": [\"kube\", \"__complete\"],
+        \"values_words\": true, \"values_protocol\": \"cobra\"}]}";
 
 // Requests the value after `before` from fish, with `output` as what the command printed, and
 // returns the length, the status and the room.
@@ -108,9 +111,11 @@ fn valued(
     output: &[u8],
 ) -> (usize, u8, [u8; 96]) {
     let words: [&[u8]; 5] = [b"app", b"--", b"app", before, b""];
-    let variables: [&[u8]; 6] = [
+    let variables: [&[u8]; 8] = [
         b"COMPLETE",
         b"fish",
+        b"_COMPLGEN_SPACE",
+        b"1",
         b"_COMPLGEN_VALUES",
         mode,
         b"COMPLGEN_COMMANDS",
@@ -153,6 +158,24 @@ fn output_of_the_command_is_offered(rt: HostRuntime) -> Result<(), Fail> {
     let (length, status, room) = valued(&rt, b"stdin", b"", b"--", b"main\tthe branch\ndev\n");
     same(&rt, (length, status), (20, 0));
     assert!(rt; room.starts_with(b"main\tthe branch\ndev\n"));
+    Ok(())
+}
+
+#[test]
+fn a_command_gets_the_typed_words(rt: HostRuntime) -> Result<(), Fail> {
+    let (length, status, room) = valued(&rt, b"ask", b"", b"--pod", b"");
+    same(&rt, (length, status), (23, 5));
+    assert!(rt; room.starts_with(b"kube\x0b__complete\x0b--pod\x0b\x0b"));
+    Ok(())
+}
+
+#[test]
+fn a_reply_of_cobra_is_read(rt: HostRuntime) -> Result<(), Fail> {
+    let (length, status, room) = valued(&rt, b"stdin", b"", b"--pod", b"web\tthe pod\n:4\n");
+    same(&rt, (length, status), (12, 0));
+    assert!(rt; room.starts_with(b"web\tthe pod\n"));
+    let (length, status, _) = valued(&rt, b"stdin", b"", b"--pod", b"web\tthe pod\n:6\n");
+    same(&rt, (length, status), (12, 6));
     Ok(())
 }
 
