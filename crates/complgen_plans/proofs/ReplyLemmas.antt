@@ -90,21 +90,23 @@ are_found_with items Finds sources lines words copies index old (Ok found) is sa
 are_found_with items Finds sources lines words copies index old (Err e) is same completes ranges = tt
 
 -- why a call with given lines finds no candidates
-finds_none_with : (old new : Tree) (words : List (List ℕ)) (index : ℕ) (e : Error)
-    → RefusesWith old new words index e → FindsNone (length words) index old e
-finds_none_with old new words index e (inl refused) = finds_none old new (length words) index e refused
-finds_none_with old new words index e (inr refused) =
+finds_none_with : (lines : List ℕ) (old new : Tree) (words : List (List ℕ)) (index : ℕ) (e : Error)
+    → RefusesWith lines old new words index e → FindsNone (length words) index old e
+finds_none_with lines old new words index e (inl refused) =
+    finds_none old new (length words) index e refused
+finds_none_with lines old new words index e (inr refused) =
     subst (λ e. FindsNone (length words) index old e) (sym refused.0) tt
 
-pub find_none_with : {A : Type 0} (old new : Tree) (words copies : List (String Global)) (index : ℕ)
-    (result : Result A Error) → map string_bytes copies ≡ map string_bytes words
-    → IfErr result (RefusesWith old new (map string_bytes copies) index)
+pub find_none_with : {A : Type 0} (lines : List ℕ) (old new : Tree)
+    (words copies : List (String Global)) (index : ℕ) (result : Result A Error)
+    → map string_bytes copies ≡ map string_bytes words
+    → IfErr result (RefusesWith lines old new (map string_bytes copies) index)
     → IfErr result (FindsNone (length words) index old)
-find_none_with old new words copies index (Ok found) same refuses = tt
-find_none_with old new words copies index (Err e) same refuses =
+find_none_with lines old new words copies index (Ok found) same refuses = tt
+find_none_with lines old new words copies index (Err e) same refuses =
     subst (λ count. FindsNone count index old e)
     (ap length same ∙ length-map words string_bytes)
-    (finds_none_with old new (map string_bytes copies) index e refuses)
+    (finds_none_with lines old new (map string_bytes copies) index e refuses)
 
 module _ {S : Type 0} (taken : S → List ℕ) (failed : S → Failures)
     (IsText : Tree → List ℕ → Type 0) (words : List (List ℕ)) (index : ℕ) where

@@ -14,6 +14,6 @@ returns-clause-ok g c =
 
 pub returns-clause-err : goal.returns-clause-err
 returns-clause-err g c =
-    find_none_with c.args.command.now c.complete_with_lines.new.command c.args.word.words.now
-    c.in_ok-words.words.items c.args.word.index c.complete_with_lines.result
+    find_none_with c.args.lines.now c.args.command.now c.complete_with_lines.new.command
+    c.args.word.words.now c.in_ok-words.words.items c.args.word.index c.complete_with_lines.result
     c.in_ok-words.ensures c.complete_with_lines.ensures.errors
