@@ -6,6 +6,7 @@ use Rattle.std.specs.Str.{chars}
 use Rattle.cc_arg.specs.declared.action.ArgAction.TheVariants.{SetTrue}
 use Rattle.cc_arg.specs.declared.parts.ArgParts.{ArgParts as Arg}
 use Rattle.cc_arg.specs.declared.value_hint.ValueHint.TheVariants.{Username}
+use Rattle.cc_arg.specs.declared.value_source.SourceValues.TheVariants.{Listed}
 use Rattle.cc_arg.specs.Arguments.{exactly, new_arg}
 use Rattle.cc_arg.specs.PossibleValues.{new_possible_value}
 use Rattle.cc_command.specs.Built.{built_tree}
@@ -22,7 +23,9 @@ use Rattle.cc_engine.specs.Blocks.{start}
 use Rattle.cc_engine.specs.Lookup.{allows_hyphens_at, capacity_at, positional_at}
 use Rattle.cc_engine.specs.Machine.{NodeState, walk}
 use Rattle.cc_engine.specs.WordClasses.{class_of}
-use Rattle.cc_engine.specs.Asked.{arguments_of_word, asked_argument}
+use Rattle.cc_engine.specs.Asked.{arguments_of_word, as_asked, asked_argument, in_turn, values_of_word}
+use Rattle.cc_engine.specs.declared.questions.AskedValue.{AskedValue}
+use Rattle.cc_engine.specs.Parts.{front_length}
 use Rattle.cc_engine.specs.Completion.{Questions, questions}
 
 -- what opens each definition
@@ -173,13 +176,41 @@ at_a_child :
 unfolding definitions
 at_a_child = (refl, refl, refl)
 
+-- THE VALUES
+
+-- the values that the word after these words is asked for
+abbrev values_after : Tree → List (List ℕ) → List ℕ → List AskedValue
+values_after root words word =
+    map as_asked (in_turn (values_of_word (node_state_after root words).tree (node_state_after root words).state word))
+
+abbrev asked : List ℕ → ℕ → List ℕ → AskedValue
+asked id number text = record { id = id; number = number; text = text }
+
+values_in_turn :
+    -- the open option goes first, then the positional
+    (values_after app (codes "--user" ∷ []) (codes "m") ≡ asked (codes "user") 0 (codes "m") ∷ asked (codes "from") 0 (codes "m") ∷ [])
+    -- an option without a source is asked, too
+    × (values_after app (codes "--date" ∷ []) (codes "n") ≡ asked (codes "date") 0 (codes "n") ∷ [])
+    -- within a word, the value begins after the `=`, or after the short
+    × (values_after app [] (codes "--onto=m") ≡ asked (codes "onto") 0 (codes "m") ∷ asked (codes "from") 0 (codes "--onto=m") ∷ [])
+    × (values_after app [] (codes "-vo=m") ≡ asked (codes "onto") 0 (codes "m") ∷ asked (codes "from") 0 (codes "-vo=m") ∷ [])
+    × (values_after app [] (codes "-vom") ≡ asked (codes "onto") 0 (codes "m") ∷ asked (codes "from") 0 (codes "-vom") ∷ [])
+    -- the second value of the positional
+    × (values_after app (codes "m" ∷ codes "n" ∷ []) [] ≡ asked (codes "to") 1 [] ∷ [])
+    -- the text begins after the delimiter
+    × (values_after with_hyphens [] (codes "x,m") ≡ asked (codes "from") 0 (codes "m") ∷ [])
+    -- there is no third value
+    × (values_after app (codes "m" ∷ codes "n" ∷ codes "o" ∷ []) [] ≡ [])
+unfolding definitions front_length
+values_in_turn = (refl, refl, refl, refl, refl, refl, refl, refl)
+
 -- THE LIST AT THE ARGUMENTS OF THE SOURCE
 
 -- the questions for the word after these words, if the arguments of the source of `asked` have the
 -- list 5
 abbrev questions_listed : Arg → List (List ℕ) → List ℕ → Questions
 questions_listed asked words word =
-    let there = node_state_after (built_tree (listed_tree asked (record { number = 5 }) described)) words in
+    let there = node_state_after (built_tree (listed_tree asked (Listed (record { number = 5 })) described)) words in
     questions there.tree there.state word
 
 abbrev branches : Arg

@@ -6,6 +6,7 @@ mod Examples
 mod Laws
 mod Offering
 mod OneFinishing
+mod ValuesInTurn
 pub mod Cluster
 pub mod Cut
 pub mod Exists

@@ -1,20 +1,23 @@
 -- The argument that a word asks for: its values are offered there, and a source outside the
--- tree lists them.
-use Rattle.std.specs.Prelude.{ℕ, Bool, false, List, [], ◌∷◌, ◌++◌, ◌≡◌, ◌==◌, get_or, find, Option, Some, None, option_to_list, if◌then◌else◌}
+-- tree lists them. And all values that a word can be.
+use Rattle.std.specs.Prelude.{ℕ, Bool, false, List, [], ◌∷◌, ◌++◌, ◌≡◌, ◌==◌, get_or, find, map, Option, Some, None, option_to_list, if◌then◌else◌}
 use Rattle.cc_base.specs.Bytes.{dash}
 use Rattle.cc_arg.specs.declared.parts.ArgParts.{ArgParts as Arg}
 use Rattle.cc_arg.specs.ValueSources.{has_source}
 use Rattle.cc_command.specs.Tree.{Tree}
 use Rattle.cc_engine.specs.declared.gathering.options.OptionMatch.{OptionMatch}
 use Rattle.cc_engine.specs.declared.gathering.options.OptionMatch.TheVariants.{Listed, ValuesOf}
+use Rattle.cc_engine.specs.declared.questions.AskedValue.{AskedValue}
 use Rattle.cc_engine.specs.declared.walking.state.Pending.{Pending}
 use Rattle.cc_engine.specs.declared.walking.state.Pending.TheVariants.{OptionOpen}
 use Rattle.cc_engine.specs.declared.walking.state.State.{State}
 use Rattle.cc_engine.specs.Destination.{WordsLeadTo, WordsLeadOnlyTo}
 use Rattle.cc_engine.specs.Lookup.{positional_at}
-use Rattle.cc_engine.specs.Completion.{offered_match, words_before}
+use Rattle.cc_engine.specs.Completion.{IsPlace, Questions, offered_match, questions, words_before}
 use Rattle.cc_engine.specs.declared.open_lists.OpenLists.{OpenLists}
 use Rattle.cc_engine.specs.OpenLists.{open_lists_by}
+use Rattle.cc_engine.specs.Parts.{part}
+use Rattle.cc_engine.specs.Values.{Question, nothing, question}
 
 -- the open option
 abbrev pub opened_argument : Pending → Option Arg
@@ -74,3 +77,88 @@ pub record Asks (root : Tree) (words : List (List ℕ)) (index : ℕ) (result : 
   pub leads : WordsLeadTo root (words_before root.node words index) tree state
   pub only : WordsLeadOnlyTo root (words_before root.node words index) tree state
   pub asked : result ≡ asked_argument tree state (get_or words index [])
+
+-- ---- the values that a word can be
+
+-- a value of an argument, with its number and the text to complete
+pub record WordValue : Type 0 where
+  pub argument : Arg
+  pub number : ℕ
+  pub text : List ℕ
+
+-- the value that a word is, or its part behind the last delimiter
+abbrev pub value_of : Arg → ℕ → List ℕ → WordValue
+value_of argument number word =
+    record { argument = argument; number = number; text = part argument.value_delimiter word }
+
+-- the next value of the open option
+abbrev pub opened_value : Pending → List ℕ → Option WordValue
+opened_value (OptionOpen option count) word = Some (value_of option count word)
+opened_value _ word = None
+
+-- the value within the word, which is the first one of its option
+abbrev pub value_within : OptionMatch → Option WordValue
+value_within (Listed found) = None
+value_within (ValuesOf wanted) = Some (value_of wanted.argument 0 wanted.text)
+
+-- the value of the positional, if its values are offered
+abbrev pub positional_value : Option Arg → Option ℕ → List ℕ → Option WordValue
+positional_value (Some argument) (Some number) word = Some (value_of argument number word)
+positional_value _ _ word = None
+
+-- the values that a word can be, or that it can end with
+pub record WordValues : Type 0 where
+  pub opened : Option WordValue
+  pub within : Option WordValue
+  pub positional : Option WordValue
+
+-- those where these lists are open
+abbrev pub values_of_lists : List Arg → ℕ → OpenLists → Pending → List ℕ → WordValues
+values_of_lists arguments position lists pending word = record {
+  opened = opened_value pending word;
+  within = value_within (offered_match lists.options arguments word);
+  positional = positional_value (positional_at arguments position) lists.value word;
+}
+
+-- those of the word at a node, if the words before it lead to this state
+abbrev pub values_of_word : Tree → State → List ℕ → WordValues
+values_of_word tree state word =
+    values_of_lists tree.node.arguments state.position
+    (open_lists_by tree.node.arguments state.position state.escaped state.pending) state.pending
+    word
+
+-- the values in turn: of the open option, within the word, of the positional
+abbrev pub in_turn : WordValues → List WordValue
+in_turn values =
+    option_to_list values.opened
+    ++ (option_to_list values.within ++ option_to_list values.positional)
+
+-- what the caller sees of a value
+abbrev pub as_asked : WordValue → AskedValue
+as_asked value = record { id = value.argument.id; number = value.number; text = value.text }
+
+-- the question for the candidates of a value
+abbrev pub question_of : Option WordValue → Question
+question_of None = nothing
+question_of (Some value) = question value.argument value.number value.text
+
+-- the questions for these values, beside the one for the children
+abbrev pub questions_of : Question → WordValues → Questions
+questions_of children values = record {
+  children = children;
+  positional = question_of values.positional;
+  within = question_of values.within;
+  opened = question_of values.opened;
+}
+
+-- The values for which `Completes` asks at the index, where the words before it lead: the questions
+-- there are those for these values, and the one for the children.
+pub record AsksValues (root : Tree) (words : List (List ℕ)) (index : ℕ)
+    (result : List AskedValue) : Type 0 where
+  pub tree : Tree
+  pub state : State
+  pub word : List ℕ
+  pub place : IsPlace root words index tree state word
+  pub asked : result ≡ map as_asked (in_turn (values_of_word tree state word))
+  pub same : questions tree state word
+      ≡ questions_of (questions tree state word).children (values_of_word tree state word)

@@ -24,6 +24,7 @@ mod values;
 
 pub use crate::gathering::finishing::{finish, finish_after};
 pub use crate::gathering::options::{OptionMatch, ValueQuery, all_with_prefix, match_options};
+pub(crate) use crate::gathering::parts::split_at_delimiter;
 pub use crate::gathering::possible::{complete_possible_values, possible_value_candidates};
 pub use crate::gathering::subcommands::subcommand_candidates;
 pub use crate::gathering::values::{PathSource, arg_values};

@@ -29,6 +29,7 @@ mod lookup;
 mod offered_lists;
 mod open_lists;
 mod place;
+mod questions;
 mod sources;
 mod walking;
 
@@ -37,5 +38,6 @@ pub use crate::completion::{complete, complete_from};
 pub use crate::gathering::{OptionMatch, complete_possible_values, possible_value_candidates};
 pub use crate::lookup::Lookup;
 pub use crate::place::words_before;
+pub use crate::questions::{AskedValue, asked_values};
 pub use crate::sources::Sources;
 pub use crate::walking::{Pending, State, ValueCharacter};

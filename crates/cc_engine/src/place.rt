@@ -8,7 +8,7 @@ use cc_command::Command;
 
 /// A word of a command line, with the place to which the words before it lead.
 #[derive(Drop)]
-pub(crate) struct Place<'a> {
+pub(crate) struct WordPlace<'a> {
     /// The command to which these words lead.
     pub command: &'a Command,
     /// The state there.
@@ -18,7 +18,7 @@ pub(crate) struct Place<'a> {
 }
 
 /// Returns the place of the word at an index in range, in a command line of a built command.
-pub(crate) fn place_at<'a>(command: &'a Command, words: &'a [String], index: usize) -> Place<'a>
+pub(crate) fn place_at<'a>(command: &'a Command, words: &'a [String], index: usize) -> WordPlace<'a>
     requires { is_in_range command.now.node (length words.now) index ≡ true }
     ensures { IsPlace command.now (map string_bytes words.now) index result.command.now
         result.state result.word.now }
@@ -27,7 +27,7 @@ pub(crate) fn place_at<'a>(command: &'a Command, words: &'a [String], index: usi
         command: node,
         state,
     } = walk(command, words_before(command, words, index));
-    Place {
+    WordPlace {
         command: node,
         state,
         word: word_at(words, index),

@@ -8,8 +8,8 @@ use clap_complete::command::{Arg, Command, ValueRange};
 use clap_complete::describe::{arg, command, option, with_arg};
 use clap_complete::engine::{
     ArgValueCandidates, ArgValueCompleter, Completers, CompletionCandidate, FnCandidates,
-    FnCompleter, MemoryFolder, SubcommandCandidates, ValueCandidates, ValueCompleter, complete,
-    complete_possible_values, possible_value_candidates,
+    FnCompleter, MemoryFolder, SubcommandCandidates, ValueCandidates, ValueCompleter, asked_values,
+    complete, complete_possible_values, possible_value_candidates,
 };
 use std::alloc::{AllocError, Global};
 
@@ -124,6 +124,31 @@ fn a_completer_gets_the_number_and_the_text_of_a_value(rt: HostRuntime) {
     is(&rt, parts, "a,b,0:c");
     drop(app);
     drop(completers);
+}
+
+// Returns the value that the last of the words is asked for, if there is one, such as `id 1:text`.
+fn asked(alloc: Global, command: &mut Command, words: &[&str]) -> Result<String, Error> {
+    let last = words.len().saturating_sub(1);
+    let words = to_strings(alloc, words)?;
+    let found = asked_values(alloc, command, words.as_slice(), last)?;
+    match found.as_slice() {
+        [value] => {
+            let (id, text) = (value.id.as_str(), value.text.as_str());
+            Ok(format!(in alloc; "{id} {}:{text}", value.number)?)
+        }
+        _ => Ok(String::new(alloc)),
+    }
+}
+
+#[test]
+fn a_word_is_asked_for_a_value_by_its_number_and_its_text(rt: HostRuntime) {
+    let alloc = rt.alloc();
+    let mut app = app(alloc).expect(&rt, "no command");
+    let pair = asked(alloc, &mut app, &["app", "--pair", "a", "b"]);
+    is(&rt, pair, "pair 1:b");
+    let parts = asked(alloc, &mut app, &["app", "--parts=a,b,c"]);
+    is(&rt, parts, "parts 0:c");
+    drop(app);
 }
 
 // Calls each number by itself.

@@ -7,8 +7,8 @@ pub use cc_candidates::{
     ValueCandidates, ValueCompleter,
 };
 pub use cc_engine::{
-    Lookup, Sources, asked_argument, complete, complete_from, complete_possible_values,
-    possible_value_candidates,
+    AskedValue, Lookup, Sources, asked_argument, asked_values, complete, complete_from,
+    complete_possible_values, possible_value_candidates,
 };
 pub use cc_env::{WithLines, complete_with_lines, wanted_command};
 pub use cc_program::{bash_script_and_candidates, has_no_hidden_alias};
