@@ -33,7 +33,7 @@ import sys
 sys.path.append(os.path.join(os.path.dirname(os.path.realpath(__file__)), "..", "tools"))
 import common
 import safe_places
-from judging import Count, letter_in
+from judging import MAY_LEAVE_OUT, Count, letter_in
 from safe_live import VALUES
 from shells import SHELLS, TreeScratch, started, unlink, write
 
@@ -104,18 +104,28 @@ class Either(tuple):
     """The words that one release of a shell passes, and those of another."""
 
 
-def try_row(terminal, scratch, count, typed, expected, keys=""):
+def try_row(terminal, scratch, count, typed, expected, keys="", reason=None):
     """Presses Tab after a text. The probe has to receive the expected words once. If they are a text, it must not run,
     for that reason."""
-    reason = expected if isinstance(expected, str) else None
-    ways = expected if isinstance(expected, Either) else (expected,)
-    calls = [[] if reason else [["__complete", *words]] for words in ways]
+    if isinstance(expected, str):
+        reason, calls = expected, [[]]
+    else:
+        ways = expected if isinstance(expected, Either) else (expected,)
+        calls = [[["__complete", *words]] for words in ways]
 
     def attempt():
         got, marks = call_at(terminal, scratch, typed, keys)
         return calls[0] if got in calls else got, marks
 
     count.tried(attempt, typed, typed, calls[0], reason, [[]])
+
+
+# ---- why the probe does not run
+
+OTHER = "another command or place for the shell"
+HYPHEN, LINE_FEED, VERTICAL_TAB, NOT_UTF8 = "a hyphen", "a line feed", "a vertical tab", "not UTF-8"
+EXPANDED, BACKTICK, NO_WORD = "bash would expand it", "a backtick", "not a word of Elvish"
+OWN, OPEN = "the shell completes it itself", "a quote of an earlier line in zsh"
 
 
 # ---- values
@@ -128,29 +138,21 @@ def typed_as(shell, quote, value):
     return quote + "".join(letters)
 
 
-def is_after_backtick(shell, quote):
-    return shell == "bash" or shell == "zsh" and quote == "'"
-
-
 def try_values(terminal, scratch, count):
     for value in VALUES:
         for quote in ("", "'", '"'):
             typed = typed_as(terminal.name, quote, value)
             if typed is None:
                 continue
-            backtick = "`" in value and is_after_backtick(terminal.name, quote) and "a backtick"
-            try_row(terminal, scratch, count, f"asks {typed}{quote} x", backtick or [value, "x"])
-            in_zsh = terminal.name == "zsh" and backtick
-            option = value.startswith("-") and "a hyphen"
-            try_row(terminal, scratch, count, f"asks {typed}", in_zsh or option or [value])
+            backtick = terminal.name == "zsh" and quote == "'" and "`" in value and BACKTICK
+            may = MAY_LEAVE_OUT if terminal.name == "bash" and "`" in value else None
+            option = value.startswith("-") and HYPHEN
+            try_row(terminal, scratch, count, f"asks {typed}{quote} x", backtick or [value, "x"], reason=may)
+            try_row(terminal, scratch, count, f"asks {typed}", backtick or option or [value])
 
 
 # ---- words that a shell would evaluate
 
-OTHER = "another command or place for the shell"
-HYPHEN, LINE_FEED, VERTICAL_TAB, NOT_UTF8 = "a hyphen", "a line feed", "a vertical tab", "not UTF-8"
-EXPANDED, BACKTICK, NO_WORD = "bash would expand it", "a backtick", "not a word of Elvish"
-OWN, OPEN = "the shell completes it itself", "a quote of an earlier line in zsh"
 # What is typed after `asks `, and the words for each shell that has no row of its own.
 TYPED = {
     "": [""], "'": [""], "a  b ": ["a", "b", ""], "'' \"\" x": ["", "", "x"], "é漢 ü": ["é漢", "ü"],
