@@ -1,7 +1,7 @@
 -- Lemmas for the answer over a command that is built.
-use Rattle.std.proofs.Common.{◌≡◌, ◌∙◌, ◌-◌, ap, refl, sym, subst, ℕ, List, [], ◌∷◌, length, Option, None, Some, Result, Ok, Err}
+use Rattle.std.proofs.Common.{◌≡◌, ◌∙◌, ◌-◌, ap, arith, refl, sym, subst, ℕ, suc, List, [], ◌∷◌, length, Option, None, Some, Result, Ok, Err}
 use Rattle.std.proofs.Math.Seq.{take-length}
-use Rattle.std.specs.Prelude.{drop}
+use Rattle.std.specs.Prelude.{drop, take}
 use Rattle.cc_arg.specs.declared.parts.ArgParts.{ArgParts as Arg}
 use Rattle.cc_arg.specs.declared.value_source.SourceValues.{SourceValues}
 use Rattle.cc_base.specs.declared.error.Error.{Error}
@@ -50,6 +50,15 @@ text_of_built shell names env Offers tree built same
     (subst (λ t. RepliesAs shell env (after_dashes rest) (Offers t) t result)
     (ap built_tree is_built ∙ same) replies)
 
+-- the text over an equal tree
+pub text_over_equal : {shell : CompleterSpec} {names : List ℕ → Tree → Names} {env : EnvValues}
+    {Offers : Tree → List (List ℕ) → ℕ → List CompletionCandidate → Type 0} {tree other : Tree}
+    {words : List (List ℕ)} {result : Result (List ℕ) Error} → tree ≡ other
+    → MakesText (λ made. made ≡ Ok tree) shell names env Offers words result
+    → MakesText (λ made. made ≡ Ok other) shell names env Offers words result
+text_over_equal {shell} {names} {env} {Offers} {tree} {other} {words} {result} same makes =
+    subst (λ t. MakesText (λ made. made ≡ Ok t) shell names env Offers words result) same makes
+
 -- values for an argument, before and after the command is built
 pub listed_built : (asked : Arg) (values : SourceValues) (tree : Tree)
     → built_tree (built_tree tree) ≡ built_tree tree
@@ -91,7 +100,9 @@ typed_at_last : (node : Node) (words : List (List ℕ))
     → drop (names_before node) words ≡ typed_words node words (length words - 1)
 typed_at_last node [] = refl
 typed_at_last node (word ∷ words) =
-    ap (drop (names_before node)) (sym (take-length (word ∷ words)))
+    let before : length (word ∷ words) - 1 ≡ length words = omega arith in
+    ap (drop (names_before node)) (sym (take-length (word ∷ words))
+    ∙ ap (λ n. take (suc n) (word ∷ words)) (sym before))
 
 -- memory can run out at any request
 memory_at : (mode : Option (List ℕ)) (tree : Tree) (words : List (List ℕ))
