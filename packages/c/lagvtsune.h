@@ -181,8 +181,8 @@ size_t lagvtsune_registration(bool safe, const uint8_t *shell, size_t shell_leng
  * - 5: the text is the words of a command, each with a vertical tab after it. Write the text to the
  *   standard output, and end your program with exit status 3. The shell then runs the command, and
  *   makes the request again. In that request, `_COMPLGEN_VALUES` is `stdin`.
- * - 6: the text is made, a reply after whose values no space follows. Write the text to the standard
- *   output, and end your program with exit status 4.
+ * - 6: the text is made, a reply after whose values no space follows. Write the text to the
+ *   standard output, and end your program with exit status 4.
  *
  * Proved (`crates/complgen_c/src/live.rt`):
  *
