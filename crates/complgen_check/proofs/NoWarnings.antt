@@ -1,5 +1,5 @@
--- If there are only notes, the premises hold. A warning names a premise exactly if one does not hold.
-use Rattle.std.proofs.Common.{◌≡◌, ◌∙◌, ap, subst, refl, is_none, ℕ, ◌&&◌, IsTrue, List, Option, Some, None, unwrap_or}
+-- If there are only notes, the premises hold. A warning says so exactly if one does not hold.
+use Rattle.std.proofs.Common.{◌≡◌, ◌∙◌, ap, ap₂, subst, sym, refl, is_none, ℕ, ◌&&◌, IsTrue, List, Option, Some, None, unwrap_or}
 use Rattle.std.specs.List.{list_all}
 use Rattle.std.proofs.lemmas.Bool.{and_parts}
 use Rattle.cc_bash.specs.Labels.{shared_label}
@@ -9,15 +9,17 @@ use Rattle.cc_command.specs.Quiet.{is_quiet_tree}
 use Rattle.cc_command.specs.Tree.{Tree}
 use Rattle.cc_base.specs.PlainName.{is_plain_name}
 use Rattle.cc_command.proofs.EscapedBuilt.{escaped_built_under}
-use Rattle.complgen_lints.specs.CommandWarnings.{command_list}
+use Rattle.complgen_lints.specs.Lists.{is_nil}
 use Rattle.complgen_lints.specs.Notes.{are_notes}
-use Rattle.complgen_lints.specs.Premises.{holds_premises, name_no_premise}
-use Rattle.complgen_lints.proofs.PremisesFound.{named_exactly as command_exactly, premises_hold as command_premises}
-use Rattle.complgen_lints.proofs.Walked.{none_append, notes_append}
+use Rattle.complgen_lints.specs.PremiseList.{premise_list}
+use Rattle.complgen_lints.specs.Premises.{holds_premises, premises_in}
+use Rattle.complgen_lints.specs.declared.warning.Warning.{Warning}
+use Rattle.complgen_lints.proofs.PremisesFound.{named_exactly as command_exactly}
+use Rattle.complgen_lints.proofs.Walked.{nil_append, notes_none}
 use Rattle.complgen_check.specs.Promises.{HoldPremises, holds_each}
-use Rattle.complgen_check.specs.TreeWarnings.{built_as, called, label_list, warnings_of}
+use Rattle.complgen_check.specs.TreeWarnings.{built_as, called, label_list, tree_premises}
 
-no_label : (label : Option (List ℕ)) → IsTrue (are_notes (label_list label)) → label ≡ None
+no_label : (label : Option (List ℕ)) → IsTrue (is_none label) → label ≡ None
 no_label None h = refl
 no_label (Some label) h = cc
 
@@ -29,13 +31,11 @@ plain_called (Some bin) own name given owned named = given
 plain_called None (Some own) name given owned named = owned
 plain_called None None name given owned named = named
 
-pub premises_hold : (bin : Option (List ℕ)) (tree : Tree) → IsTrue (are_notes (warnings_of bin tree)) → HoldPremises bin tree
+premises_hold : (bin : Option (List ℕ)) (tree : Tree) → IsTrue (holds_each bin tree) → HoldPremises bin tree
 premises_hold bin tree h =
-    let label = shared_label (built_as bin tree) in
-    let parts = and_parts (are_notes (command_list bin tree)) (are_notes (label_list label))
-    (subst IsTrue (notes_append (command_list bin tree) (label_list label)) h) in
+    let parts = and_parts (holds_premises bin tree) (is_none (shared_label (built_as bin tree))) h in
     let given = and_parts (passes_if_some is_plain_name bin) (is_plain_tree tree && (is_quiet_tree tree && is_escaped_tree tree))
-    (command_premises bin tree parts.0) in
+    parts.0 in
     let plain = and_parts (is_plain_tree tree) (is_quiet_tree tree && is_escaped_tree tree) given.1 in
     let quiet = and_parts (is_quiet_tree tree) (is_escaped_tree tree) plain.1 in
     let own = and_parts (passes_if_some is_plain_name tree.node.bin_name) (is_plain_node tree.node && (siblings_differ tree.children && is_plain_forest tree.children)) plain.0 in
@@ -47,16 +47,22 @@ premises_hold bin tree h =
       name = name;
       quiet = quiet.0;
       escaped = escaped_built_under (Some (called bin tree)) tree quiet.1;
-      label = no_label label parts.1;
+      label = no_label (shared_label (built_as bin tree)) parts.1;
     }
 
-label_named : (label : Option (List ℕ)) → name_no_premise (label_list label) ≡ is_none label
+label_named : (label : Option (List ℕ)) → is_nil (label_list label) ≡ is_none label
 label_named None = refl
 label_named (Some label) = refl
 
-pub named_exactly : (bin : Option (List ℕ)) (tree : Tree) → name_no_premise (warnings_of bin tree) ≡ holds_each bin tree
+-- a premise is found not to hold exactly if one does not hold
+pub named_exactly : (bin : Option (List ℕ)) (tree : Tree) → is_nil (tree_premises bin tree) ≡ holds_each bin tree
 named_exactly bin tree =
     let label = shared_label (built_as bin tree) in
-    none_append (command_list bin tree) (label_list label)
-    ∙ ap (λ b. b && name_no_premise (label_list label)) (command_exactly bin tree)
-    ∙ ap (λ b. holds_premises bin tree && b) (label_named label)
+    nil_append (premise_list bin tree) (label_list label)
+    ∙ ap₂ (λ a b. a && b) (command_exactly bin tree) (label_named label)
+
+-- if all warnings are notes, each premise holds
+pub notes_hold : (bin : Option (List ℕ)) (tree : Tree) (warnings : List Warning) →
+    premises_in warnings ≡ tree_premises bin tree → IsTrue (are_notes warnings) → HoldPremises bin tree
+notes_hold bin tree warnings is notes = premises_hold bin tree
+    (subst IsTrue (ap is_nil (sym (notes_none warnings notes) ∙ is) ∙ named_exactly bin tree) refl)

@@ -1,5 +1,5 @@
 -- If nothing is found in a tree file but notes, its scripts are written and read back.
-use Rattle.std.proofs.Common.{◌≡◌, ◌∙◌, ◌++◌, ◌&&◌, Bool, IsTrue, List, None, Option, Some, [], ◌∷◌, ap, false, if◌then◌else◌, map, refl, subst, sym, true, ℕ}
+use Rattle.std.proofs.Common.{◌≡◌, ◌∙◌, ◌++◌, ◌&&◌, Bool, IsTrue, List, None, Option, Some, [], ◌∷◌, ap, ap₂, false, if◌then◌else◌, map, refl, subst, sym, true, ℕ}
 use Rattle.std.specs.List.{list_all}
 use Rattle.std.proofs.lemmas.Bool.{and_parts}
 use Rattle.std.proofs.lemmas.List.Elements.{All-head}
@@ -19,17 +19,16 @@ use Rattle.cc_shell.specs.declared.shell.Shell.TheVariants.{Bash, Elvish, Fish, 
 use Rattle.cc_tables.proofs.ElvishPlain.{elvish_plain_reads}
 use Rattle.cc_tables.proofs.NushellPlain.{nushell_plain_reads}
 use Rattle.cc_tables.proofs.PowershellFreeScripts.{powershell_plain_reads}
-use Rattle.complgen_check.specs.FileChecks.{hidden_list}
-use Rattle.complgen_check.specs.Findings.{AreErrors, IsError, Shown, shown}
+use Rattle.complgen_check.specs.Findings.{AreErrors, IsError, shown}
 use Rattle.complgen_check.specs.declared.errors.finding.Level.{Level}
 use Rattle.complgen_check.specs.declared.errors.finding.Level.TheVariants.{Error, Note, Warning as Warns}
 use Rattle.complgen_check.specs.declared.errors.finding.Finding.{Finding}
-use Rattle.complgen_check.proofs.NoWarnings.{premises_hold}
+use Rattle.complgen_check.proofs.NoWarnings.{notes_hold}
 use Rattle.complgen_check.specs.Promises.{HoldPremises}
-use Rattle.complgen_check.specs.TreeWarnings.{built_as, called, warnings_of}
+use Rattle.complgen_check.specs.TreeWarnings.{built_as, called}
 use Rattle.cc_zsh.proofs.ReadsBack as zsh
-use Rattle.complgen_check.specs.Checking.{AreSound, Finds, IsSafeFor, described, errors}
-use Rattle.complgen_check.specs.Checking.{is_note, only_notes, shown_warning}
+use Rattle.complgen_check.specs.Checking.{AreSound, AreWarnings, Finds, IsSafeFor, IsWarning, described}
+use Rattle.complgen_check.specs.Checking.{errors, is_note, only_notes}
 
 -- ---- scripts
 
@@ -79,44 +78,41 @@ noted : (note : Bool) → is_note (if note then Note else Warns) ≡ note
 noted true = refl
 noted false = refl
 
--- whether everything shown is a note
-notes_shown : List Shown → Bool
-notes_shown = list_all (λ said. is_note said.level)
+-- the warnings are notes if the findings that show them are
+warned_notes : (warnings : List Warning) (found : List Finding) → AreWarnings warnings found
+    → only_notes found ≡ are_notes warnings
+warned_notes [] [] are = refl
+warned_notes (warning ∷ warnings) (finding ∷ found) are =
+    ap₂ (λ note notes. note && notes) (ap is_note are.0.level ∙ noted (is_note_kind warning.kind))
+    (warned_notes warnings found are.1)
+warned_notes _ _ are = absurd are
 
-placed_notes : (found : List Finding) → notes_shown (map shown found) ≡ only_notes found
-unfolding notes_shown
-placed_notes [] = refl
-placed_notes (finding ∷ more) = ap (λ notes. is_note finding.level && notes) (placed_notes more)
-
-warned_notes : (warnings : List Warning) → notes_shown (map shown_warning warnings) ≡ are_notes warnings
-unfolding notes_shown
-warned_notes [] = refl
-warned_notes (warning ∷ more) =
-    ap (λ note. note && notes_shown (map shown_warning more)) (noted (is_note_kind warning.kind))
-    ∙ ap (λ notes. is_note_kind warning.kind && notes) (warned_notes more)
-
--- if everything shown is a note, so is the last part of it
-last_notes : (first last : List Shown) → IsTrue (notes_shown (first ++ last))
-    → IsTrue (notes_shown last)
-unfolding notes_shown
+-- if all findings are notes, so is the last part of them
+last_notes : (first last : List Finding) → IsTrue (only_notes (first ++ last))
+    → IsTrue (only_notes last)
 last_notes [] last clean = clean
-last_notes (said ∷ more) last clean =
-    last_notes more last (and_parts (is_note said.level) (notes_shown (more ++ last)) clean).1
+last_notes (finding ∷ more) last clean =
+    last_notes more last (and_parts (is_note finding.level) (only_notes (more ++ last)) clean).1
+
+-- one more warning, and the finding that shows it
+pub one_more : (warnings : List Warning) (found : List Finding) (warning : Warning) (finding : Finding)
+    → AreWarnings warnings found → IsWarning warning finding
+    → AreWarnings (warnings ++ warning ∷ []) (found ++ finding ∷ [])
+one_more [] [] warning finding are is = (is, tt)
+one_more (first ∷ warnings) (other ∷ found) warning finding are is =
+    (are.0, one_more warnings found warning finding are.1 is)
+one_more _ _ warning finding are is = absurd are
 
 -- ---- the whole
-
-warned : (hidden : List Shown) (warnings : List Warning) (found : List Finding)
-    → map shown found ≡ hidden ++ map shown_warning warnings → IsTrue (only_notes found)
-    → IsTrue (are_notes warnings)
-warned hidden warnings found is clean =
-    let all = subst IsTrue (sym (placed_notes found) ∙ ap notes_shown is) clean in
-    subst IsTrue (warned_notes warnings) (last_notes hidden (map shown_warning warnings) all)
 
 pub sound : (bin : Option (List ℕ)) (bytes : List ℕ) (found : List Finding)
     → Finds bin bytes found → IsTrue (only_notes found) → AreSound bin (Some bytes)
 sound bin bytes found (errors none are) clean = absurd (no_notes found are clean)
-sound bin bytes found (described tree j describes spells is) clean =
-    let holds = premises_hold bin tree (warned (hidden_list j) (warnings_of bin tree) found is clean) in
+sound bin bytes found (described tree j doubles describes spells hidden warns) clean =
+    let last = last_notes doubles warns.others
+    (subst (λ (found : List Finding). IsTrue (only_notes found)) warns.both clean) in
+    let holds = notes_hold bin tree warns.warnings warns.premises
+    (subst IsTrue (warned_notes warns.warnings warns.others warns.each) last) in
     record {
       bytes = bytes;
       tree = tree;

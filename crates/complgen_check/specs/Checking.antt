@@ -1,5 +1,5 @@
 -- The findings of a check of a tree file, and the outcomes of the check.
-use Rattle.std.specs.Prelude.{◌≡◌, ◌++◌, ℕ, Bool, true, false, if◌then◌else◌, List, [], ◌∷◌, Option, Some, None, Result, Ok, Err, codes, map}
+use Rattle.std.specs.Prelude.{◌≡◌, ◌++◌, ℕ, Bool, true, false, if◌then◌else◌, List, [], ◌∷◌, Option, Some, None, Result, Ok, Err, codes, map, string_bytes}
 use Rattle.std.specs.List.{flat_map, list_all}
 use Rattle.std.specs.declared.io.ErrorKind.{ErrorKind}
 use Rattle.json.specs.Json.{Json}
@@ -10,24 +10,24 @@ use Rattle.cc_base.specs.declared.failures.Failures.{Failures}
 use Rattle.cc_command.specs.Tree.{Tree}
 use Rattle.complgen_lints.specs.Places.{key_text}
 use Rattle.complgen_lints.specs.Notes.{is_note as is_note_kind}
-use Rattle.complgen_lints.specs.Texts.{warning_text}
+use Rattle.complgen_lints.specs.Premises.{premises_in}
 use Rattle.complgen_lints.specs.declared.place.Key.{Key}
-use Rattle.complgen_lints.specs.declared.place.Place.{Place}
+use Rattle.complgen_lints.specs.declared.place.TreePlace.{TreePlace}
 use Rattle.complgen_lints.specs.declared.warning.Kind.{Kind}
 use Rattle.complgen_lints.specs.declared.warning.Warning.{Warning}
 use Rattle.cc_shell.specs.Shells.{shell_spec}
 use Rattle.cc_shell.specs.declared.shell.Shell.{Shell}
-use Rattle.cc_base.specs.Shown.{on_one_line}
+use Rattle.cc_base.specs.Shown.{HoldsNoControl}
 use Rattle.complgen_tree_file.specs.JsonReads.{SpellsJson}
 use Rattle.complgen_check.specs.FileChecks.{DescribesNone, hidden_list}
-use Rattle.complgen_check.specs.Findings.{AreErrors, Shown, says, shown}
-use Rattle.complgen_check.specs.Places.{ShownStep, index, key}
+use Rattle.complgen_check.specs.Findings.{AreErrors, shown}
+use Rattle.complgen_check.specs.Places.{ShownStep, index, key, path_text}
 use Rattle.complgen_check.specs.declared.errors.finding.Level.{Level}
 use Rattle.complgen_check.specs.declared.errors.finding.Level.TheVariants as level
 use Rattle.complgen_check.specs.declared.errors.finding.Finding.{Finding}
 use Rattle.complgen_tree_file.specs.TreeFile.{Describes}
 use Rattle.complgen_check.specs.Promises.{HoldPremises}
-use Rattle.complgen_check.specs.TreeWarnings.{built_as, warnings_of}
+use Rattle.complgen_check.specs.TreeWarnings.{built_as, tree_premises}
 use Rattle.complgen_scripts.specs.Refusals.{IsOutOfMemory, IsRefusal}
 use Rattle.complgen_scripts.specs.declared.refusals.Refusal.{Refusal}
 use Rattle.complgen_scripts.specs.Refusals.{error_line, unreadable_line}
@@ -59,25 +59,42 @@ item_steps None = []
 item_steps (Some item) = index item ∷ []
 
 -- the steps to a place in a tree: to the command, to its argument, to a key there and to an item
-abbrev pub place_steps : Place → List ShownStep
+abbrev pub place_steps : TreePlace → List ShownStep
 place_steps place = ((command_steps place.command ++ argument_steps place.argument)
     ++ key_steps place.key) ++ item_steps place.item
 
--- what is shown of a warning
-abbrev pub shown_warning : Warning → Shown
-shown_warning warning =
-    says (level_of warning.kind) (place_steps warning.place) (on_one_line (warning_text warning))
+-- A finding shows a warning: with its level and its place, and with a text on one line.
+pub record IsWarning (warning : Warning) (finding : Finding) : Type 0 where
+  pub level : finding.level ≡ level_of warning.kind
+  pub path : string_bytes finding.path ≡ path_text (place_steps warning.place)
+  pub line : HoldsNoControl (string_bytes finding.text)
+
+-- findings show these warnings, one each, in their order
+abbrev pub AreWarnings : List Warning → List Finding → Type 0
+AreWarnings [] [] = ⊤
+AreWarnings (warning ∷ warnings) (finding ∷ found) =
+    IsWarning warning finding × AreWarnings warnings found
+AreWarnings _ _ = ⊥
 
 -- ---- what is found
+
+-- After some findings stand those that show warnings about a tree. These say which premises of the
+-- promises about scripts do not hold, and where. Among them is nothing about a premise that holds.
+pub record Warns (bin : Option (List ℕ)) (tree : Tree) (before found : List Finding) : Type 0 where
+  pub warnings : List Warning
+  pub others : List Finding
+  pub premises : premises_in warnings ≡ tree_premises bin tree
+  pub each : AreWarnings warnings others
+  pub both : found ≡ before ++ others
 
 -- The findings of a check of the bytes of a tree file.
 pub data Finds (bin : Option (List ℕ)) (bytes : List ℕ) (found : List Finding) : Type 0 where
   -- errors, at least one: the bytes describe no command
   errors : DescribesNone bytes → AreErrors found → Finds bin bytes found
   -- the bytes describe a command: a warning for each duplicate key, then the warnings and notes
-  -- about the command, and nothing else
-  described : (tree : Tree) (j : Json) → Describes bytes (Some tree) → SpellsJson bytes j
-      → map shown found ≡ hidden_list j ++ map shown_warning (warnings_of bin tree)
+  -- about the command
+  described : (tree : Tree) (j : Json) (doubles : List Finding) → Describes bytes (Some tree)
+      → SpellsJson bytes j → map shown doubles ≡ hidden_list j → Warns bin tree doubles found
       → Finds bin bytes found
 
 -- whether a finding is neither an error nor a warning

@@ -1,7 +1,7 @@
 -- Marks in a text: offsets whose lines and columns are known.
 use Rattle.std.specs.Prelude.{◌≡◌, ◌≤◌, ℕ, List, length, take}
 use Rattle.complgen_check.specs.Places.{column_after, line_after}
-use Rattle.complgen_check.specs.declared.errors.lines.Mark.{Mark}
+use Rattle.complgen_check.specs.declared.errors.line_numbers.Mark.{Mark}
 
 -- a mark has the line and the column of its offset
 pub record IsMark (bytes : List ℕ) (mark : Mark) : Type 0 where

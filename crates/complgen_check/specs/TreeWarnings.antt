@@ -1,12 +1,14 @@
--- The warnings about a tree that is called by a bin name.
+-- The premises of the promises about scripts that do not hold for a tree that is called by a bin
+-- name.
 use Rattle.std.specs.Prelude.{ℕ, List, [], ◌∷◌, ◌++◌, Option, Some, None, unwrap_or}
 use Rattle.cc_bash.specs.Labels.{shared_label}
 use Rattle.cc_command.specs.Built.{built_under}
 use Rattle.cc_command.specs.Names.{full_name}
 use Rattle.cc_command.specs.Tree.{Tree}
-use Rattle.complgen_lints.specs.CommandWarnings.{command_list}
-use Rattle.complgen_lints.specs.declared.warning.Kind.TheVariants.{SharedLabel}
-use Rattle.complgen_lints.specs.declared.warning.Warning.{Warning}
+use Rattle.complgen_lints.specs.PremiseList.{premise_list}
+use Rattle.complgen_lints.specs.declared.found.Finding.{Finding}
+use Rattle.complgen_lints.specs.declared.warning.Premise.{Premise}
+use Rattle.complgen_lints.specs.declared.warning.Premise.TheVariants.{SharedLabel}
 
 -- the name by which a program is called: the given one, else the tree's bin name, else its name
 abbrev pub called : Option (List ℕ) → Tree → List ℕ
@@ -16,14 +18,14 @@ called bin tree = unwrap_or bin (full_name tree.node)
 abbrev pub built_as : Option (List ℕ) → Tree → Tree
 built_as bin tree = built_under (Some (called bin tree)) tree
 
--- the warning about a label that two commands share, if there is one; its place is the root
-abbrev pub label_list : Option (List ℕ) → List Warning
+-- a label that two commands share, if there is one; its place is the root
+abbrev pub label_list : Option (List ℕ) → List (Finding Premise)
 label_list None = []
 label_list (Some label) = record {
   place = record { command = []; argument = None; key = None; item = None };
   kind = SharedLabel label;
 } ∷ []
 
--- the warnings about the tree, then the one about a label of the built tree
-abbrev pub warnings_of : Option (List ℕ) → Tree → List Warning
-warnings_of bin tree = command_list bin tree ++ label_list (shared_label (built_as bin tree))
+-- the premises that do not hold for the tree, then the label of the built tree
+abbrev pub tree_premises : Option (List ℕ) → Tree → List (Finding Premise)
+tree_premises bin tree = premise_list bin tree ++ label_list (shared_label (built_as bin tree))

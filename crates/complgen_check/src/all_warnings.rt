@@ -1,20 +1,18 @@
 //! Finds all warnings about a command, including the one about a shared label of the bash script.
 
-ghost use Rattle.std.specs.Prelude.{◌≡◌, ◌⊎◌, ◌++◌, IfOk, IsTrue, OnErr, OnOk, Some};
+ghost use Rattle.std.specs.Prelude.{◌≡◌, ◌++◌, IfOk, IsTrue, OnOk};
 ghost use Rattle.std.specs.Option.{option_copied};
 ghost use Rattle.std.specs.String.{string_bytes};
-ghost use Rattle.cc_command.specs.Built.{built_tree};
-ghost use Rattle.cc_command.specs.Plain.{is_plain_tree};
 ghost use Rattle.complgen_lints.specs.Notes.{are_notes};
-ghost use Rattle.complgen_lints.specs.Premises.{name_no_premise};
+ghost use Rattle.complgen_lints.specs.Premises.{name_no_premise, premises_in};
 ghost use Rattle.cc_bash.specs.Labels.{shared_label};
 ghost use Rattle.complgen_check.specs.Promises.{HoldPremises, holds_each};
-ghost use Rattle.complgen_check.specs.TreeWarnings.{built_as, called, label_list, warnings_of};
+ghost use Rattle.complgen_check.specs.TreeWarnings.{built_as, called, label_list, tree_premises};
 
 use cc_base::Items;
 use cc_bash::clashing_label;
 use cc_command::{Command, build_as, full_name};
-use complgen_lints::{Kind, Place, Warning, command_warnings};
+use complgen_lints::{Kind, Premise, TreePlace, Warning, command_warnings};
 use std::alloc::{AllocError, Global};
 
 /// Returns the warnings and notes about `command`, which is called by the name `bin`. If `bin` is
@@ -22,37 +20,44 @@ use std::alloc::{AllocError, Global};
 /// `command_warnings` come first. If two commands share a label of the bash script, the last
 /// warning reports that. Its place is the root.
 ///
-/// A warning says that a premise of the promises about scripts does not hold exactly if one does not.
-/// So if there are only notes, each premise holds. The script for each shell can then be written,
-/// unless memory runs out or a write fails, and it reads back. The call
-/// leaves the command built under that name, as `generate` does.
+/// The clauses say which premises of the promises about scripts are found not to hold, and where. A
+/// warning says so exactly if one does not hold. So if there are only notes, each premise holds. The
+/// script for each shell can then be written, unless memory runs out or a write fails, and it reads
+/// back.
 ///
 /// # Errors
 ///
-/// `AllocError` if an allocation fails. The command is then built, or unchanged.
+/// `AllocError` if an allocation fails.
 pub fn tree_warnings(
+    alloc: Global,
+    bin: Option<&str>,
+    mut command: Command,
+) -> Result<Vec<Warning>, AllocError>
+    ensures list { IfOk result (λ found.
+        premises_in found.items ≡ tree_premises (option_copied bin.entry) command) }
+
+    // If there are only notes, the premises hold.
+    ensures premises { IfOk result (λ found. IsTrue (are_notes found.items) →
+        HoldPremises (option_copied bin.entry) command) }
+
+    // A warning says that a premise does not hold exactly if one does not hold.
+    ensures exactly { IfOk result (λ found. name_no_premise found.items
+        ≡ holds_each (option_copied bin.entry) command) }
+{
+    let found = found_in(alloc, bin, &mut command);
+    // One call here, instead of a drop at each exit.
+    drop(command);
+    found
+}
+
+// Returns the warnings about `command`, which it builds.
+fn found_in(
     alloc: Global,
     bin: Option<&str>,
     command: &mut Command,
 ) -> Result<Vec<Warning>, AllocError>
-    ensures list { IfOk result (λ found.
-        found.items ≡ warnings_of (option_copied bin.entry) command.old) }
-
-    // If there are only notes, the premises hold.
-    ensures premises { IfOk result (λ found. IsTrue (are_notes found.items) →
-        HoldPremises (option_copied bin.entry) command.old) }
-
-    // A warning says that a premise does not hold exactly if one does not hold.
-    ensures exactly { IfOk result (λ found. name_no_premise found.items
-        ≡ holds_each (option_copied bin.entry) command.old) }
-    ensures built { OnOk result (command.new ≡ built_as (option_copied bin.entry) command.old) }
-
-    // Building it again would change nothing, and a plain command stays plain.
-    ensures whole { OnOk result (built_tree command.new ≡ command.new) }
-    ensures plain { OnOk result (IsTrue (are_notes (warnings_of (option_copied bin.entry)
-        command.old)) → IsTrue (is_plain_tree command.new)) }
-    ensures err { OnErr result ((command.new ≡ command.old)
-        ⊎ (command.new ≡ built_as (option_copied bin.entry) command.old)) }
+    ensures { IfOk result (λ found.
+        premises_in found.items ≡ tree_premises (option_copied bin.entry) command.old) }
 {
     let mut found = command_warnings(alloc, bin, command)?;
     build_called(alloc, bin, command)?;
@@ -62,9 +67,7 @@ pub fn tree_warnings(
 
 // Builds the command under the name by which it is called.
 fn build_called(alloc: Global, bin: Option<&str>, command: &mut Command) -> Result<(), AllocError>
-    ensures built { OnOk result (command.new ≡ built_as (option_copied bin.entry) command.old) }
-    ensures whole { OnOk result (built_tree command.new ≡ command.new) }
-    ensures err { OnErr result (command.new ≡ command.old) }
+    ensures { OnOk result (command.new ≡ built_as (option_copied bin.entry) command.old) }
 {
     let name = called_name(alloc, bin, command)?;
     match build_as(command, alloc, name) {
@@ -85,13 +88,13 @@ fn called_name(alloc: Global, bin: Option<&str>, command: &Command) -> Result<St
 
 // Appends a warning if two nodes of a built command share a label.
 fn push_label(found: &mut Vec<Warning>, alloc: Global, command: &Command) -> Result<(), AllocError>
-    ensures { OnOk result (found.new.items
-        ≡ found.old.items ++ label_list (shared_label command.now)) }
+    ensures { OnOk result (premises_in found.new.items
+        ≡ premises_in found.old.items ++ label_list (shared_label command.now)) }
 {
     let Some(label) = clashing_label(alloc, command)? else {
         return Ok(());
     };
-    let place = Place {
+    let place = TreePlace {
         command: Items::new(alloc),
         argument: None,
         key: None,
@@ -99,7 +102,7 @@ fn push_label(found: &mut Vec<Warning>, alloc: Global, command: &Command) -> Res
     };
     found.push(Warning {
         place,
-        kind: Kind::SharedLabel(label),
+        kind: Kind::Premise(Premise::SharedLabel(label)),
     })?;
     Ok(())
 }

@@ -2,20 +2,18 @@
 
 ghost use Rattle.std.specs.Prelude.{◌≡◌, ◌++◌, [], ◌∷◌, IfOk, IsTrue, OnOk, map};
 ghost use Rattle.std.specs.Option.{option_copied};
-ghost use Rattle.complgen_check.specs.Findings.{shown};
 ghost use Rattle.complgen_check.specs.Places.{index, key, shown_step};
-ghost use Rattle.complgen_check.specs.Checking.{AreSound, EndsCheck, Finds};
-ghost use Rattle.complgen_check.specs.Checking.{argument_steps, command_steps, is_note};
-ghost use Rattle.complgen_check.specs.Checking.{item_steps, key_steps, level_of, only_notes};
-ghost use Rattle.complgen_check.specs.Checking.{place_steps, shown_warning};
-ghost use Rattle.complgen_check.specs.TreeWarnings.{warnings_of};
+ghost use Rattle.complgen_check.specs.Checking.{AreSound, AreWarnings, EndsCheck, Finds};
+ghost use Rattle.complgen_check.specs.Checking.{IsWarning, Warns, argument_steps, command_steps};
+ghost use Rattle.complgen_check.specs.Checking.{is_note, item_steps, key_steps, level_of};
+ghost use Rattle.complgen_check.specs.Checking.{only_notes, place_steps};
 
 use crate::all_warnings::tree_warnings;
 use crate::errors::{Checked, Finding, Level, Source, check_file};
 use crate::report::{Report, put_findings};
 use cc_base::{Sink, on_one_line};
 use cc_command::Command;
-use complgen_lints::{Key, Place, Warning};
+use complgen_lints::{Key, TreePlace, Warning};
 use complgen_scripts::{Refusal, UNREADABLE, error_refusal};
 use complgen_tree_file::{Scratch, Step};
 use std::alloc::{AllocError, Global};
@@ -28,8 +26,8 @@ use std::alloc::{AllocError, Global};
 /// for a finding: a line of text or a JSON object.
 ///
 /// There is an error exactly if the file describes no command. Otherwise `check` prints a warning
-/// for each duplicate key, then what `tree_warnings` returns. If it returns true, each premise of
-/// the promises about scripts holds. So the script for each shell can be written under that name,
+/// for each duplicate key, then what `tree_warnings` returns, each on one line. If it returns true,
+/// each premise of the promises about scripts holds. So the script for each shell can be written under that name,
 /// unless memory runs out or a write fails, and it reads back.
 ///
 /// # Errors
@@ -86,40 +84,40 @@ fn findings(alloc: Global, bin: Option<&str>, bytes: &[u8]) -> Result<Vec<Findin
     }
 }
 
-// Adds the warnings and notes about a command to `findings`.
+// Adds the warnings and notes about a command behind those about duplicate keys.
 fn with_warnings(
     alloc: Global,
     bin: Option<&str>,
     mut source: Source<'_>,
-    mut command: Command,
-    mut findings: Vec<Finding>,
+    command: Command,
+    mut doubles: Vec<Finding>,
 ) -> Result<Vec<Finding>, AllocError>
-    ensures { IfOk result (λ all. map shown all.items
-        ≡ map shown findings.items ++ map shown_warning (warnings_of (option_copied bin.entry)
-        command)) }
+    ensures { IfOk result (λ all.
+        Warns (option_copied bin.entry) command doubles.items all.items) }
 {
-    let warnings = tree_warnings(alloc, bin, &mut command)?;
-    push_warnings(&mut findings, alloc, &mut source, warnings.as_slice())?;
-    Ok(findings)
+    let warnings = tree_warnings(alloc, bin, command)?;
+    let mut others = warned(alloc, &mut source, warnings.as_slice())?;
+    doubles.append(&mut others)?;
+    Ok(doubles)
 }
 
-fn push_warnings(
-    findings: &mut Vec<Finding>,
+// Returns a finding for each of `warnings`.
+fn warned(
     alloc: Global,
     source: &mut Source<'_>,
     warnings: &[Warning],
-) -> Result<(), AllocError>
-    ensures { OnOk result (map shown findings.new.items
-        ≡ map shown findings.old.items ++ map shown_warning warnings.now) }
+) -> Result<Vec<Finding>, AllocError>
+    ensures { IfOk result (λ found. AreWarnings warnings.now found.items) }
 {
+    let mut found = Vec::new(alloc);
     for warning in warnings {
-        findings.push(finding(alloc, source, warning)?)?;
+        found.push(finding(alloc, source, warning)?)?;
     }
-    Ok(())
+    Ok(found)
 }
 
 fn finding(alloc: Global, source: &mut Source<'_>, warning: &Warning) -> Result<Finding, AllocError>
-    ensures { IfOk result (λ found. shown found ≡ shown_warning warning.now) }
+    ensures { IfOk result (λ found. IsWarning warning.now found) }
 {
     let path = steps(alloc, &warning.place)?;
     let text = warning.to_string(alloc)?;
@@ -138,7 +136,7 @@ fn level(warning: &Warning) -> Level
 }
 
 // Returns the steps from the whole file to a place in the tree.
-fn steps(alloc: Global, place: &Place) -> Result<Vec<Step<'static>>, AllocError>
+fn steps(alloc: Global, place: &TreePlace) -> Result<Vec<Step<'static>>, AllocError>
     ensures { IfOk result (λ steps. map shown_step steps.items ≡ place_steps place.now) }
 {
     let mut steps = command_steps(alloc, place.command.as_slice())?;

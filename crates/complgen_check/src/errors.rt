@@ -3,7 +3,7 @@
 mod checking;
 mod doubles;
 mod finding;
-mod lines;
+mod line_numbers;
 mod nearest;
 mod not_json;
 mod places;
@@ -14,4 +14,4 @@ mod texts;
 
 pub use crate::errors::checking::{Checked, check_file};
 pub use crate::errors::finding::{Finding, Level, Source};
-pub use crate::errors::lines::Lines;
+pub use crate::errors::line_numbers::Lines;

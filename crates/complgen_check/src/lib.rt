@@ -4,9 +4,9 @@
 mod all_warnings;
 mod checking;
 mod errors;
-mod lines;
 mod objects;
 mod report;
+mod text_lines;
 
 pub use crate::all_warnings::tree_warnings;
 pub use crate::checking::check;

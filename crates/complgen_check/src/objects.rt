@@ -8,7 +8,7 @@ ghost use Rattle.json.specs.Value.{value_view};
 ghost use Rattle.complgen_check.specs.Objects.{finding_json, finding_object, object_with};
 
 use crate::errors::{Finding, Lines};
-use crate::lines::level_text;
+use crate::text_lines::level_text;
 use json::{Value, to_vec};
 use std::alloc::{AllocError, Global};
 

@@ -4,8 +4,8 @@ ghost use Rattle.cc_base.specs.Writes.{Writes};
 ghost use Rattle.complgen_check.specs.Report.{finding_text, report_text};
 
 use crate::errors::{Finding, Lines};
-use crate::lines::line;
 use crate::objects::object;
+use crate::text_lines::line;
 use cc_base::{Error, Sink, put_all, put_piece};
 use std::alloc::Global;
 

@@ -1,5 +1,5 @@
--- What is found in the names and descriptions of a command names a premise exactly if the command is
--- not plain, not quiet or not escaped.
+-- Something is found in the names and descriptions of a command exactly if the command is not plain,
+-- not quiet or not escaped.
 use Rattle.std.proofs.Common.{◌≡◌, ◌∙◌, ap, ap₂, refl, ℕ, suc, Bool, true, false, not, cond, ◌&&◌, List, [], ◌∷◌, ◌++◌, Option, Some, None, is_none, unwrap_or, sym, ◌||◌, map, fold, is_some}
 use Rattle.std.specs.Char.{is_ascii_alphanumeric}
 use Rattle.std.specs.List.{list_all}
@@ -19,27 +19,21 @@ use Rattle.cc_command.specs.Quiet.{are_quiet_values, is_quiet_argument, is_quiet
 use Rattle.cc_command.specs.Tree.{Tree, Forest, none, more}
 use Rattle.cc_command.proofs.DifferentNames.{all_differ_append}
 use Rattle.cc_command.specs.Names.{contains_name}
-use Rattle.complgen_lints.specs.Findings.{some_finding}
-use Rattle.complgen_lints.specs.Premises.{is_premise, name_no_premise}
 use Rattle.complgen_lints.specs.Parts.{label_parts, listed_short, listed_text, listed_shorts, listed_texts, long_parts, name_parts, short_parts, some_short, some_text, value_name, content_text, text_part}
-use Rattle.complgen_lints.specs.CommandWarnings.{names_list}
 use Rattle.complgen_lints.specs.SiblingNames.{taken_names, names_from, names_of}
-use Rattle.complgen_lints.specs.TextLints.{argument_list, argument_parts, begins_with_hyphen, command_parts, content_kind, is_label, is_long, part_kind, part_list, parts_list, quote_kind, text_kind, text_list, unless_kind, unplain_kind}
-use Rattle.complgen_lints.specs.Lists.{each_from}
+use Rattle.complgen_lints.specs.TextLints.{argument_list, argument_parts, command_parts, is_label, part_premise, part_list, parts_list, quote_premise, some_finding, text_premise, text_list, unless_passes, unplain}
+use Rattle.complgen_lints.specs.Lists.{each_from, is_nil}
 use Rattle.complgen_lints.specs.declared.found.Spot.{Spot}
 use Rattle.complgen_lints.specs.declared.found.Spot.TheVariants as spot
-use Rattle.complgen_lints.specs.declared.parts.Content.{Content}
-use Rattle.complgen_lints.specs.declared.parts.Content.TheVariants as content
 use Rattle.complgen_lints.specs.declared.parts.Part.{Part}
 use Rattle.complgen_lints.specs.declared.place.Key.{Key}
 use Rattle.complgen_lints.specs.declared.text_lints.TextLint.{TextLint}
 use Rattle.complgen_lints.specs.declared.text_lints.TextLint.TheVariants as lint
-use Rattle.complgen_lints.specs.declared.warning.Kind.{Kind}
-use Rattle.complgen_lints.specs.declared.warning.Kind.TheVariants.{LongWithHyphen, NotPlain, Quote, ShortNotPlain, LoudValue}
+use Rattle.complgen_lints.specs.declared.warning.Premise.{Premise}
+use Rattle.complgen_lints.specs.declared.warning.Premise.TheVariants.{Quote, ShortNotPlain, LoudValue}
 use Rattle.complgen_lints.specs.PlacedNames.{named_part, owner_with, taken_by, taken_from}
-use Rattle.complgen_lints.specs.declared.names.Named.TheVariants.{Child}
 use Rattle.complgen_lints.specs.declared.names.PlacedName.{PlacedName}
-use Rattle.complgen_lints.proofs.Walked.{each_only, none_append}
+use Rattle.complgen_lints.proofs.Walked.{each_only, nil_append}
 
 -- the texts of some names
 abbrev texts : List PlacedName → List (List ℕ)
@@ -67,7 +61,7 @@ found_some found (name ∷ names) word =
 owner_some : (before : List PlacedName) (word : List ℕ) → is_some (owner_with before word) ≡ contains_name (texts before) word
 owner_some before word = found_some None before word
 
-by_none : (found : Option (List ℕ)) (name : PlacedName) → name_no_premise (taken_by Child found name) ≡ not (is_some found)
+by_none : (found : Option (List ℕ)) (name : PlacedName) → is_nil (taken_by found name) ≡ not (is_some found)
 by_none None name = refl
 by_none (Some command) name = refl
 
@@ -90,16 +84,16 @@ one_more before text =
 
 -- nothing is found about names exactly if they differ from each other and from those before
 taken_none : (before names : List PlacedName) →
-    (all_differ (texts before) && name_no_premise (taken_from Child before names)) ≡ all_differ (texts (before ++ names))
+    (all_differ (texts before) && is_nil (taken_from before names)) ≡ all_differ (texts (before ++ names))
 taken_none before [] = and-true (all_differ (texts before)) ∙ ap (λ names. all_differ (texts names)) (sym (append-nil before))
 taken_none before (name ∷ names) =
     let differ = all_differ (texts before) in
-    let found = taken_by Child (owner_with before name.name) name in
-    let more = taken_from Child (before ++ name ∷ []) names in
-    ap (λ b. differ && b) (none_append found more
-    ∙ ap (λ b. b && name_no_premise more) (by_none (owner_with before name.name) name ∙ ap not (owner_some before name.name)))
-    ∙ sym (and_assoc differ (not (contains_name (texts before) name.name)) (name_no_premise more))
-    ∙ ap (λ b. b && name_no_premise more) (sym (one_more (texts before) name.name)
+    let found = taken_by (owner_with before name.name) name in
+    let more = taken_from (before ++ name ∷ []) names in
+    ap (λ b. differ && b) (nil_append found more
+    ∙ ap (λ b. b && is_nil more) (by_none (owner_with before name.name) name ∙ ap not (owner_some before name.name)))
+    ∙ sym (and_assoc differ (not (contains_name (texts before) name.name)) (is_nil more))
+    ∙ ap (λ b. b && is_nil more) (sym (one_more (texts before) name.name)
     ∙ ap all_differ (sym (map-append (λ name. name.name) before (name ∷ []))))
     ∙ taken_none (before ++ name ∷ []) names
     ∙ ap (λ names. all_differ (texts names)) (append_assoc before (name ∷ []) names)
@@ -129,70 +123,33 @@ forest_texts index (more node below rest) =
     map-append (λ name. name.name) (names_of index node) (names_from (suc index) rest)
     ∙ ap₂ (λ a b. a ++ b) (node_texts index node) (forest_texts (suc index) rest)
 
-pub siblings_none : (children : Forest) → name_no_premise (taken_names children) ≡ siblings_differ children
+pub siblings_none : (children : Forest) → is_nil (taken_names children) ≡ siblings_differ children
 unfolding siblings_differ
 siblings_none children =
     taken_none [] (names_from 0 children) ∙ ap all_differ (forest_texts 0 children)
 
--- ---- the kinds about texts and shorts, but for signs that end a text of the zsh script, name a premise
-
-abbrev is_loud : Option Kind → Bool
-is_loud None = true
-is_loud (Some kind) = is_premise kind
-
-unless_loud : (test : Bool) (kind : Kind) → is_premise kind ≡ true → is_loud (unless_kind test kind) ≡ true
-unless_loud true kind h = refl
-unless_loud false kind h = h
-
-unplain_warns : (hyphen : Bool) (text : List ℕ) → is_premise (cond hyphen (LongWithHyphen text) (NotPlain text)) ≡ true
-unplain_warns true text = refl
-unplain_warns false text = refl
-
-plain_loud : (label : Bool) (key : Key) (text : List ℕ) →
-    is_loud (cond label (unless_kind (has_no_quote text) Quote) (unless_kind (is_plain_name text) (unplain_kind key text))) ≡ true
-plain_loud true key text = unless_loud (has_no_quote text) Quote refl
-plain_loud false key text =
-    unless_loud (is_plain_name text) (unplain_kind key text) (unplain_warns (is_long key && begins_with_hyphen text) text)
-
-quote_loud : (quote : Option ℕ) → is_loud (quote_kind quote) ≡ true
-quote_loud None = refl
-quote_loud (Some quote) = refl
-
--- a lint for texts that are not plain, not quiet or not escaped
-abbrev tests_premise : TextLint → Bool
-tests_premise lint.Zsh = false
-tests_premise _ = true
-
-kind_loud : (lint : TextLint) → tests_premise lint ≡ true → (key : Key) (content : Content) → is_loud (content_kind lint key content) ≡ true
-kind_loud lint.Plain h key (content.Text text) = plain_loud (is_label key) key text
-kind_loud lint.Quiet h key (content.Text text) = unless_loud (is_quiet_value text) (LoudValue text) refl
-kind_loud lint.Quotes h key (content.Text text) = quote_loud (unescaped_quote text)
-kind_loud lint.Zsh h key (content.Text text) = cc
-kind_loud _ h key (content.Short short) = unless_loud (is_ascii_alphanumeric short) (ShortNotPlain short) refl
-
 -- ---- a part, and some parts
 
 abbrev passes : TextLint → Part → Bool
-passes lint part = is_none (part_kind lint part)
+passes lint part = is_none (part_premise lint part)
 
-finding_only : (spot : Spot) (key : Key) (item : Option ℕ) (kind : Option Kind) → is_loud kind ≡ true →
-    name_no_premise (some_finding spot key item kind) ≡ is_none kind
-finding_only spot key item None h = refl
-finding_only spot key item (Some kind) h = ap (λ b. not b && true) h
+finding_only : (spot : Spot) (key : Key) (item : Option ℕ) (premise : Option Premise) →
+    is_nil (some_finding spot key item premise) ≡ is_none premise
+finding_only spot key item None = refl
+finding_only spot key item (Some premise) = refl
 
-parts_only : (lint : TextLint) → tests_premise lint ≡ true → (spot : Spot) (parts : List Part) → name_no_premise (parts_list lint spot parts) ≡ list_all (passes lint) parts
-parts_only lint h spot [] = refl
-parts_only lint h spot (part ∷ parts) =
-    none_append (part_list lint spot part) (parts_list lint spot parts)
-    ∙ ap₂ (λ a b. a && b) (finding_only spot part.key part.item (part_kind lint part) (kind_loud lint h part.key part.content))
-    (parts_only lint h spot parts)
+parts_only : (lint : TextLint) (spot : Spot) (parts : List Part) → is_nil (parts_list lint spot parts) ≡ list_all (passes lint) parts
+parts_only lint spot [] = refl
+parts_only lint spot (part ∷ parts) =
+    nil_append (part_list lint spot part) (parts_list lint spot parts)
+    ∙ ap₂ (λ a b. a && b) (finding_only spot part.key part.item (part_premise lint part)) (parts_only lint spot parts)
 
-none_unless : (test : Bool) (kind : Kind) → is_none (unless_kind test kind) ≡ test
-none_unless true kind = refl
-none_unless false kind = refl
+none_unless : (test : Bool) (premise : Premise) → is_none (unless_passes test premise) ≡ test
+none_unless true premise = refl
+none_unless false premise = refl
 
 -- the result of a test of texts for the part of an optional text, and for the parts of a list
-module _ (lint : TextLint) (key : Key) (test : List ℕ → Bool) (same : (text : List ℕ) → is_none (text_kind lint key text) ≡ test text) where
+module _ (lint : TextLint) (key : Key) (test : List ℕ → Bool) (same : (text : List ℕ) → is_none (text_premise lint key text) ≡ test text) where
   some_text_passes : (text : Option (List ℕ)) → list_all (passes lint) (some_text key None text) ≡ passes_if_some test text
   some_text_passes None = refl
   some_text_passes (Some text) = ap (λ b. b && true) (same text) ∙ and-true (test text)
@@ -221,14 +178,14 @@ three_pass lint some others last =
 
 -- ---- plain names
 
-plain_same : (key : Key) → is_label key ≡ false → (text : List ℕ) → is_none (text_kind lint.Plain key text) ≡ is_plain_name text
+plain_same : (key : Key) → is_label key ≡ false → (text : List ℕ) → is_none (text_premise lint.Plain key text) ≡ is_plain_name text
 plain_same key h text =
-    ap (λ label. is_none (cond label (unless_kind (has_no_quote text) Quote) (unless_kind (is_plain_name text) (unplain_kind key text)))) h
-    ∙ none_unless (is_plain_name text) (unplain_kind key text)
+    ap (λ label. is_none (cond label (unless_passes (has_no_quote text) Quote) (unless_passes (is_plain_name text) (unplain key text)))) h
+    ∙ none_unless (is_plain_name text) (unplain key text)
 
-label_same : (key : Key) → is_label key ≡ true → (text : List ℕ) → is_none (text_kind lint.Plain key text) ≡ has_no_quote text
+label_same : (key : Key) → is_label key ≡ true → (text : List ℕ) → is_none (text_premise lint.Plain key text) ≡ has_no_quote text
 label_same key h text =
-    ap (λ label. is_none (cond label (unless_kind (has_no_quote text) Quote) (unless_kind (is_plain_name text) (unplain_kind key text)))) h
+    ap (λ label. is_none (cond label (unless_passes (has_no_quote text) Quote) (unless_passes (is_plain_name text) (unplain key text)))) h
     ∙ none_unless (has_no_quote text) Quote
 
 -- a name, and its aliases
@@ -281,9 +238,9 @@ in_a_row true true true true true false g h = refl
 in_a_row true true true true true true false h = refl
 in_a_row true true true true true true true h = refl
 
-plain_argument : (index : ℕ) (argument : Arg) → name_no_premise (argument_list lint.Plain index argument) ≡ is_plain_argument argument
+plain_argument : (index : ℕ) (argument : Arg) → is_nil (argument_list lint.Plain index argument) ≡ is_plain_argument argument
 plain_argument index argument =
-    parts_only lint.Plain refl (spot.Argument index) (argument_parts lint.Plain argument)
+    parts_only lint.Plain (spot.Argument index) (argument_parts lint.Plain argument)
     ∙ three_pass lint.Plain (label_parts argument) (short_parts argument) (long_parts argument)
     ∙ ap₂ (λ a b. a && b) (ap₂ (λ a b. a && b) (labels_pass argument) (all_shorts_pass argument)) (longs_pass argument)
     ∙ in_a_row (has_no_quote argument.id) (list_all has_no_quote argument.value_names)
@@ -300,15 +257,15 @@ of_command false b c d e = refl
 of_command true false c d e = refl
 of_command true true c d e = refl
 
-pub plain_command : (tree : Tree) → name_no_premise (names_list tree) ≡ plain_test tree
+pub plain_command : (tree : Tree) → is_nil (text_list lint.Plain tree ++ taken_names tree.children) ≡ plain_test tree
 plain_command tree =
     let node = tree.node in
     let names = parts_list lint.Plain spot.Command (command_parts lint.Plain node) in
     let arguments = each_from (argument_list lint.Plain) 0 node.arguments in
-    none_append (names ++ arguments) (taken_names tree.children)
+    nil_append (names ++ arguments) (taken_names tree.children)
     ∙ ap₂ (λ a b. a && b)
-    (none_append names arguments
-    ∙ ap₂ (λ a b. a && b) (parts_only lint.Plain refl spot.Command (name_parts node) ∙ names_pass node)
+    (nil_append names arguments
+    ∙ ap₂ (λ a b. a && b) (parts_only lint.Plain spot.Command (name_parts node) ∙ names_pass node)
     (each_only (argument_list lint.Plain) is_plain_argument plain_argument 0 node.arguments))
     (siblings_none tree.children)
     ∙ of_command (is_plain_name node.name) (list_all is_plain_name node.visible_aliases) (list_all is_plain_name node.aliases)
@@ -316,7 +273,7 @@ plain_command tree =
 
 -- ---- quiet values
 
-quiet_same : (key : Key) (text : List ℕ) → is_none (text_kind lint.Quiet key text) ≡ is_quiet_value text
+quiet_same : (key : Key) (text : List ℕ) → is_none (text_premise lint.Quiet key text) ≡ is_quiet_value text
 quiet_same key text = none_unless (is_quiet_value text) (LoudValue text)
 
 values_pass : (index : ℕ) (values : List PossibleValue) →
@@ -329,33 +286,33 @@ some_values_pass : (values : Option (List PossibleValue)) →
 some_values_pass None = refl
 some_values_pass (Some values) = values_pass 0 values
 
-quiet_argument : (index : ℕ) (argument : Arg) → name_no_premise (argument_list lint.Quiet index argument) ≡ is_quiet_argument argument
+quiet_argument : (index : ℕ) (argument : Arg) → is_nil (argument_list lint.Quiet index argument) ≡ is_quiet_argument argument
 quiet_argument index argument =
-    parts_only lint.Quiet refl (spot.Argument index) (argument_parts lint.Quiet argument)
+    parts_only lint.Quiet (spot.Argument index) (argument_parts lint.Quiet argument)
     ∙ some_values_pass (possible_values argument)
 
-pub quiet_command : (tree : Tree) → name_no_premise (text_list lint.Quiet tree) ≡ is_quiet_node tree.node
+pub quiet_command : (tree : Tree) → is_nil (text_list lint.Quiet tree) ≡ is_quiet_node tree.node
 quiet_command tree = each_only (argument_list lint.Quiet) is_quiet_argument quiet_argument 0 tree.node.arguments
 
 -- ---- quotes
 
-quote_none : (quote : Option ℕ) → is_none (quote_kind quote) ≡ is_none quote
+quote_none : (quote : Option ℕ) → is_none (quote_premise quote) ≡ is_none quote
 quote_none None = refl
 quote_none (Some quote) = refl
 
-quotes_same : (key : Key) (text : List ℕ) → is_none (text_kind lint.Quotes key text) ≡ is_escaped_text text
+quotes_same : (key : Key) (text : List ℕ) → is_none (text_premise lint.Quotes key text) ≡ is_escaped_text text
 quotes_same key text = quote_none (unescaped_quote text)
 
-escaped_argument : (index : ℕ) (argument : Arg) → name_no_premise (argument_list lint.Quotes index argument) ≡ is_escaped_argument argument
+escaped_argument : (index : ℕ) (argument : Arg) → is_nil (argument_list lint.Quotes index argument) ≡ is_escaped_argument argument
 escaped_argument index argument =
-    parts_only lint.Quotes refl (spot.Argument index) (some_text Key.Help None argument.help)
+    parts_only lint.Quotes (spot.Argument index) (some_text Key.Help None argument.help)
     ∙ some_text_passes lint.Quotes Key.Help is_escaped_text (quotes_same Key.Help) argument.help
 
-pub escaped_command : (tree : Tree) → name_no_premise (text_list lint.Quotes tree) ≡ is_escaped_node tree.node
+pub escaped_command : (tree : Tree) → is_nil (text_list lint.Quotes tree) ≡ is_escaped_node tree.node
 escaped_command tree =
     let about = some_text Key.About None tree.node.about in
-    none_append (parts_list lint.Quotes spot.Command about) (each_from (argument_list lint.Quotes) 0 tree.node.arguments)
+    nil_append (parts_list lint.Quotes spot.Command about) (each_from (argument_list lint.Quotes) 0 tree.node.arguments)
     ∙ ap₂ (λ a b. a && b)
-    (parts_only lint.Quotes refl spot.Command about
+    (parts_only lint.Quotes spot.Command about
     ∙ some_text_passes lint.Quotes Key.About is_escaped_text (quotes_same Key.About) tree.node.about)
     (each_only (argument_list lint.Quotes) is_escaped_argument escaped_argument 0 tree.node.arguments)

@@ -1,78 +1,57 @@
--- Conditions under which no warning of a list says that a premise does not hold.
-use Rattle.std.proofs.Common.{◌≡◌, ◌∙◌, ap, ap₂, refl, ℕ, suc, Bool, true, false, not, ◌&&◌, IsTrue, List, [], ◌∷◌, ◌++◌, map, sym, subst}
+-- Conditions under which nothing is found, and no warning says that a premise does not hold.
+use Rattle.std.proofs.Common.{◌≡◌, ◌∙◌, ap, ap₂, refl, ℕ, suc, Bool, true, false, ◌&&◌, IsTrue, List, [], ◌∷◌, ◌++◌, map}
 use Rattle.std.specs.List.{list_all}
 use Rattle.std.proofs.lemmas.Bool.{and_parts}
 use Rattle.std.proofs.lemmas.List.Folds.{list_all-append}
-use Rattle.complgen_lints.specs.Findings.{placed}
+use Rattle.complgen_lints.specs.Findings.{placed_finding}
+use Rattle.complgen_lints.specs.Lists.{each_from, is_nil, unless}
 use Rattle.complgen_lints.specs.Notes.{are_notes, is_note}
-use Rattle.complgen_lints.specs.Premises.{is_premise, name_no_premise}
-use Rattle.complgen_lints.specs.Lists.{each_from, unless, when}
+use Rattle.complgen_lints.specs.Premises.{name_no_premise, premise_at, premises_in}
+use Rattle.complgen_lints.specs.declared.found.Finding.{Finding}
+use Rattle.complgen_lints.specs.declared.place.TreePlace.{TreePlace}
 use Rattle.complgen_lints.specs.declared.warning.Kind.{Kind}
-use Rattle.complgen_lints.specs.declared.warning.Kind.TheVariants.{HiddenArgument, HiddenCommand, RunsCommand}
+use Rattle.complgen_lints.specs.declared.warning.Kind.TheVariants as kind
+use Rattle.complgen_lints.specs.declared.warning.Premise.{Premise}
 use Rattle.complgen_lints.specs.declared.warning.Warning.{Warning}
 
 pub both_true : (a b : Bool) → IsTrue a → IsTrue b → IsTrue (a && b)
 both_true true b first second = second
 both_true false b first second = first
 
+-- ---- notes
+
 pub notes_append : (some others : List Warning) → are_notes (some ++ others) ≡ (are_notes some && are_notes others)
 notes_append some others = list_all-append (λ warning. is_note warning.kind) some others
 
--- ---- notes
-
-note_names_none : (kind : Kind) → IsTrue (is_note kind) → IsTrue (not (is_premise kind))
-note_names_none HiddenCommand h = refl
-note_names_none HiddenArgument h = refl
-note_names_none (RunsCommand words) h = refl
-note_names_none _ h = cc
+note_none : (place : TreePlace) (kind : Kind) (others : List (Finding Premise)) → IsTrue (is_note kind) → premise_at place kind ++ others ≡ others
+note_none place (kind.Premise premise) others h = cc
+note_none place (kind.Advice advice) others h = refl
 
 -- no note says that a premise does not hold
-pub notes_name_none : (warnings : List Warning) → IsTrue (are_notes warnings) → IsTrue (name_no_premise warnings)
-notes_name_none [] h = refl
-notes_name_none (warning ∷ warnings) h =
+pub notes_none : (warnings : List Warning) → IsTrue (are_notes warnings) → premises_in warnings ≡ []
+notes_none [] h = refl
+notes_none (warning ∷ warnings) h =
     let parts = and_parts (is_note warning.kind) (are_notes warnings) h in
-    both_true (not (is_premise warning.kind)) (name_no_premise warnings)
-    (note_names_none warning.kind parts.0) (notes_name_none warnings parts.1)
+    note_none warning.place warning.kind (premises_in warnings) parts.0 ∙ notes_none warnings parts.1
 
--- ---- lists that name premises exactly if a test fails
+-- ---- lists that are empty exactly if a test passes
 
-pub none_append : (some others : List Warning) → name_no_premise (some ++ others) ≡ (name_no_premise some && name_no_premise others)
-none_append some others = list_all-append (λ warning. not (is_premise warning.kind)) some others
+pub nil_append : {A : Type 0} (some others : List A) → is_nil (some ++ others) ≡ (is_nil some && is_nil others)
+nil_append [] others = refl
+nil_append (thing ∷ some) others = refl
 
--- a list with a warning about a premise unless a test passes names none exactly if the test passes
-pub unless_none : (test : Bool) (warning : Warning) → is_premise warning.kind ≡ true → name_no_premise (unless test warning) ≡ test
-unless_none true warning h = refl
-unless_none false warning h = ap (λ b. not b && true) h
+pub unless_nil : {A : Type 0} (test : Bool) (thing : A) → is_nil (unless test thing) ≡ test
+unless_nil true thing = refl
+unless_nil false thing = refl
 
-pub each_only : {A : Type 0} (f : ℕ → A → List Warning) (test : A → Bool) →
-    ((index : ℕ) (thing : A) → name_no_premise (f index thing) ≡ test thing) →
-    (index : ℕ) (things : List A) → name_no_premise (each_from f index things) ≡ list_all test things
+pub each_only : {A B : Type 0} (f : ℕ → A → List B) (test : A → Bool) →
+    ((index : ℕ) (thing : A) → is_nil (f index thing) ≡ test thing) →
+    (index : ℕ) (things : List A) → is_nil (each_from f index things) ≡ list_all test things
 each_only f test h index [] = refl
 each_only f test h index (thing ∷ things) =
-    none_append (f index thing) (each_from f (suc index) things)
+    nil_append (f index thing) (each_from f (suc index) things)
     ∙ ap₂ (λ a b. a && b) (h index thing) (each_only f test h (suc index) things)
 
-pub placed_none : (path : List ℕ) (findings : List Warning) → name_no_premise (map (placed path) findings) ≡ name_no_premise findings
-placed_none path [] = refl
-placed_none path (finding ∷ findings) = ap (λ b. not (is_premise finding.kind) && b) (placed_none path findings)
-
--- ---- lists that name no premise
-
-pub both_none : (some others : List Warning) → IsTrue (name_no_premise some) → IsTrue (name_no_premise others) → IsTrue (name_no_premise (some ++ others))
-both_none some others first second =
-    subst IsTrue (sym (none_append some others)) (both_true (name_no_premise some) (name_no_premise others) first second)
-
-pub when_none : (test : Bool) (warning : Warning) → is_premise warning.kind ≡ false → IsTrue (name_no_premise (when test warning))
-when_none true warning h = ap (λ b. not b && true) h
-when_none false warning h = refl
-
-pub unless_other : (test : Bool) (warning : Warning) → is_premise warning.kind ≡ false → IsTrue (name_no_premise (unless test warning))
-unless_other true warning h = refl
-unless_other false warning h = ap (λ b. not b && true) h
-
-pub each_none : {A : Type 0} (f : ℕ → A → List Warning) →
-    ((index : ℕ) (thing : A) → IsTrue (name_no_premise (f index thing))) →
-    (index : ℕ) (things : List A) → IsTrue (name_no_premise (each_from f index things))
-each_none f h index [] = refl
-each_none f h index (thing ∷ things) =
-    both_none (f index thing) (each_from f (suc index) things) (h index thing) (each_none f h (suc index) things)
+pub placed_nil : (path : List ℕ) (findings : List (Finding Premise)) → is_nil (map (placed_finding path) findings) ≡ is_nil findings
+placed_nil path [] = refl
+placed_nil path (finding ∷ findings) = refl

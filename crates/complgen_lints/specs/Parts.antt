@@ -70,15 +70,9 @@ label_parts argument =
 abbrev pub values_of : Arg → List PossibleValue
 values_of argument = unwrap_or (possible_values argument) []
 
--- the names of possible values, and their help texts
+-- the names of possible values
 abbrev pub value_name : ℕ → PossibleValue → List Part
 value_name item value = text_part key.PossibleValues (Some item) value.name ∷ []
 
 abbrev pub value_names : List PossibleValue → List Part
 value_names values = each_from value_name 0 values
-
-abbrev pub value_help : ℕ → PossibleValue → List Part
-value_help item value = some_text key.PossibleValues (Some item) value.help
-
-abbrev pub value_helps : List PossibleValue → List Part
-value_helps values = each_from value_help 0 values

@@ -1,20 +1,17 @@
--- Names of arguments or subcommands with their places, and names that are already taken.
+-- Names of subcommands with their places, and names that are already taken.
 use Rattle.std.specs.Prelude.{ℕ, List, [], ◌∷◌, ◌++◌, fold, if◌then◌else◌, Option, Some, None}
 use Rattle.std.specs.Borrow.{Bor}
 use Rattle.std.specs.HashMap.{HashMap, get_by}
 use Rattle.std.specs.Str.{bytes_eq}
 use Rattle.complgen_lints.specs.Findings.{finding}
 use Rattle.complgen_lints.specs.Parts.{content_text}
-use Rattle.complgen_lints.specs.declared.warning.Warning.{Warning}
-use Rattle.complgen_lints.specs.declared.found.Spot.{Spot}
-use Rattle.complgen_lints.specs.declared.found.Spot.TheVariants.{Argument, Child}
-use Rattle.complgen_lints.specs.declared.names.Named.{Named}
-use Rattle.complgen_lints.specs.declared.names.Named.TheVariants as named
+use Rattle.complgen_lints.specs.declared.found.Finding.{Finding}
+use Rattle.complgen_lints.specs.declared.found.Spot.TheVariants.{Child}
 use Rattle.complgen_lints.specs.declared.names.PlacedName.{PlacedName}
 use Rattle.complgen_lints.specs.declared.parts.Part.{Part}
 use Rattle.complgen_lints.specs.declared.place.Key.{Key}
-use Rattle.complgen_lints.specs.declared.warning.Kind.{Kind}
-use Rattle.complgen_lints.specs.declared.warning.Kind.TheVariants.{TakenId, TakenIndex, TakenLong, TakenName, TakenShort}
+use Rattle.complgen_lints.specs.declared.warning.Premise.{Premise}
+use Rattle.complgen_lints.specs.declared.warning.Premise.TheVariants.{TakenName}
 
 -- a name of the argument or subcommand with this index, at its place
 abbrev pub placed_name : ℕ → Key → Option ℕ → List ℕ → List ℕ → PlacedName
@@ -35,27 +32,14 @@ owner_with names word =
 unfoldable pub owner_in : {S : Type 0} → HashMap (Bor (List ℕ)) (List ℕ) S → List ℕ → Option (List ℕ)
 owner_in seen word = get_by (λ other. bytes_eq word other.now) seen
 
--- a name that an earlier argument or child has
-abbrev pub taken_kind : Named → List ℕ → List ℕ → Kind
-taken_kind named.Id name id = TakenId name
-taken_kind named.Long name id = TakenLong name id
-taken_kind named.Short name id = TakenShort name id
-taken_kind named.Index name id = TakenIndex name id
-taken_kind named.Child name command = TakenName name command
-
--- the spot of a name of this kind
-abbrev pub spot_of : Named → ℕ → Spot
-spot_of named.Child index = Child index
-spot_of _ index = Argument index
-
--- a finding about a name, if it has an earlier owner
-abbrev pub taken_by : Named → Option (List ℕ) → PlacedName → List Warning
-taken_by named None name = []
-taken_by named (Some owner) name =
-    finding (spot_of named name.index) name.key name.item (taken_kind named name.name owner) ∷ []
+-- a finding about a name of a subcommand, if it has an earlier owner
+abbrev pub taken_by : Option (List ℕ) → PlacedName → List (Finding Premise)
+taken_by None name = []
+taken_by (Some owner) name =
+    finding (Child name.index) name.key name.item (TakenName name.name owner) ∷ []
 
 -- a finding for each name that equals a name before it
-abbrev pub taken_from : Named → List PlacedName → List PlacedName → List Warning
-taken_from named before [] = []
-taken_from named before (name ∷ names) = taken_by named (owner_with before name.name) name
-    ++ taken_from named (before ++ name ∷ []) names
+abbrev pub taken_from : List PlacedName → List PlacedName → List (Finding Premise)
+taken_from before [] = []
+taken_from before (name ∷ names) = taken_by (owner_with before name.name) name
+    ++ taken_from (before ++ name ∷ []) names

@@ -1,7 +1,7 @@
 -- The keys as a tree file spells them.
 use Rattle.std.specs.Prelude.{ℕ, List, codes}
 use Rattle.complgen_lints.specs.declared.place.Key.{Key}
-use Rattle.complgen_lints.specs.declared.place.Key.TheVariants.{Name, BinName, About, Aliases, VisibleAliases, Hide, Id, Short, Long, ShortAliases, VisibleShortAliases, Help, Action, NumArgs, ValueNames, PossibleValues, ValueHint, ValuesFrom, ValuesFile, ValuesSplit, Index, ConflictsWith}
+use Rattle.complgen_lints.specs.declared.place.Key.TheVariants.{Name, BinName, About, Aliases, VisibleAliases, Hide, Id, Short, Long, ShortAliases, VisibleShortAliases, Help, Action, NumArgs, ValueNames, PossibleValues, ValueHint, ValuesFrom, ValuesFile, ValuesSplit, ValuesWords, ValuesProtocol, Index, ConflictsWith}
 
 -- a key as a tree file spells it
 abbrev pub key_text : Key → List ℕ
@@ -25,5 +25,7 @@ key_text ValueHint = codes "value_hint"
 key_text ValuesFrom = codes "values_from"
 key_text ValuesFile = codes "values_file"
 key_text ValuesSplit = codes "values_split"
+key_text ValuesWords = codes "values_words"
+key_text ValuesProtocol = codes "values_protocol"
 key_text Index = codes "index"
 key_text ConflictsWith = codes "conflicts_with"

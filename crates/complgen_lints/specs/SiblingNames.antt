@@ -4,9 +4,9 @@ use Rattle.cc_command.specs.declared.node.Node.{Node}
 use Rattle.cc_command.specs.Tree.{Forest, none, more}
 use Rattle.complgen_lints.specs.Parts.{name_parts}
 use Rattle.complgen_lints.specs.PlacedNames.{named_part, taken_from}
-use Rattle.complgen_lints.specs.declared.warning.Warning.{Warning}
-use Rattle.complgen_lints.specs.declared.names.Named.TheVariants.{Child}
+use Rattle.complgen_lints.specs.declared.found.Finding.{Finding}
 use Rattle.complgen_lints.specs.declared.names.PlacedName.{PlacedName}
+use Rattle.complgen_lints.specs.declared.warning.Premise.{Premise}
 
 -- the name and the aliases of a subcommand
 abbrev pub names_of : ℕ → Node → List PlacedName
@@ -18,5 +18,5 @@ names_from index none = []
 names_from index (more node below rest) = names_of index node ++ names_from (suc index) rest
 
 -- the names of subcommands that are already taken
-abbrev pub taken_names : Forest → List Warning
-taken_names children = taken_from Child [] (names_from 0 children)
+abbrev pub taken_names : Forest → List (Finding Premise)
+taken_names children = taken_from [] (names_from 0 children)

@@ -1,11 +1,9 @@
-//! Collects warnings about one command.
+//! Collects what is found about one command.
 
-ghost use Rattle.std.specs.Prelude.{◌≡◌, ◌∷◌, [], ◌++◌, IfOk, None, OnOk};
+ghost use Rattle.std.specs.Prelude.{◌≡◌, ◌∷◌, [], ◌++◌, IfOk, OnOk};
 ghost use Rattle.complgen_lints.specs.Findings.{finding, spot_argument, spot_path};
-ghost use Rattle.complgen_lints.specs.Lists.{when};
 
-use crate::place::{Key, Place};
-use crate::warning::{Kind, Warning};
+use crate::place::{Key, TreePlace};
 use cc_base::Items;
 use std::alloc::{AllocError, Global};
 use std::marker::Model;
@@ -22,50 +20,56 @@ pub(crate) enum Spot {
     Argument(usize),
 }
 
-/// The warnings about one command, in the order in which they were added. Their places begin at
-/// the command.
+/// A premise that does not hold, or advice, with its place, which begins at a command.
 #[derive(Drop)]
-pub(crate) struct Found {
-    alloc: Global,
-    list: Items<Warning>,
+pub(crate) struct Finding<K> {
+    pub(crate) place: TreePlace,
+    pub(crate) kind: K,
 }
 
-impl Model for Found {
-    ghost use Rattle.std.specs.Prelude.{List};
-    ghost use Rattle.complgen_lints.specs.declared.warning.Warning.{Warning};
+/// Findings about one command, in the order in which they were added.
+#[derive(Drop)]
+pub(crate) struct Found<K> {
+    alloc: Global,
+    list: Items<Finding<K>>,
+}
 
-    ghost Value = { List Warning };
+impl<K> Model for Found<K> {
+    ghost use Rattle.std.specs.Prelude.{List};
+    ghost use Rattle.complgen_lints.specs.declared.found.Finding.{Finding};
+
+    ghost Value = { List (Finding K) };
 
     ghost view = { λ found. found.list };
 }
 
-impl Found {
+impl<K: Drop> Found<K> {
     /// Returns an empty collector.
-    pub(crate) fn new(alloc: Global) -> Found
+    pub(crate) fn new(alloc: Global) -> Found<K>
         ensures { result ≡ [] }
     {
         let list = Items::new(alloc);
         Found { alloc, list }
     }
 
-    /// Returns the allocator for the texts of warnings.
+    /// Returns the allocator for the texts of findings.
     pub(crate) fn allocator(&self) -> Global {
         self.alloc
     }
 
-    /// Adds a warning.
-    pub(crate) fn note(&mut self, spot: Spot, key: Key, item: Option<usize>, kind: Kind) -> Added
+    /// Adds a finding about `key`, or about `item` of the key's list.
+    pub(crate) fn note(&mut self, spot: Spot, key: Key, item: Option<usize>, kind: K) -> Added
         ensures { OnOk result (self.new ≡ self.old ++ finding spot key item kind ∷ []) }
     {
         match spot_path(self.alloc, spot) {
             Ok(command) => {
-                let place = Place {
+                let place = TreePlace {
                     command,
                     argument: spot_argument(spot),
                     key: Some(key),
                     item,
                 };
-                self.list.push(Warning { place, kind })?;
+                self.list.push(Finding { place, kind })?;
                 Ok(())
             }
             Err(error) => {
@@ -76,11 +80,9 @@ impl Found {
         }
     }
 
-    /// Adds a warning about `key` if `wrong` is true. Inlined, so that nothing is made if it is not.
+    /// Adds a finding about `key` if `wrong` is true. Inlined, so that nothing is made if it is not.
     #[inline(always)]
-    pub(crate) fn note_if(&mut self, wrong: bool, spot: Spot, key: Key, kind: Kind) -> Added
-        ensures { OnOk result (self.new ≡ self.old ++ when wrong (finding spot key None kind)) }
-    {
+    pub(crate) fn note_if(&mut self, wrong: bool, spot: Spot, key: Key, kind: K) -> Added {
         if !wrong {
             drop(kind);
             return Ok(());
@@ -88,8 +90,8 @@ impl Found {
         self.note(spot, key, None, kind)
     }
 
-    /// Returns the warnings. Allocates nothing.
-    pub(crate) fn into_vec(self) -> Vec<Warning>
+    /// Returns the findings. Allocates nothing.
+    pub(crate) fn into_vec(self) -> Vec<Finding<K>>
         ensures { result.items ≡ self }
     {
         self.list.into_vec()

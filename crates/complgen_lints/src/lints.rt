@@ -1,9 +1,7 @@
 //! The lints of one command and its arguments.
 
-ghost use Rattle.std.specs.Prelude.{◌≡◌, ◌++◌, OnOk, map};
-ghost use Rattle.complgen_lints.specs.CommandWarnings.{findings_of, hidden_argument, hidden_list};
-ghost use Rattle.complgen_lints.specs.CommandWarnings.{names_list, settings_list, texts_list};
-ghost use Rattle.complgen_lints.specs.Lists.{each_from};
+ghost use Rattle.std.specs.Prelude.{◌≡◌, ◌++◌, OnOk};
+ghost use Rattle.complgen_lints.specs.PremiseList.{premises_of};
 
 use crate::argument_lints::push_arguments;
 use crate::found::{Added, Found, Spot};
@@ -13,64 +11,47 @@ use crate::scopes::push_scope;
 use crate::siblings::push_taken_names;
 use crate::text_lints::{TextLint, push_text_findings};
 use crate::value_lints::push_sources;
-use crate::warning::Kind;
+use crate::warning::{Advice, Premise};
+use crate::zsh_lints::push_zsh_signs;
 use cc_arg::Arg;
 use cc_command::Command;
 
-/// Adds the warnings about `command`, which inherits the arguments `inherited`.
-pub(crate) fn push_findings(found: &mut Found, inherited: &[&Arg], command: &Command) -> Added
-    ensures { OnOk result (found.new ≡ found.old
-        ++ findings_of (map (λ other. other.now) inherited.now) command.now) }
-{
-    push_names(found, command)?;
-    push_texts(found, command)?;
-    push_settings(found, command)?;
-    push_scope(found, inherited, command)?;
-    push_hidden(found, command)?;
-    push_sources(found, command.get_arguments())
-}
-
-fn push_names(found: &mut Found, command: &Command) -> Added
-    ensures { OnOk result (found.new ≡ found.old ++ names_list command.now) }
+/// Adds the premises about `command` by itself that do not hold.
+pub(crate) fn push_premises(found: &mut Found<Premise>, command: &Command) -> Added
+    ensures { OnOk result (found.new ≡ found.old ++ premises_of command.now) }
 {
     push_text_findings(found, TextLint::Plain, command)?;
-    push_taken_names(found, command.get_subcommands())
-}
-
-fn push_texts(found: &mut Found, command: &Command) -> Added
-    ensures { OnOk result (found.new ≡ found.old ++ texts_list command.now) }
-{
+    push_taken_names(found, command.get_subcommands())?;
     push_text_findings(found, TextLint::Quiet, command)?;
-    push_text_findings(found, TextLint::Quotes, command)?;
-    push_text_findings(found, TextLint::Zsh, command)
+    push_text_findings(found, TextLint::Quotes, command)
 }
 
-fn push_settings(found: &mut Found, command: &Command) -> Added
-    ensures { OnOk result (found.new ≡ found.old ++ settings_list command.now) }
-{
+/// Adds the other findings about `command`, which inherits the arguments `inherited`.
+pub(crate) fn push_advice(
+    found: &mut Found<Advice>,
+    inherited: &[&Arg],
+    command: &Command,
+) -> Added {
+    let arguments = command.get_arguments();
+    push_zsh_signs(found, arguments)?;
+    push_settings(found, command)?;
+    push_scope(found, inherited, arguments)?;
+    push_hidden(found, command)?;
+    push_sources(found, arguments)
+}
+
+fn push_settings(found: &mut Found<Advice>, command: &Command) -> Added {
     push_arguments(found, command)?;
     push_positionals(found, command.get_arguments())
 }
 
-fn push_hidden(found: &mut Found, command: &Command) -> Added
-    ensures { OnOk result (found.new ≡ found.old ++ hidden_list command.now) }
-{
+fn push_hidden(found: &mut Found<Advice>, command: &Command) -> Added {
     let hidden = command.is_hide_set();
-    found.note_if(hidden, Spot::Command, Key::Hide, Kind::HiddenCommand)?;
-    push_hidden_arguments(found, command.get_arguments())
-}
-
-fn push_hidden_arguments(found: &mut Found, arguments: &[Arg]) -> Added
-    ensures { OnOk result (found.new ≡ found.old ++ each_from hidden_argument 0 arguments.now) }
-{
-    for (index, argument) in arguments.iter().enumerate() {
+    found.note_if(hidden, Spot::Command, Key::Hide, Advice::HiddenCommand)?;
+    for (index, argument) in command.get_arguments().iter().enumerate() {
+        let spot = Spot::Argument(index);
         let hidden = argument.is_hide_set();
-        found.note_if(
-            hidden,
-            Spot::Argument(index),
-            Key::Hide,
-            Kind::HiddenArgument,
-        )?;
+        found.note_if(hidden, spot, Key::Hide, Advice::HiddenArgument)?;
     }
     Ok(())
 }

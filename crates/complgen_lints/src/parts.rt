@@ -4,12 +4,12 @@ ghost use Rattle.std.specs.Prelude.{◌≡◌, ◌∷◌, [], ◌++◌, None, On
 ghost use Rattle.std.specs.Option.{option_copied};
 ghost use Rattle.complgen_lints.specs.Parts.{label_parts, listed_shorts, listed_texts, long_parts};
 ghost use Rattle.complgen_lints.specs.Parts.{name_parts, short_part, short_parts};
-ghost use Rattle.complgen_lints.specs.Parts.{some_short, some_text, text_part, value_helps};
-ghost use Rattle.complgen_lints.specs.Parts.{value_names};
+ghost use Rattle.complgen_lints.specs.Parts.{some_short, some_text, text_part, value_names};
+ghost use Rattle.complgen_lints.specs.Parts.{values_of};
 
 use crate::found::Added;
 use crate::place::Key;
-use cc_arg::{Arg, PossibleValue};
+use cc_arg::{Arg, PossibleValue, possible_values};
 use cc_base::{Text, TextRef};
 use cc_command::Command;
 
@@ -143,11 +143,22 @@ pub(crate) fn push_value_names<'a>(parts: &mut Vec<Part<'a>>, values: &'a [Possi
 }
 
 /// Adds the help texts of the possible values `values`.
-pub(crate) fn push_value_helps<'a>(parts: &mut Vec<Part<'a>>, values: &'a [PossibleValue]) -> Added
-    ensures { OnOk result (parts.new.items ≡ parts.old.items ++ value_helps values.now) }
-{
+pub(crate) fn push_value_helps<'a>(
+    parts: &mut Vec<Part<'a>>,
+    values: &'a [PossibleValue],
+) -> Added {
     for (item, value) in values.iter().enumerate() {
         push_some_text(parts, Key::PossibleValues, Some(item), value.get_help())?;
     }
     Ok(())
+}
+
+/// Returns the possible values of `argument`, hidden ones too.
+pub(crate) fn values_of(argument: &Arg) -> &[PossibleValue]
+    ensures { result.now ≡ values_of argument.now }
+{
+    match possible_values(argument) {
+        Some(values) => values,
+        None => &[],
+    }
 }

@@ -48,6 +48,10 @@ pub enum Key {
     ValuesFile,
     /// `values_split`
     ValuesSplit,
+    /// `values_words`
+    ValuesWords,
+    /// `values_protocol`
+    ValuesProtocol,
     /// `index`
     Index,
     /// `conflicts_with`
@@ -80,6 +84,8 @@ impl Key {
             Key::ValuesFrom => "values_from",
             Key::ValuesFile => "values_file",
             Key::ValuesSplit => "values_split",
+            Key::ValuesWords => "values_words",
+            Key::ValuesProtocol => "values_protocol",
             Key::Index => "index",
             Key::ConflictsWith => "conflicts_with",
         }
@@ -89,7 +95,7 @@ impl Key {
 /// A place in a tree: a command, one of its arguments, a key of either, or an item of the key's
 /// list.
 #[derive(Drop, Debug)]
-pub struct Place {
+pub struct TreePlace {
     /// The path from the root to the command: indexes in `subcommands`, counted from 0.
     pub command: Items<usize>,
     /// The index of the argument in `args`, counted from 0, or `None` for the command itself.

@@ -2,15 +2,14 @@
 
 ghost use Rattle.std.specs.Prelude.{◌≡◌, [], ◌++◌, IfOk, IsTrue, OnOk};
 ghost use Rattle.std.specs.Option.{option_copied};
-ghost use Rattle.complgen_lints.specs.CommandWarnings.{command_list};
 ghost use Rattle.complgen_lints.specs.Notes.{are_notes};
-ghost use Rattle.complgen_lints.specs.Premises.{bin_kind, bin_list, holds_premises};
-ghost use Rattle.complgen_lints.specs.Premises.{name_no_premise};
+ghost use Rattle.complgen_lints.specs.PremiseList.{bin_list, bin_premise, premise_list};
+ghost use Rattle.complgen_lints.specs.Premises.{holds_premises, name_no_premise, premises_in};
 
 use crate::found::Added;
-use crate::place::{Key, Place};
+use crate::place::{Key, TreePlace};
 use crate::walk::{At, push_tree};
-use crate::warning::{Kind, Warning};
+use crate::warning::{Kind, Premise, Warning};
 use cc_base::{Items, Text, is_plain_name};
 use cc_command::Command;
 use std::alloc::{AllocError, Global};
@@ -27,6 +26,8 @@ use std::alloc::{AllocError, Global};
 /// 4. notes about a hidden command and hidden arguments;
 /// 5. notes about commands that a tab runs, and warnings about sources of values.
 ///
+/// The clauses say which premises are found, and where. Cases show the other findings.
+///
 /// A label of the bash script that two commands share is not among them. The other premises of the
 /// promises about scripts are that the command and the bin name are plain, that possible values are
 /// quiet, and that the PowerShell script escapes each quote. A warning says that a premise does not
@@ -35,14 +36,13 @@ use std::alloc::{AllocError, Global};
 /// # Errors
 ///
 /// `AllocError` if an allocation fails.
-#[tactic(auto, using(crate::proofs::PremisesFound::named_exactly, crate::proofs::PremisesFound::premises_hold))]
 pub fn command_warnings(
     alloc: Global,
     bin: Option<&str>,
     command: &Command,
 ) -> Result<Vec<Warning>, AllocError>
     ensures list { IfOk result (λ found.
-        found.items ≡ command_list (option_copied bin.entry) command.now) }
+        premises_in found.items ≡ premise_list (option_copied bin.entry) command.now) }
     ensures premises { IfOk result (λ found. IsTrue (are_notes found.items) →
         IsTrue (holds_premises (option_copied bin.entry) command.now)) }
 
@@ -76,8 +76,8 @@ fn push_bin(
     key: Option<Key>,
     bin: Option<&str>,
 ) -> Added
-    ensures { OnOk result (warnings.new.items
-        ≡ warnings.old.items ++ bin_list key (option_copied bin.entry)) }
+    ensures { OnOk result (premises_in warnings.new.items
+        ≡ premises_in warnings.old.items ++ bin_list key (option_copied bin.entry)) }
 {
     let Some(bin) = bin else {
         return Ok(());
@@ -85,8 +85,8 @@ fn push_bin(
     if is_plain_name(bin) {
         return Ok(());
     }
-    let kind = bin_kind(key, Text::copy_of(alloc, bin)?);
-    let place = Place {
+    let kind = Kind::Premise(bin_premise(key, Text::copy_of(alloc, bin)?));
+    let place = TreePlace {
         command: Items::new(alloc),
         argument: None,
         key,
@@ -96,11 +96,11 @@ fn push_bin(
     Ok(())
 }
 
-fn bin_kind(key: Option<Key>, bin: Text) -> Kind
-    ensures { result ≡ bin_kind key bin }
+fn bin_premise(key: Option<Key>, bin: Text) -> Premise
+    ensures { result ≡ bin_premise key bin }
 {
     match key {
-        None => Kind::BinNotPlain(bin),
-        Some(_) => Kind::NotPlain(bin),
+        None => Premise::BinNotPlain(bin),
+        Some(_) => Premise::NotPlain(bin),
     }
 }

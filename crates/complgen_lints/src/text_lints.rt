@@ -1,22 +1,20 @@
-//! Finds what is wrong with names and descriptions.
+//! Finds names and descriptions for which a premise of the promises about scripts does not hold.
 
 ghost use Rattle.std.specs.Prelude.{◌≡◌, ◌++◌, IfOk, OnOk};
-ghost use Rattle.complgen_lints.specs.Parts.{values_of};
 ghost use Rattle.complgen_lints.specs.TextLints.{argument_list, argument_parts, begins_with_hyphen};
-ghost use Rattle.complgen_lints.specs.TextLints.{command_parts, content_kind, ending_signs};
-ghost use Rattle.complgen_lints.specs.TextLints.{is_label, is_long, part_list, parts_list};
-ghost use Rattle.complgen_lints.specs.TextLints.{plain_kind, text_kind, text_list, zsh_parts};
+ghost use Rattle.complgen_lints.specs.TextLints.{command_parts, content_premise, is_label, is_long};
+ghost use Rattle.complgen_lints.specs.TextLints.{part_list, parts_list, plain_premise, text_list};
+ghost use Rattle.complgen_lints.specs.TextLints.{text_premise};
 ghost use Rattle.complgen_lints.specs.Lists.{each_from};
 
 use crate::found::{Added, Found, Spot};
 use crate::parts::{
     Content, Part, push_label_parts, push_long_parts, push_name_parts, push_short_parts,
-    push_some_text, push_text, push_texts, push_value_helps, push_value_names,
+    push_some_text, push_value_names, values_of,
 };
 use crate::place::Key;
-use crate::running::holds_one_of;
-use crate::warning::Kind;
-use cc_arg::{Arg, PossibleValue, possible_values};
+use crate::warning::Premise;
+use cc_arg::Arg;
 use cc_base::{Text, is_plain_name};
 use cc_command::{Command, has_no_quote, is_quiet_value, unescaped_quote};
 use std::alloc::{AllocError, Global};
@@ -30,12 +28,14 @@ pub(crate) enum TextLint {
     Quiet,
     /// Quotes that a PowerShell script does not escape.
     Quotes,
-    /// Names and help texts that end a text of the zsh script, so that zsh may run what follows.
-    Zsh,
 }
 
 /// Adds what `lint` finds in the names and descriptions of `command` and of its arguments.
-pub(crate) fn push_text_findings(found: &mut Found, lint: TextLint, command: &Command) -> Added
+pub(crate) fn push_text_findings(
+    found: &mut Found<Premise>,
+    lint: TextLint,
+    command: &Command,
+) -> Added
     ensures { OnOk result (found.new ≡ found.old ++ text_list lint command.now) }
 {
     let mut parts = Vec::new(found.allocator());
@@ -45,7 +45,7 @@ pub(crate) fn push_text_findings(found: &mut Found, lint: TextLint, command: &Co
 }
 
 fn push_arguments<'a>(
-    found: &mut Found,
+    found: &mut Found<Premise>,
     parts: &mut Vec<Part<'a>>,
     lint: TextLint,
     arguments: &'a [Arg],
@@ -61,7 +61,7 @@ fn push_arguments<'a>(
 
 // Adds what `lint` finds in `argument`. Uses the room of `parts`.
 fn push_argument<'a>(
-    found: &mut Found,
+    found: &mut Found<Premise>,
     parts: &mut Vec<Part<'a>>,
     lint: TextLint,
     index: usize,
@@ -81,8 +81,8 @@ fn push_command_parts<'a>(parts: &mut Vec<Part<'a>>, lint: TextLint, command: &'
 {
     match lint {
         TextLint::Plain => push_name_parts(parts, command),
+        TextLint::Quiet => Ok(()),
         TextLint::Quotes => push_some_text(parts, Key::About, None, command.get_about()),
-        TextLint::Quiet | TextLint::Zsh => Ok(()),
     }
 }
 
@@ -98,34 +98,10 @@ fn push_argument_parts<'a>(parts: &mut Vec<Part<'a>>, lint: TextLint, argument: 
         }
         TextLint::Quiet => push_value_names(parts, values_of(argument)),
         TextLint::Quotes => push_some_text(parts, Key::Help, None, argument.get_help()),
-        TextLint::Zsh => {
-            push_zsh_parts(parts, argument)?;
-            push_value_helps(parts, values_of(argument))
-        }
     }
 }
 
-// Adds the id and the help text of a positional, or the value names of an option.
-fn push_zsh_parts<'a>(parts: &mut Vec<Part<'a>>, argument: &'a Arg) -> Added
-    ensures { OnOk result (parts.new.items ≡ parts.old.items ++ zsh_parts argument.now) }
-{
-    if !argument.is_positional() {
-        return push_texts(parts, Key::ValueNames, argument.get_value_names());
-    }
-    push_text(parts, Key::Id, None, argument.get_id())?;
-    push_some_text(parts, Key::Help, None, argument.get_help())
-}
-
-fn values_of(argument: &Arg) -> &[PossibleValue]
-    ensures { result.now ≡ values_of argument.now }
-{
-    match possible_values(argument) {
-        Some(values) => values,
-        None => &[],
-    }
-}
-
-fn push_parts(found: &mut Found, lint: TextLint, spot: Spot, parts: &[Part<'_>]) -> Added
+fn push_parts(found: &mut Found<Premise>, lint: TextLint, spot: Spot, parts: &[Part<'_>]) -> Added
     ensures { OnOk result (found.new ≡ found.old ++ parts_list lint spot parts.now) }
 {
     for part in parts {
@@ -134,59 +110,55 @@ fn push_parts(found: &mut Found, lint: TextLint, spot: Spot, parts: &[Part<'_>])
     Ok(())
 }
 
-fn push_part(found: &mut Found, lint: TextLint, spot: Spot, part: &Part<'_>) -> Added
+fn push_part(found: &mut Found<Premise>, lint: TextLint, spot: Spot, part: &Part<'_>) -> Added
     ensures { OnOk result (found.new ≡ found.old ++ part_list lint spot part.now) }
 {
-    match content_kind(found.allocator(), lint, part.key, &part.content)? {
-        Some(kind) => found.note(spot, part.key, part.item, kind),
+    match content_premise(found.allocator(), lint, part.key, &part.content)? {
+        Some(premise) => found.note(spot, part.key, part.item, premise),
         None => Ok(()),
     }
 }
 
-// Returns what is wrong with a text or a short at `key`, if anything is.
-fn content_kind(
+// Returns the premise that a text or a short at `key` breaks, if it breaks one.
+fn content_premise(
     alloc: Global,
     lint: TextLint,
     key: Key,
     content: &Content<'_>,
-) -> Result<Option<Kind>, AllocError>
-    ensures { IfOk result (λ kind. kind ≡ content_kind lint key content.now) }
+) -> Result<Option<Premise>, AllocError>
+    ensures { IfOk result (λ premise. premise ≡ content_premise lint key content.now) }
 {
     match content {
-        Content::Text(text) => text_kind(alloc, lint, key, text.as_str()),
+        Content::Text(text) => text_premise(alloc, lint, key, text.as_str()),
         Content::Short(short) if short.is_ascii_alphanumeric() => Ok(None),
-        Content::Short(short) => Ok(Some(Kind::ShortNotPlain(*short))),
+        Content::Short(short) => Ok(Some(Premise::ShortNotPlain(*short))),
     }
 }
 
-fn text_kind(
+fn text_premise(
     alloc: Global,
     lint: TextLint,
     key: Key,
     text: &str,
-) -> Result<Option<Kind>, AllocError>
-    ensures { IfOk result (λ kind. kind ≡ text_kind lint key text.now) }
+) -> Result<Option<Premise>, AllocError>
+    ensures { IfOk result (λ premise. premise ≡ text_premise lint key text.now) }
 {
     match lint {
-        TextLint::Plain => plain_kind(alloc, key, text),
+        TextLint::Plain => plain_premise(alloc, key, text),
         TextLint::Quiet if is_quiet_value(text) => Ok(None),
-        TextLint::Quiet => Ok(Some(Kind::LoudValue(Text::copy_of(alloc, text)?))),
-        TextLint::Quotes => Ok(unescaped_quote(text).map(Kind::UnescapedQuote)),
-        TextLint::Zsh if holds_one_of(ending_signs(key), text.as_bytes()) => {
-            Ok(Some(Kind::ZshSign))
-        }
-        TextLint::Zsh => Ok(None),
+        TextLint::Quiet => Ok(Some(Premise::LoudValue(Text::copy_of(alloc, text)?))),
+        TextLint::Quotes => Ok(unescaped_quote(text).map(Premise::UnescapedQuote)),
     }
 }
 
-fn plain_kind(alloc: Global, key: Key, text: &str) -> Result<Option<Kind>, AllocError>
-    ensures { IfOk result (λ kind. kind ≡ plain_kind key text.now) }
+fn plain_premise(alloc: Global, key: Key, text: &str) -> Result<Option<Premise>, AllocError>
+    ensures { IfOk result (λ premise. premise ≡ plain_premise key text.now) }
 {
     if is_label(key) {
         return Ok(if has_no_quote(text) {
             None
         } else {
-            Some(Kind::Quote)
+            Some(Premise::Quote)
         });
     }
     if is_plain_name(text) {
@@ -194,9 +166,9 @@ fn plain_kind(alloc: Global, key: Key, text: &str) -> Result<Option<Kind>, Alloc
     }
     let copy = Text::copy_of(alloc, text)?;
     if is_long(key) && begins_with_hyphen(text) {
-        return Ok(Some(Kind::LongWithHyphen(copy)));
+        return Ok(Some(Premise::LongWithHyphen(copy)));
     }
-    Ok(Some(Kind::NotPlain(copy)))
+    Ok(Some(Premise::NotPlain(copy)))
 }
 
 fn is_label(key: Key) -> bool
@@ -215,16 +187,4 @@ fn begins_with_hyphen(text: &str) -> bool
     ensures { result ≡ begins_with_hyphen text.now }
 {
     matches!(text.as_bytes(), [b'-', ..])
-}
-
-// Returns the signs that end a text of the zsh script, depending on `key`: a help text, the help
-// text of a possible value, or a name.
-fn ending_signs(key: Key) -> &'static [u8]
-    ensures { result.now ≡ ending_signs key }
-{
-    match key {
-        Key::Help => b"\\",
-        Key::PossibleValues => b"\"",
-        _ => b":\\",
-    }
 }

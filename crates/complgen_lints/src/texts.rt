@@ -1,89 +1,93 @@
 //! Writes the text of a warning.
 
-ghost use Rattle.std.specs.Prelude.{◌≡◌, Some};
-ghost use Rattle.std.specs.Fmt.{DisplaysOnOk};
-ghost use Rattle.complgen_lints.specs.Texts.{ended_text, fixed_text, generated_text, harm_text};
-ghost use Rattle.complgen_lints.specs.Texts.{hyphen_text, is_not_plain_text, kind_text};
-ghost use Rattle.complgen_lints.specs.Texts.{loud_value_text, name_at, named, not_plain_text};
-ghost use Rattle.complgen_lints.specs.Texts.{other_text, outside_text, plain_rule, short_text};
-ghost use Rattle.complgen_lints.specs.Texts.{sign_text, taken_text, unplain_text, warning_text};
-ghost use Rattle.complgen_lints.specs.Texts.{zsh_sign};
-
 use crate::place::Key;
 use crate::running::{may_run_name, may_run_value};
-use crate::warning::{Kind, Warning};
+use crate::warning::{Advice, Kind, Premise, Warning};
 use std::fmt;
 
-/// Writes the text of the warning, without its place.
+/// Writes the text of the warning, without its place. A name in it may contain control characters.
 impl fmt::Display for Warning {
-    ghost output = { λ warning. Some (warning_text warning) };
-
     fn fmt<W: fmt::Write>(&self, f: &mut fmt::Formatter<W>) -> fmt::Result {
-        write_kind(self.place.key, &self.kind, f)
+        match &self.kind {
+            Kind::Premise(premise) => write_premise(self.place.key, premise, f),
+            Kind::Advice(advice) => write_advice(self.place.key, advice, f),
+        }
     }
 }
 
-fn write_kind<W: fmt::Write>(
+fn write_premise<W: fmt::Write>(
     key: Option<Key>,
-    kind: &Kind,
+    premise: &Premise,
     f: &mut fmt::Formatter<W>,
-) -> fmt::Result
-    ensures { DisplaysOnOk W.write_str_gives f.old result (Some (kind_text key kind.now)) f.new }
-{
-    let named = named(key);
-    match kind {
-        Kind::BinNotPlain(name) => write_not_plain("bin name", name.as_str(), f),
-        Kind::NotPlain(name) => write_not_plain(named, name.as_str(), f),
-        Kind::LongWithHyphen(long) => write_hyphen(long.as_str(), f),
-        Kind::ShortNotPlain(short) => write_short(*short, f),
-        Kind::Quote => write_ended(named, "'", f),
-        Kind::ZshSign => write_ended(named, zsh_sign(key), f),
-        Kind::LoudValue(value) => write_loud_value(value.as_str(), f),
-        Kind::UnescapedQuote(quote) => write!(
-            f,
-            "PowerShell takes {quote} as the end of the text, and may run what follows"
-        ),
-        Kind::SharedLabel(label) => write!(
+) -> fmt::Result {
+    match premise {
+        Premise::BinNotPlain(name) => write_not_plain("bin name", name.as_str(), f),
+        Premise::NotPlain(name) => write_not_plain(named(key), name.as_str(), f),
+        Premise::LongWithHyphen(long) => write_hyphen(long.as_str(), f),
+        Premise::ShortNotPlain(short) => write_short(*short, f),
+        Premise::Quote => write_ended(named(key), "'", f),
+        Premise::TakenName(name, command) => {
+            write_taken("command", command.as_str(), "name", name.as_str(), f)
+        }
+        Premise::LoudValue(value) => write_loud_value(value.as_str(), f),
+        Premise::SharedLabel(label) => write!(
             f,
             "two commands share the label {} in the bash script, so it is not written",
             label.as_str()
         ),
-        kind => write_other(key, kind, f),
+        Premise::UnescapedQuote(quote) => write!(
+            f,
+            "PowerShell takes {quote} as the end of the text, and may run what follows"
+        ),
     }
 }
 
-fn write_not_plain<W: fmt::Write>(named: &str, name: &str, f: &mut fmt::Formatter<W>) -> fmt::Result
-    ensures { DisplaysOnOk W.write_str_gives f.old result
-        (Some (not_plain_text named.now name.now)) f.new }
-{
-    write!(f, "the {named}")?;
-    write_is_not_plain(name, f)
+fn write_advice<W: fmt::Write>(
+    key: Option<Key>,
+    advice: &Advice,
+    f: &mut fmt::Formatter<W>,
+) -> fmt::Result {
+    match advice {
+        Advice::ZshSign => write_ended(named(key), zsh_sign(key), f),
+        Advice::TakenId(id) => write!(f, "an earlier argument has the id `{}`", id.as_str()),
+        Advice::TakenLong(long, id) => {
+            write_taken("argument", id.as_str(), "long", long.as_str(), f)
+        }
+        Advice::TakenShort(short, id) => {
+            write_taken("argument", id.as_str(), "short", short.as_str(), f)
+        }
+        Advice::TakenIndex(index, id) => {
+            write_taken("argument", id.as_str(), "index", index.as_str(), f)
+        }
+        Advice::TakenByHelp => write_generated(named(key), name_at(key, "h", "help"), "help", f),
+        Advice::TakenByVersion => {
+            write_generated(named(key), name_at(key, "V", "version"), "version", f)
+        }
+        Advice::UnknownConflict(id) => write!(f, "no argument here has the id `{}`", id.as_str()),
+        Advice::IndexOutOfRange(index, count) => {
+            write_out_of_range(index.as_str(), count.as_str(), f)
+        }
+        Advice::RunsCommand(words) => write!(f, "pressing Tab here runs{}", words.as_str()),
+        Advice::RunsCode(program) => write_runs_code(program.as_str(), f),
+        Advice::PassesWords(words) => write_passes_words(words.as_str(), f),
+        Advice::ActsOnWords(program) => write_acts_on_words(program.as_str(), f),
+        advice => f.write_str(fixed_text(advice)),
+    }
 }
 
-fn write_is_not_plain<W: fmt::Write>(name: &str, f: &mut fmt::Formatter<W>) -> fmt::Result
-    ensures { DisplaysOnOk W.write_str_gives f.old result
-        (Some (is_not_plain_text name.now)) f.new }
-{
-    write_unplain(name, f)?;
-    write_plain_rule(name, f)
-}
-
-fn write_unplain<W: fmt::Write>(name: &str, f: &mut fmt::Formatter<W>) -> fmt::Result
-    ensures { DisplaysOnOk W.write_str_gives f.old result (Some (unplain_text name.now)) f.new }
-{
-    write!(f, " `{name}` is not plain")
-}
-
-fn write_plain_rule<W: fmt::Write>(name: &str, f: &mut fmt::Formatter<W>) -> fmt::Result
-    ensures { DisplaysOnOk W.write_str_gives f.old result (Some (plain_rule name.now)) f.new }
-{
-    f.write_str(" (letters and digits, with single - or _ between them)")?;
+fn write_not_plain<W: fmt::Write>(
+    named: &str,
+    name: &str,
+    f: &mut fmt::Formatter<W>,
+) -> fmt::Result {
+    write!(
+        f,
+        "the {named} `{name}` is not plain (letters and digits, with single - or _ between them)"
+    )?;
     f.write_str(harm_text(name))
 }
 
-fn write_hyphen<W: fmt::Write>(long: &str, f: &mut fmt::Formatter<W>) -> fmt::Result
-    ensures { DisplaysOnOk W.write_str_gives f.old result (Some (hyphen_text long.now)) f.new }
-{
+fn write_hyphen<W: fmt::Write>(long: &str, f: &mut fmt::Formatter<W>) -> fmt::Result {
     write!(
         f,
         "the long `{long}` begins with a hyphen (write it without)"
@@ -91,24 +95,14 @@ fn write_hyphen<W: fmt::Write>(long: &str, f: &mut fmt::Formatter<W>) -> fmt::Re
     f.write_str(harm_text(long))
 }
 
-fn write_short<W: fmt::Write>(short: char, f: &mut fmt::Formatter<W>) -> fmt::Result
-    ensures { DisplaysOnOk W.write_str_gives f.old result (Some (short_text short)) f.new }
-{
-    write_sign(short, f)?;
+fn write_short<W: fmt::Write>(short: char, f: &mut fmt::Formatter<W>) -> fmt::Result {
+    write!(f, "the short `{short}` is not an ASCII letter or digit")?;
     let mut bytes = [0; 4];
     f.write_str(harm_text(short.encode_utf8(&mut bytes)))
 }
 
-fn write_sign<W: fmt::Write>(short: char, f: &mut fmt::Formatter<W>) -> fmt::Result
-    ensures { DisplaysOnOk W.write_str_gives f.old result (Some (sign_text short)) f.new }
-{
-    write!(f, "the short `{short}` is not an ASCII letter or digit")
-}
-
 // Returns what scripts and the shell may do with `name`.
-fn harm_text(name: &str) -> &'static str
-    ensures { result.now ≡ harm_text name.now }
-{
+fn harm_text(name: &str) -> &'static str {
     if may_run_name(name) {
         ": scripts may break at it, and the shell may run it"
     } else {
@@ -116,10 +110,7 @@ fn harm_text(name: &str) -> &'static str
     }
 }
 
-fn write_ended<W: fmt::Write>(named: &str, sign: &str, f: &mut fmt::Formatter<W>) -> fmt::Result
-    ensures { DisplaysOnOk W.write_str_gives f.old result
-        (Some (ended_text named.now sign.now)) f.new }
-{
+fn write_ended<W: fmt::Write>(named: &str, sign: &str, f: &mut fmt::Formatter<W>) -> fmt::Result {
     write!(
         f,
         "the {named} contains a {sign}, which ends this text in the zsh script; the shell may run \
@@ -128,9 +119,7 @@ fn write_ended<W: fmt::Write>(named: &str, sign: &str, f: &mut fmt::Formatter<W>
 }
 
 // Returns the signs that end a text of the zsh script, as messages name them.
-fn zsh_sign(key: Option<Key>) -> &'static str
-    ensures { result.now ≡ zsh_sign key }
-{
+fn zsh_sign(key: Option<Key>) -> &'static str {
     match key {
         Some(Key::Help) => "\\",
         Some(Key::PossibleValues) => "\"",
@@ -138,10 +127,7 @@ fn zsh_sign(key: Option<Key>) -> &'static str
     }
 }
 
-fn write_loud_value<W: fmt::Write>(value: &str, f: &mut fmt::Formatter<W>) -> fmt::Result
-    ensures { DisplaysOnOk W.write_str_gives f.old result
-        (Some (loud_value_text value.now)) f.new }
-{
+fn write_loud_value<W: fmt::Write>(value: &str, f: &mut fmt::Formatter<W>) -> fmt::Result {
     if may_run_value(value) {
         write!(
             f,
@@ -156,63 +142,14 @@ fn write_loud_value<W: fmt::Write>(value: &str, f: &mut fmt::Formatter<W>) -> fm
     }
 }
 
-// Writes the text of a kind that `write_kind` does not write itself.
-fn write_other<W: fmt::Write>(
-    key: Option<Key>,
-    kind: &Kind,
-    f: &mut fmt::Formatter<W>,
-) -> fmt::Result
-    ensures { DisplaysOnOk W.write_str_gives f.old result (Some (other_text key kind.now)) f.new }
-{
-    match kind {
-        Kind::TakenName(name, command) => {
-            write_taken("command", command.as_str(), "name", name.as_str(), f)
-        }
-        Kind::TakenId(id) => write!(f, "an earlier argument has the id `{}`", id.as_str()),
-        Kind::TakenLong(long, id) => {
-            write_taken("argument", id.as_str(), "long", long.as_str(), f)
-        }
-        Kind::TakenShort(short, id) => {
-            write_taken("argument", id.as_str(), "short", short.as_str(), f)
-        }
-        Kind::TakenIndex(index, id) => {
-            write_taken("argument", id.as_str(), "index", index.as_str(), f)
-        }
-        Kind::TakenByHelp => write_generated(named(key), name_at(key, "h", "help"), "help", f),
-        Kind::TakenByVersion => {
-            write_generated(named(key), name_at(key, "V", "version"), "version", f)
-        }
-        Kind::UnknownConflict(id) => write!(f, "no argument here has the id `{}`", id.as_str()),
-        Kind::IndexOutOfRange(index, count) => write_outside(index.as_str(), count.as_str(), f),
-        Kind::RunsCommand(words) => write!(f, "pressing Tab here runs{}", words.as_str()),
-        Kind::RunsCode(program) => write!(
-            f,
-            "`{}` may run its arguments as code; name a program that only prints values",
-            program.as_str()
-        ),
-        kind => f.write_str(fixed_text(kind)),
-    }
-}
-
 fn write_taken<W: fmt::Write>(
     noun: &str,
     owner: &str,
     named: &str,
     name: &str,
     f: &mut fmt::Formatter<W>,
-) -> fmt::Result
-    ensures { DisplaysOnOk W.write_str_gives f.old result
-        (Some (taken_text noun.now owner.now named.now name.now)) f.new }
-{
+) -> fmt::Result {
     write!(f, "the {noun} `{owner}` also has the {named} `{name}`")
-}
-
-fn write_outside<W: fmt::Write>(index: &str, count: &str, f: &mut fmt::Formatter<W>) -> fmt::Result
-    ensures { DisplaysOnOk W.write_str_gives f.old result
-        (Some (outside_text index.now count.now)) f.new }
-{
-    write!(f, "there is no index {index}: ")?;
-    write!(f, "indexes go from 1 to {count} here")
 }
 
 fn write_generated<W: fmt::Write>(
@@ -220,10 +157,7 @@ fn write_generated<W: fmt::Write>(
     name: &str,
     flag: &str,
     f: &mut fmt::Formatter<W>,
-) -> fmt::Result
-    ensures { DisplaysOnOk W.write_str_gives f.old result
-        (Some (generated_text named.now name.now flag.now)) f.new }
-{
+) -> fmt::Result {
     write!(
         f,
         "the generated {flag} flag also has the {named} `{name}`; disable_{flag}_flag omits \
@@ -231,10 +165,41 @@ fn write_generated<W: fmt::Write>(
     )
 }
 
+fn write_out_of_range<W: fmt::Write>(
+    index: &str,
+    count: &str,
+    f: &mut fmt::Formatter<W>,
+) -> fmt::Result {
+    write!(
+        f,
+        "there is no index {index}: indexes go from 1 to {count} here"
+    )
+}
+
+fn write_runs_code<W: fmt::Write>(program: &str, f: &mut fmt::Formatter<W>) -> fmt::Result {
+    write!(
+        f,
+        "`{program}` may run its arguments as code; name a program that only prints values"
+    )
+}
+
+fn write_passes_words<W: fmt::Write>(words: &str, f: &mut fmt::Formatter<W>) -> fmt::Result {
+    write!(
+        f,
+        "the words of the command line are passed to the command{words}"
+    )
+}
+
+fn write_acts_on_words<W: fmt::Write>(program: &str, f: &mut fmt::Formatter<W>) -> fmt::Result {
+    write!(
+        f,
+        "`{program}` gets only the words of the command line, and may act on them; name a \
+         subcommand that only prints values"
+    )
+}
+
 // Returns what messages call a text at `key`.
-fn named(key: Option<Key>) -> &'static str
-    ensures { result.now ≡ named key }
-{
+fn named(key: Option<Key>) -> &'static str {
     match key {
         Some(Key::BinName) => "bin name",
         Some(Key::Aliases | Key::VisibleAliases) => "alias",
@@ -249,27 +214,30 @@ fn named(key: Option<Key>) -> &'static str
 }
 
 // Returns the short of a flag if `key` is `short`, or else its long.
-fn name_at(key: Option<Key>, short: &'static str, long: &'static str) -> &'static str
-    ensures { result.now ≡ name_at key short.now long.now }
-{
+fn name_at(key: Option<Key>, short: &'static str, long: &'static str) -> &'static str {
     match key {
         Some(Key::Short) => short,
         _ => long,
     }
 }
 
-// Returns the text of a kind that has the same text for every command, or else an empty text.
-fn fixed_text(kind: &Kind) -> &'static str
-    ensures { result.now ≡ fixed_text kind.now }
-{
-    match kind {
-        Kind::PositionalWithoutValue => "a positional must take a value",
-        Kind::ValuesOfFlag => "possible values have no effect on a flag",
-        Kind::NoValues => "an empty list of possible values turns off the value hint",
-        Kind::HiddenCommand => "scripts still offer a hidden command; live completion hides it",
-        Kind::HiddenArgument => "scripts still offer a hidden argument; live completion hides it",
-        Kind::SourceOfFlag => "a flag takes no values, so this key has no effect; leave it out",
-        Kind::HintBesideSource => {
+// Returns the text of advice that has the same text for every command, or else an empty text.
+fn fixed_text(advice: &Advice) -> &'static str {
+    match advice {
+        Advice::PositionalWithoutValue => "a positional must take a value",
+        Advice::ValuesOfFlag => "possible values have no effect on a flag",
+        Advice::NoValues => "an empty list of possible values turns off the value hint",
+        Advice::HiddenCommand => "scripts still offer a hidden command; live completion hides it",
+        Advice::HiddenArgument => "scripts still offer a hidden argument; live completion hides it",
+        Advice::SourceOfFlag => "a flag takes no values, so this key has no effect; leave it out",
+        Advice::WithoutCommand => {
+            "this key has no effect without values_from; add that, or leave this out"
+        }
+        Advice::SplitBesideProtocol => {
+            "lines of this protocol end their values at a tab, so this key has no effect; leave it \
+             out"
+        }
+        Advice::HintBesideSource => {
             "live completion offers no paths here, since a command or a file lists the values; \
              leave one out"
         }

@@ -1,14 +1,15 @@
 //! Walks over a tree, and collects the warnings about each command with their places in the tree.
 
-ghost use Rattle.std.specs.Prelude.{◌≡◌, ◌++◌, IfOk, OnOk, map};
+ghost use Rattle.std.specs.Prelude.{◌≡◌, ◌∷◌, [], ◌++◌, IfOk, OnOk, map};
 ghost use Rattle.cc_command.specs.Tree.{forest_of};
-ghost use Rattle.complgen_lints.specs.CommandWarnings.{findings_of, forest_list, tree_list};
-ghost use Rattle.complgen_lints.specs.Findings.{placed};
+ghost use Rattle.complgen_lints.specs.Findings.{placed, placed_finding};
+ghost use Rattle.complgen_lints.specs.Premises.{premises_in};
+ghost use Rattle.complgen_lints.specs.PremiseList.{forest_list, premises_of, tree_list};
 
-use crate::found::{Added, Found};
-use crate::lints::push_findings;
+use crate::found::{Added, Finding, Found};
+use crate::lints::{push_advice, push_premises};
 use crate::scopes::{inherited_with, push_globals};
-use crate::warning::Warning;
+use crate::warning::{Advice, Kind, Premise, Warning};
 use cc_arg::Arg;
 use cc_base::Items;
 use cc_command::Command;
@@ -31,12 +32,13 @@ pub(crate) fn push_tree<'a>(
     others: &[&'a Arg],
     command: &'a Command,
 ) -> Added
-    ensures { OnOk result (warnings.new.items ≡ warnings.old.items
-        ++ tree_list (map (λ other. other.now) others.now) at.entry.path.now command.now) }
+    ensures { OnOk result (premises_in warnings.new.items
+        ≡ premises_in warnings.old.items ++ tree_list at.entry.path.now command.now) }
 {
+    place_premises(warnings, at, command)?;
     let arguments = command.get_arguments();
     let mut inherited = inherited_with(at.alloc, arguments, others)?;
-    place_findings(warnings, at, &inherited, command)?;
+    place_advice(warnings, at, &inherited, command)?;
     push_globals(&mut inherited, arguments)?;
     push_children(warnings, at, &inherited, command.get_subcommands())
 }
@@ -48,9 +50,8 @@ fn push_children<'a>(
     others: &[&'a Arg],
     children: &'a [Command],
 ) -> Added
-    ensures { OnOk result (warnings.new.items ≡ warnings.old.items
-        ++ forest_list (map (λ other. other.now) others.now) at.entry.path.now 0
-        (forest_of children.now)) }
+    ensures { OnOk result (premises_in warnings.new.items ≡ premises_in warnings.old.items
+        ++ forest_list at.entry.path.now 0 (forest_of children.now)) }
 {
     for (index, child) in children.iter().enumerate() {
         let path = path_below(at, &[index])?;
@@ -63,33 +64,60 @@ fn push_children<'a>(
     Ok(())
 }
 
-fn place_findings(
+// Adds the warnings that a premise about the command at `at` does not hold.
+fn place_premises(warnings: &mut Vec<Warning>, at: At<'_>, command: &Command) -> Added
+    ensures { OnOk result (premises_in warnings.new.items ≡ premises_in warnings.old.items
+        ++ map (placed_finding at.entry.path.now) (premises_of command.now)) }
+{
+    let mut found = Found::new(at.alloc);
+    push_premises(&mut found, command)?;
+    for finding in found.into_vec() {
+        place_premise(warnings, at, finding)?;
+    }
+    Ok(())
+}
+
+fn place_premise(warnings: &mut Vec<Warning>, at: At<'_>, finding: Finding<Premise>) -> Added
+    ensures { OnOk result (premises_in warnings.new.items
+        ≡ premises_in warnings.old.items ++ placed_finding at.entry.path.now finding ∷ []) }
+{
+    let Finding { place, kind } = finding;
+    let kind = Kind::Premise(kind);
+    let warning = placed(at, Warning { place, kind })?;
+    warnings.push(warning)?;
+    Ok(())
+}
+
+// Adds the other warnings about the command at `at`, and the notes.
+fn place_advice(
     warnings: &mut Vec<Warning>,
     at: At<'_>,
     inherited: &[&Arg],
     command: &Command,
 ) -> Added
-    ensures { OnOk result (warnings.new.items ≡ warnings.old.items ++ map (placed at.entry.path.now)
-        (findings_of (map (λ other. other.now) inherited.now) command.now)) }
+    ensures { OnOk result (premises_in warnings.new.items ≡ premises_in warnings.old.items) }
 {
     let mut found = Found::new(at.alloc);
-    push_findings(&mut found, inherited, command)?;
-    place_all(warnings, at, found)
-}
-
-// Adds the warnings about the command at `at`, with their places in the tree.
-fn place_all(warnings: &mut Vec<Warning>, at: At<'_>, found: Found) -> Added
-    ensures { OnOk result (warnings.new.items
-        ≡ warnings.old.items ++ map (placed at.entry.path.now) found) }
-{
-    for warning in found.into_vec() {
-        warnings.push(placed(at, warning)?)?;
+    push_advice(&mut found, inherited, command)?;
+    for finding in found.into_vec() {
+        place_one_advice(warnings, at, finding)?;
     }
     Ok(())
 }
 
+fn place_one_advice(warnings: &mut Vec<Warning>, at: At<'_>, finding: Finding<Advice>) -> Added
+    ensures { OnOk result (premises_in warnings.new.items ≡ premises_in warnings.old.items) }
+{
+    let Finding { place, kind } = finding;
+    let kind = Kind::Advice(kind);
+    let warning = placed(at, Warning { place, kind })?;
+    warnings.push(warning)?;
+    Ok(())
+}
+
 fn placed(at: At<'_>, mut warning: Warning) -> Result<Warning, AllocError>
-    ensures { IfOk result (λ there. there ≡ placed at.entry.path.now warning) }
+    ensures place { IfOk result (λ there. there.place ≡ placed at.entry.path.now warning.place) }
+    ensures kind { IfOk result (λ there. there.kind ≡ warning.kind) }
 {
     match path_below(at, warning.place.command.as_slice()) {
         Ok(path) => {

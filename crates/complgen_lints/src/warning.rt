@@ -1,15 +1,15 @@
-//! Warnings, and what they are about.
+//! Warnings and notes, and what they are about.
 
 ghost use Rattle.std.specs.Prelude.{◌≡◌};
 ghost use Rattle.complgen_lints.specs.Notes.{is_note};
 
-use crate::place::Place;
+use crate::place::TreePlace;
 use cc_base::Text;
 
-/// The subject of a warning, with the names and numbers in its text. Each comment describes the
-/// effect for a user of the shell.
+/// A premise of the promises about scripts that does not hold, with the names in its text. Each
+/// comment describes the effect for a user of the shell.
 #[derive(Drop, Debug)]
-pub enum Kind {
+pub enum Premise {
     /// The bin name of a call is not plain: scripts may break at it, and the shell may run it.
     BinNotPlain(Text),
     /// A name, an alias, a bin name or a long is not plain: scripts may break at it, and the shell
@@ -21,12 +21,6 @@ pub enum Kind {
     ShortNotPlain(char),
     /// An id or a value name contains a `'`: zsh may run what follows.
     Quote,
-    /// A name or a help text that ends a text of the zsh script, so zsh may run what follows:
-    ///
-    /// - a value name of an option, or an id of a positional, with a `:` or a backslash;
-    /// - the help text of a positional with a backslash;
-    /// - the help text of a possible value with a `"`.
-    ZshSign,
     /// A name of a subcommand that an earlier one has, or the same one before: the name, and the
     /// name of that subcommand. Behind the name, shells complete only one of the two.
     TakenName(Text, Text),
@@ -37,6 +31,18 @@ pub enum Kind {
     /// A character that PowerShell takes as a quote, and that its script does not escape:
     /// PowerShell may run what follows.
     UnescapedQuote(char),
+}
+
+/// Something else that a tree file may be changed for, or that a note reports. No promise about
+/// scripts depends on it. Each comment describes the effect for a user of the shell.
+#[derive(Drop, Debug)]
+pub enum Advice {
+    /// A name or a help text that ends a text of the zsh script, so zsh may run what follows:
+    ///
+    /// - a value name of an option, or an id of a positional, with a `:` or a backslash;
+    /// - the help text of a positional with a backslash;
+    /// - the help text of a possible value with a `"`.
+    ZshSign,
     /// An id that an earlier argument has: subcommands offer only the first of two global arguments
     /// with one id, and in zsh, a conflict with the id excludes only the first.
     TakenId(Text),
@@ -75,8 +81,17 @@ pub enum Kind {
     RunsCommand(Text),
     /// The program of such a command, which may run its arguments as code: a tab runs that code.
     RunsCode(Text),
-    /// A source of values of an argument that takes no value: no shell offers them.
+    /// A command that a tab runs with the words of the command line behind its own: its words as
+    /// messages show them.
+    PassesWords(Text),
+    /// The program of such a command that is its only word: the program may act on what is typed.
+    ActsOnWords(Text),
+    /// A key of a source on an argument that takes no value: no shell offers the values.
     SourceOfFlag,
+    /// A key that says how a command is run or read, on an argument without a command.
+    WithoutCommand,
+    /// A separator beside the protocol of the command's lines, which end their values at a tab.
+    SplitBesideProtocol,
     /// A hint of paths of an argument whose values come from a command or a file: live completion
     /// offers no paths.
     HintBesideSource,
@@ -86,11 +101,20 @@ pub enum Kind {
     HiddenArgument,
 }
 
+/// The subject of a warning or a note.
+#[derive(Drop, Debug)]
+pub enum Kind {
+    /// A premise of the promises about scripts does not hold.
+    Premise(Premise),
+    /// Something on which no promise about scripts depends.
+    Advice(Advice),
+}
+
 /// A warning or note about a place in a tree.
 #[derive(Drop, Debug)]
 pub struct Warning {
     /// The place of the warning.
-    pub place: Place,
+    pub place: TreePlace,
     /// The subject of the warning.
     pub kind: Kind,
 }
@@ -103,7 +127,12 @@ impl Warning {
     {
         matches!(
             &self.kind,
-            Kind::HiddenCommand | Kind::HiddenArgument | Kind::RunsCommand(_)
+            Kind::Advice(
+                Advice::HiddenCommand
+                    | Advice::HiddenArgument
+                    | Advice::RunsCommand(_)
+                    | Advice::PassesWords(_)
+            )
         )
     }
 }
