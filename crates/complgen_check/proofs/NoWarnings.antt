@@ -12,12 +12,12 @@ use Rattle.cc_command.proofs.EscapedBuilt.{escaped_built_under}
 use Rattle.complgen_lints.specs.Lists.{is_nil}
 use Rattle.complgen_lints.specs.Notes.{are_notes}
 use Rattle.complgen_lints.specs.PremiseList.{premise_list}
-use Rattle.complgen_lints.specs.Premises.{holds_premises, premises_in}
+use Rattle.complgen_lints.specs.Premises.{holds_premises, name_no_premise, premises_in}
 use Rattle.complgen_lints.specs.declared.warning.Warning.{Warning}
 use Rattle.complgen_lints.proofs.PremisesFound.{named_exactly as command_exactly}
 use Rattle.complgen_lints.proofs.Walked.{nil_append, notes_none}
 use Rattle.complgen_check.specs.Promises.{HoldPremises, holds_each}
-use Rattle.complgen_check.specs.TreeWarnings.{built_as, called, label_list, tree_premises}
+use Rattle.complgen_check.specs.TreeWarnings.{ReportPremises, built_as, called, label_list}
 
 no_label : (label : Option (List ℕ)) → IsTrue (is_none label) → label ≡ None
 no_label None h = refl
@@ -50,19 +50,20 @@ premises_hold bin tree h =
       label = no_label (shared_label (built_as bin tree)) parts.1;
     }
 
-label_named : (label : Option (List ℕ)) → is_nil (label_list label) ≡ is_none label
+label_named : (label : Option (List ℕ)) → name_no_premise (label_list label) ≡ is_none label
 label_named None = refl
 label_named (Some label) = refl
 
--- a premise is found not to hold exactly if one does not hold
-pub named_exactly : (bin : Option (List ℕ)) (tree : Tree) → is_nil (tree_premises bin tree) ≡ holds_each bin tree
-named_exactly bin tree =
+-- a premise is reported exactly if one does not hold
+pub named_exactly : (bin : Option (List ℕ)) (tree : Tree) (warnings : List Warning) →
+    ReportPremises bin tree warnings → name_no_premise warnings ≡ holds_each bin tree
+named_exactly bin tree warnings reports =
     let label = shared_label (built_as bin tree) in
-    nil_append (premise_list bin tree) (label_list label)
+    ap is_nil reports ∙ nil_append (premise_list bin tree) (premises_in (label_list label))
     ∙ ap₂ (λ a b. a && b) (command_exactly bin tree) (label_named label)
 
 -- if all warnings are notes, each premise holds
 pub notes_hold : (bin : Option (List ℕ)) (tree : Tree) (warnings : List Warning) →
-    premises_in warnings ≡ tree_premises bin tree → IsTrue (are_notes warnings) → HoldPremises bin tree
-notes_hold bin tree warnings is notes = premises_hold bin tree
-    (subst IsTrue (ap is_nil (sym (notes_none warnings notes) ∙ is) ∙ named_exactly bin tree) refl)
+    ReportPremises bin tree warnings → IsTrue (are_notes warnings) → HoldPremises bin tree
+notes_hold bin tree warnings reports notes = premises_hold bin tree
+    (subst IsTrue (ap is_nil (sym (notes_none warnings notes)) ∙ named_exactly bin tree warnings reports) refl)

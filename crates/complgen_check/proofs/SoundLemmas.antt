@@ -1,6 +1,5 @@
 -- If nothing is found in a tree file but notes, its scripts are written and read back.
-use Rattle.std.proofs.Common.{◌≡◌, ◌∙◌, ◌++◌, ◌&&◌, Bool, IsTrue, List, None, Option, Some, [], ◌∷◌, ap, ap₂, false, if◌then◌else◌, map, refl, subst, sym, true, ℕ}
-use Rattle.std.specs.List.{list_all}
+use Rattle.std.proofs.Common.{◌≡◌, ◌∙◌, ◌++◌, ◌&&◌, Bool, IsTrue, List, None, Option, Some, [], ◌∷◌, ap, ap₂, false, if◌then◌else◌, map, refl, subst, true, ℕ}
 use Rattle.std.proofs.lemmas.Bool.{and_parts}
 use Rattle.std.proofs.lemmas.List.Elements.{All-head}
 use Rattle.cc_bash.proofs.PlainTable.{bash_plain_reads}

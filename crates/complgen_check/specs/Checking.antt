@@ -1,5 +1,5 @@
 -- The findings of a check of a tree file, and the outcomes of the check.
-use Rattle.std.specs.Prelude.{◌≡◌, ◌++◌, ℕ, Bool, true, false, if◌then◌else◌, List, [], ◌∷◌, Option, Some, None, Result, Ok, Err, codes, map, string_bytes}
+use Rattle.std.specs.Prelude.{◌≡◌, ◌++◌, ℕ, Bool, true, false, if◌then◌else◌, List, [], ◌∷◌, Option, Some, None, Result, Ok, Err, codes, map, string_bytes, ⊤}
 use Rattle.std.specs.List.{flat_map, list_all}
 use Rattle.std.specs.declared.io.ErrorKind.{ErrorKind}
 use Rattle.json.specs.Json.{Json}
@@ -10,7 +10,6 @@ use Rattle.cc_base.specs.declared.failures.Failures.{Failures}
 use Rattle.cc_command.specs.Tree.{Tree}
 use Rattle.complgen_lints.specs.Places.{key_text}
 use Rattle.complgen_lints.specs.Notes.{is_note as is_note_kind}
-use Rattle.complgen_lints.specs.Premises.{premises_in}
 use Rattle.complgen_lints.specs.declared.place.Key.{Key}
 use Rattle.complgen_lints.specs.declared.place.TreePlace.{TreePlace}
 use Rattle.complgen_lints.specs.declared.warning.Kind.{Kind}
@@ -27,7 +26,7 @@ use Rattle.complgen_check.specs.declared.errors.finding.Level.TheVariants as lev
 use Rattle.complgen_check.specs.declared.errors.finding.Finding.{Finding}
 use Rattle.complgen_tree_file.specs.TreeFile.{Describes}
 use Rattle.complgen_check.specs.Promises.{HoldPremises}
-use Rattle.complgen_check.specs.TreeWarnings.{built_as, tree_premises}
+use Rattle.complgen_check.specs.TreeWarnings.{ReportPremises, built_as}
 use Rattle.complgen_scripts.specs.Refusals.{IsOutOfMemory, IsRefusal}
 use Rattle.complgen_scripts.specs.declared.refusals.Refusal.{Refusal}
 use Rattle.complgen_scripts.specs.Refusals.{error_line, unreadable_line}
@@ -83,7 +82,7 @@ AreWarnings _ _ = ⊥
 pub record Warns (bin : Option (List ℕ)) (tree : Tree) (before found : List Finding) : Type 0 where
   pub warnings : List Warning
   pub others : List Finding
-  pub premises : premises_in warnings ≡ tree_premises bin tree
+  pub premises : ReportPremises bin tree warnings
   pub each : AreWarnings warnings others
   pub both : found ≡ before ++ others
 

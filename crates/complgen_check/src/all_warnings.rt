@@ -7,7 +7,7 @@ ghost use Rattle.complgen_lints.specs.Notes.{are_notes};
 ghost use Rattle.complgen_lints.specs.Premises.{name_no_premise, premises_in};
 ghost use Rattle.cc_bash.specs.Labels.{shared_label};
 ghost use Rattle.complgen_check.specs.Promises.{HoldPremises, holds_each};
-ghost use Rattle.complgen_check.specs.TreeWarnings.{built_as, called, label_list, tree_premises};
+ghost use Rattle.complgen_check.specs.TreeWarnings.{ReportPremises, built_as, called, label_list};
 
 use cc_base::Items;
 use cc_bash::clashing_label;
@@ -34,7 +34,7 @@ pub fn tree_warnings(
     mut command: Command,
 ) -> Result<Vec<Warning>, AllocError>
     ensures list { IfOk result (λ found.
-        premises_in found.items ≡ tree_premises (option_copied bin.entry) command) }
+        ReportPremises (option_copied bin.entry) command found.items) }
 
     // If there are only notes, the premises hold.
     ensures premises { IfOk result (λ found. IsTrue (are_notes found.items) →
@@ -57,7 +57,7 @@ fn found_in(
     command: &mut Command,
 ) -> Result<Vec<Warning>, AllocError>
     ensures { IfOk result (λ found.
-        premises_in found.items ≡ tree_premises (option_copied bin.entry) command.old) }
+        ReportPremises (option_copied bin.entry) command.old found.items) }
 {
     let mut found = command_warnings(alloc, bin, command)?;
     build_called(alloc, bin, command)?;
@@ -89,7 +89,7 @@ fn called_name(alloc: Global, bin: Option<&str>, command: &Command) -> Result<St
 // Appends a warning if two nodes of a built command share a label.
 fn push_label(found: &mut Vec<Warning>, alloc: Global, command: &Command) -> Result<(), AllocError>
     ensures { OnOk result (premises_in found.new.items
-        ≡ premises_in found.old.items ++ label_list (shared_label command.now)) }
+        ≡ premises_in found.old.items ++ premises_in (label_list (shared_label command.now))) }
 {
     let Some(label) = clashing_label(alloc, command)? else {
         return Ok(());

@@ -1,12 +1,11 @@
 -- Conditions under which nothing is found, and no warning says that a premise does not hold.
-use Rattle.std.proofs.Common.{◌≡◌, ◌∙◌, ap, ap₂, refl, ℕ, suc, Bool, true, false, ◌&&◌, IsTrue, List, [], ◌∷◌, ◌++◌, map}
+use Rattle.std.proofs.Common.{◌≡◌, ◌∙◌, ap₂, refl, ℕ, suc, Bool, true, false, ◌&&◌, IsTrue, List, [], ◌∷◌, ◌++◌, map}
 use Rattle.std.specs.List.{list_all}
 use Rattle.std.proofs.lemmas.Bool.{and_parts}
-use Rattle.std.proofs.lemmas.List.Folds.{list_all-append}
 use Rattle.complgen_lints.specs.Findings.{placed_finding}
 use Rattle.complgen_lints.specs.Lists.{each_from, is_nil, unless}
 use Rattle.complgen_lints.specs.Notes.{are_notes, is_note}
-use Rattle.complgen_lints.specs.Premises.{name_no_premise, premise_at, premises_in}
+use Rattle.complgen_lints.specs.Premises.{premise_at, premises_in}
 use Rattle.complgen_lints.specs.declared.found.Finding.{Finding}
 use Rattle.complgen_lints.specs.declared.place.TreePlace.{TreePlace}
 use Rattle.complgen_lints.specs.declared.warning.Kind.{Kind}
@@ -14,14 +13,7 @@ use Rattle.complgen_lints.specs.declared.warning.Kind.TheVariants as kind
 use Rattle.complgen_lints.specs.declared.warning.Premise.{Premise}
 use Rattle.complgen_lints.specs.declared.warning.Warning.{Warning}
 
-pub both_true : (a b : Bool) → IsTrue a → IsTrue b → IsTrue (a && b)
-both_true true b first second = second
-both_true false b first second = first
-
 -- ---- notes
-
-pub notes_append : (some others : List Warning) → are_notes (some ++ others) ≡ (are_notes some && are_notes others)
-notes_append some others = list_all-append (λ warning. is_note warning.kind) some others
 
 note_none : (place : TreePlace) (kind : Kind) (others : List (Finding Premise)) → IsTrue (is_note kind) → premise_at place kind ++ others ≡ others
 note_none place (kind.Premise premise) others h = cc

@@ -1,4 +1,4 @@
-use Rattle.std.proofs.Common.{◌≡◌, ◌∙◌, ◌++◌, ◌+◌, [], ◌∷◌, List, ap, rules, subst, sym, take}
+use Rattle.std.proofs.Common.{◌≡◌, ◌∙◌, ◌++◌, ◌+◌, [], ◌∷◌, List, ap, subst, sym, take}
 use Rattle.std.proofs.lemmas.List.{take_more}
 use Rattle.complgen_lints.specs.declared.warning.Warning.{Warning}
 use Rattle.complgen_check.specs.Checking.{AreWarnings}
@@ -16,7 +16,7 @@ loop-warning-preserved c =
     let finding = c.in_ok-finding.field-0 in
     let pushed : c.push.new.self.items ≡ found ++ finding ∷ [] = c.in_ok-push.ensures.items in
     let taken : take (index + 1) warnings ≡ before ++ warning ∷ [] =
-    take_more warnings index warning c.loop-warning-test.true c.warning-item.is
+    take_more warnings index warning c.loop-warning-test.true
     ∙ ap (λ one. before ++ one ∷ []) (sym c.warning-item.is) in
     subst (λ (some : List Warning). AreWarnings some c.push.new.self.items) (sym taken)
     (subst (λ (some : List Finding). AreWarnings (before ++ warning ∷ []) some) (sym pushed)
