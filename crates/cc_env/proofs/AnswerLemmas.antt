@@ -12,12 +12,11 @@ use Rattle.cc_command.specs.Built.{built_tree}
 use Rattle.cc_command.specs.Tree.{Tree}
 use Rattle.cc_command.specs.ValueLists.{listed_tree}
 use Rattle.cc_command.specs.declared.node.Node.{Node}
-use Rattle.cc_engine.specs.Completion.{Completes, names_before}
+use Rattle.cc_engine.specs.Completion.{names_before}
 use Rattle.cc_env.specs.Arguments.{after_dashes, words_after}
 use Rattle.cc_env.specs.Builtins.{CompleterSpec}
 use Rattle.cc_env.specs.Steps.{IsRegistration, MakesText, Names, RepliesAs}
 use Rattle.cc_env.specs.Steps as made
-use Rattle.cc_engine.specs.Values.{MayReturn}
 use Rattle.cc_replies.specs.declared.environment.EnvValues.{EnvValues}
 use Rattle.cc_env.specs.Answers.{Answers, AnswersStep, Parts, Told, answered, not_asked, out_of_memory, over_lines, replied, runs}
 use Rattle.cc_env.specs.Asking.{AsksOver, CannotAsk, next_step, typed_words, values_mode}

@@ -14,7 +14,7 @@ use Rattle.cc_command.specs.ValueLists.{listed_tree}
 use Rattle.cc_engine.specs.Asked.{Asks}
 use Rattle.cc_engine.specs.Completion.{Completes, Refuses, is_in_range}
 use Rattle.cc_engine.specs.Values.{MayReturn}
-use Rattle.cc_env.specs.Completion.{CompletesWith, LeavesListed, RefusesWith, tree_for}
+use Rattle.cc_env.specs.Completion.{CompletesWith, LeavesListed, RefusesWith}
 use Rattle.cc_env.specs.ValuesRead.{read_values}
 use Rattle.cc_env.specs.WithLines.{with_lines}
 use Rattle.cc_env.specs.declared.asking.values_read.ValuesRead.{ValuesRead}
