@@ -44,7 +44,7 @@ BASH_COMPLETION = "/usr/share/bash-completion/bash_completion"
 LONGEST = 300
 ERROR, NO_PATHS, EXTENSIONS, DIRECTORIES = 1, 4, 8, 16
 FILES = ("notes.txt", "site.toml", "sub/in", "themes/one/it", "themes/two/it")
-# What is listed where the shell runs: files, and directories.
+# The names in the directory of the shells: files, and directories.
 PLACES = {"notes.txt": False, "site.toml": False, "sub": True, "themes": True}
 
 

@@ -153,7 +153,7 @@ def try_values(terminal, scratch, count):
 
 # ---- words that a shell would evaluate
 
-# What is typed after `asks `, and the words for each shell that has no row of its own.
+# Texts to type after the program's name, and the words that the probe receives, in each shell without a row of its own.
 TYPED = {
     "": [""], "'": [""], "a  b ": ["a", "b", ""], "'' \"\" x": ["", "", "x"], "é漢 ü": ["é漢", "ü"],
     "$(touch hit) x": ["$(touch hit)", "x"], '"$(touch hit)" x': ["$(touch hit)", "x"],
@@ -281,18 +281,17 @@ LINES = {
     "spaced": ("value\tof it", "_activeHelp_ help", ":4"), "unspaced": ("value\tof it", ":6"), "error": ("value", ":5"),
     "nothing": (":4",), "anything": (":0",), "paths": (":8",), "folders": ("value", ":16"), "lines": ("value", "other"),
 }
-# What is typed, and the words that the program receives after Tab and Enter. There are the file `file-1`, and the
-# directory `folder-1`.
+# Texts to type, and the words that the program receives after Tab and Enter. The current directory has the file
+# `file-1`, and the directory `folder-1`.
 RECEIVED = (
     ("spaced va", ["value"]), ("spaced --onto=va", ["--onto=value"]), ("spaced --onto ", ["--onto", "value"]),
     ("spaced 'va", ["value"]), ("spaced :", [":"]), ("spaced _", ["_"]), ("unspaced va", ["value"]),
     ("unspaced --onto=va", ["--onto=value"]), ("error va", ["va"]), ("error fi", ["fi"]), ("nothing fi", ["fi"]),
     ("nothing :", [":"]), ("anything fi", ["file-1"]), ("anything --onto=fi", ["--onto=file-1"]),
     ("anything fo", ["folder-1/"]), ("paths fi", ["file-1"]), ("folders va", ["va"]), ("folders fi", ["fi"]),
-    ("folders f", ["folder-1/"]),
-    ("lines v", ["value"]), ("lines fi", ["fi"]),
+    ("folders f", ["folder-1/"]), ("lines v", ["value"]), ("lines fi", ["fi"]),
 )
-# What is typed, and the line after a Tab in bash and zsh, without quotes.
+# Texts to type, and the line after a Tab in bash and zsh, without quotes.
 SPACES = (
     ("spaced va", "spaced value "), ("unspaced va", "unspaced value"), ("unspaced 'va", "unspaced value"),
     ("unspaced --onto=va", "unspaced --onto=value"), ("spaced --onto=va", "spaced --onto=value "),
