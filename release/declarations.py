@@ -26,11 +26,13 @@ NATIVE = TOP / "packages/rust/lagvtsune/src/native.rs"
 # The declarations of a parameter and a result of each type.
 C = {
     "&[u8]": "const uint8_t *{0}, size_t {0}_length", "&mut [u8]": "uint8_t *{0}, size_t {0}_length",
+    "&[&[u8]]": "const lagvtsune_bytes *{0}, size_t {0}_length",
     "&mut u8": "uint8_t *{0}", "Global": "", "usize": "size_t", "bool": "bool {0}",
     "&PassedNames<'_>": "const lagvtsune_names *{0}", "&PassedRequest<'_>": "const lagvtsune_request *{0}",
 }
 RUST = {
     "&[u8]": "{0}: *const u8, {0}_length: usize", "&mut [u8]": "{0}: *mut u8, {0}_length: usize",
+    "&[&[u8]]": "{0}: *const Bytes<'_>, {0}_length: usize",
     "&mut u8": "{0}: *mut u8", "Global": "", "usize": "usize", "bool": "{0}: bool",
     "&PassedNames<'_>": "{0}: *const Names<'_>", "&PassedRequest<'_>": "{0}: *const PassedRequest<'_>",
 }

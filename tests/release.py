@@ -420,7 +420,7 @@ def library(files):
     root = files.unpacked("liblagvtsune-VERSION-x86_64-linux.tar.xz")
     exported = run(["nm", "-D", "--defined-only", "--format=just-symbols", f"{root}/lib/liblagvtsune.so"]).split()
     exported = [name for name in exported if not name.startswith("LAGVTSUNE")]
-    names = ["lagvtsune_live", "lagvtsune_registration", "lagvtsune_script"]
+    names = ["lagvtsune_asked", "lagvtsune_live", "lagvtsune_registration", "lagvtsune_script"]
     check([name.split("@")[0] for name in exported] == names, f"exported: {exported}")
     used = run(["nm", "-u", "--format=just-symbols", f"{root}/lib/liblagvtsune.a"]).split()
     used = {name for name in used if not name.endswith(":")} - USED
@@ -444,7 +444,7 @@ def library(files):
     check("fast" in reply and "best" in reply, f"pack replies {reply!r}")
     pack = [sys.executable, f"{root}/share/lagvtsune/examples/python/pack", "--", "pack", "add", "--owner", ""]
     values(pack, {"PATH": SYSTEM, **python_environment(root), "COMPLETE": "fish"})
-    return f"three exports, both C examples under valgrind, {numbers} refused allocations, Python"
+    return f"four exports, both C examples under valgrind, {numbers} refused allocations, Python"
 
 
 def values(command, environment, quiet=()):

@@ -1,10 +1,10 @@
 /*
  * lagvtsune.h - shell completions for a command that a tree file describes.
  *
- * The library has three functions: they make scripts, make registrations, and answer live requests of
- * shells. They are those of the crate complgen_c of the Lagvtsune project. The comment of each function
- * is that of its source, with its contract. The contract is proved for all arguments that meet the rules
- * below. Nothing checks that your program meets these rules.
+ * The library has four functions: they make scripts, make registrations, answer live requests of shells,
+ * and tell for which values a word is asked. They are those of the crate complgen_c of the Lagvtsune
+ * project. The comment of each function is that of its source, with its contract. The contract is proved
+ * for all arguments that meet the rules below. Nothing checks that your program meets these rules.
  *
  * release/declarations.py compares the comments, the contracts and the declarations with the source.
  *
@@ -79,7 +79,7 @@ typedef struct lagvtsune_request {
 
 /* The values of `*status`. */
 enum {
-    LAGVTSUNE_MADE = 0,          /* the text is the script, the registration or the reply */
+    LAGVTSUNE_MADE = 0,          /* the text is the script, the registration, the reply or the values */
     LAGVTSUNE_FAILED = 1,        /* the text is a message that ends in a line feed */
     LAGVTSUNE_NOT_UTF8 = 2,      /* an argument is not UTF-8; there is no text, and the result is 0 */
     LAGVTSUNE_NOT_REQUESTED = 3, /* lagvtsune_live: no shell requests anything; the result is 0 */
@@ -191,6 +191,33 @@ size_t lagvtsune_registration(bool safe, const uint8_t *shell, size_t shell_leng
 size_t lagvtsune_live(const lagvtsune_request *request,
                       uint8_t *room, size_t room_length,
                       uint8_t *status);
+
+/*
+ * Tells for which values the candidates of the last of `words` ask, if these are the words of a
+ * command line of the program in the tree file `tree`, the program's name first. Returns the length
+ * of the text, and copies the text to the start of `room` if it fits there. Otherwise `room` stays
+ * unchanged, and you can call again with more room. You may pass any bytes.
+ *
+ * The text has three parts for each value: the id of the argument, the number of the value in one
+ * use of the argument, counted from 0, and the end of the word that is the value so far. Each part
+ * has a NUL after it, so a part with a NUL is not read back. First comes the next value of an open
+ * option, then the value within the word, then the value of the positional. An argument is among
+ * them whether or not it has `values_from`.
+ *
+ * The `status` is:
+ *
+ * - 0: the text is made.
+ * - 1: the text is a message, which ends in a line feed.
+ * - 2: a word is not UTF-8, and there is no text.
+ *
+ * Proved (`crates/complgen_c/src/asked_values.rt`):
+ *
+ *     EndsAs (MakesAsked tree.now (handed words.now)) room.old room.new status.new result
+ */
+size_t lagvtsune_asked(const uint8_t *tree, size_t tree_length,
+                       const lagvtsune_bytes *words, size_t words_length,
+                       uint8_t *room, size_t room_length,
+                       uint8_t *status);
 
 /*
  * The memory of the library. liblagvtsune.a defines these three functions by malloc, realloc and free,

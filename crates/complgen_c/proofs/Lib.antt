@@ -1,3 +1,4 @@
+mod AskedLemmas
 mod Failures
 mod PathSets
 mod RegistrationLemmas

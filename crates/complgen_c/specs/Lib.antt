@@ -1,3 +1,4 @@
+pub mod AskedValues
 pub mod Listings
 pub mod Live
 pub mod Outcomes

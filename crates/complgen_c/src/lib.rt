@@ -1,7 +1,8 @@
-//! The library for programs in other languages. Its functions make a script or a registration, or
-//! answer a live request. They accept any bytes.
+//! The library for programs in other languages. Its functions make a script or a registration,
+//! answer a live request, or tell for which values a word is asked. They accept any bytes.
 #![tactic(auto)]
 
+mod asked_values;
 mod listed;
 mod live;
 mod outcome;
@@ -11,6 +12,7 @@ mod scripts;
 #[cfg(test)]
 mod tests;
 
+pub use crate::asked_values::lagvtsune_asked;
 pub use crate::live::{PassedRequest, lagvtsune_live};
 pub use crate::outcome::Outcome;
 pub use crate::registrations::{PassedNames, lagvtsune_registration};

@@ -42,8 +42,12 @@ pub(crate) fn read_request(
     Ok(Some(RequestTexts { words, env, names }))
 }
 
-// Returns copies of the slices as texts, or `None` if one of them is not UTF-8.
-fn texts(alloc: Global, slices: &[&[u8]]) -> Result<Option<Vec<String>>, AllocError>
+/// Returns copies of the slices as texts, or `None` if one of them is not UTF-8.
+///
+/// # Errors
+///
+/// `AllocError` if an allocation fails.
+pub(crate) fn texts(alloc: Global, slices: &[&[u8]]) -> Result<Option<Vec<String>>, AllocError>
     ensures { IfOk result (AreTexts (handed slices.now)) }
 {
     let mut texts = Vec::new(alloc);

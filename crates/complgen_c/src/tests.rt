@@ -1,6 +1,7 @@
-//! A request of each status, from its bytes to the room, and a registration of each set.
+//! A request of each status, from its bytes to the room, a registration of each set, and the values
+//! for which words are asked.
 
-use crate::{PassedNames, PassedRequest, lagvtsune_live, lagvtsune_registration};
+use crate::{PassedNames, PassedRequest, lagvtsune_asked, lagvtsune_live, lagvtsune_registration};
 use std::process::Abort;
 use std::test::Fail;
 
@@ -234,5 +235,32 @@ fn a_registration_needs_a_shell_and_texts(rt: HostRuntime) -> Result<(), Fail> {
     assert!(rt; room.starts_with(b"unknown shell `tcsh`, expected one of `bash`"));
     let (length, status, _) = registered(&rt, false, b"fish", b"\xff");
     same(&rt, (length, status), (0, 2));
+    Ok(())
+}
+
+// Returns the length, the status and the room for the values of the last of these words.
+fn values_of(rt: &HostRuntime, words: &[&[u8]]) -> (usize, u8, [u8; 96]) {
+    let mut room = [0; 96];
+    let mut status = u8::MAX;
+    let length = lagvtsune_asked(rt.alloc(), COMMANDS, words, &mut room, &mut status);
+    (length, status, room)
+}
+
+#[test]
+fn the_values_of_a_word_are_told(rt: HostRuntime) -> Result<(), Fail> {
+    let text = b"remote\00\0ori\0branch\00\0--remote=ori\0";
+    let (length, status, room) = values_of(&rt, &[b"app", b"--remote=ori"]);
+    same(&rt, (length, status), (text.len(), 0));
+    assert!(rt; room.starts_with(text));
+    Ok(())
+}
+
+#[test]
+fn a_word_that_is_not_utf8_has_no_values(rt: HostRuntime) -> Result<(), Fail> {
+    let (length, status, _) = values_of(&rt, &[b"app", b"\xff"]);
+    same(&rt, (length, status), (0, 2));
+    let (_, status, room) = values_of(&rt, &[b"app"]);
+    assert!(rt; status == 1);
+    assert!(rt; room.starts_with(b"no completion generated\n"));
     Ok(())
 }

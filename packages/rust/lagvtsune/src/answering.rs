@@ -7,6 +7,7 @@ mod tests;
 use crate::calls::Answer;
 use crate::engine::CompletionCandidate;
 use crate::sources::Sources;
+pub(crate) use asked::reached;
 use asked::Asked;
 use clap::Command;
 use std::env;
@@ -150,6 +151,8 @@ pub(crate) fn plain_answer(shell: &str, request: Request<'_>, index: usize) -> i
 pub(crate) struct Offered {
     /// The values and their keys.
     pub(crate) values: Vec<(String, Option<String>)>,
+    /// The id of the first argument for whose values the word is asked.
+    pub(crate) argument: Option<String>,
     pub(crate) completed: Vec<CompletionCandidate>,
     pub(crate) external: Vec<CompletionCandidate>,
 }
@@ -168,13 +171,13 @@ pub(crate) fn offered(mut request: Request<'_>, index: usize) -> io::Result<Offe
     let mut asked = Asked::of(request, None, true);
     asked.set(REQUEST, b"zsh");
     if let Some((text, completed)) = asked.completed(sources)? {
-        return Ok(asked.offered(&text, '\n', completed));
+        return asked.offered(&text, '\n', completed);
     }
     asked.set(INDEX, index.to_string().as_bytes());
     // No word and no file name has this character.
     asked.set(SEPARATOR, b"\0");
     match asked.call(None)? {
-        Answer::Text(text) => Ok(asked.offered(&text, '\0', Vec::new())),
+        Answer::Text(text) => asked.offered(&text, '\0', Vec::new()),
         _ => Err(unexpected()),
     }
 }

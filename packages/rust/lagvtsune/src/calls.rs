@@ -85,6 +85,33 @@ pub(crate) fn live(request: &LiveRequest) -> io::Result<Answer> {
     }
 }
 
+/// A value of an argument that a word is, or ends with.
+pub(crate) struct AskedValue {
+    /// The id of the argument.
+    pub(crate) id: String,
+    /// The number of the value in one use of the argument, counted from 0.
+    pub(crate) number: usize,
+    /// The value so far.
+    pub(crate) text: String,
+}
+
+/// Returns the values for which the last of these words of a command line is asked.
+///
+/// # Errors
+///
+/// The library's message, or an error if a word is not UTF-8.
+pub(crate) fn asked(tree: &str, words: &[Vec<u8>]) -> io::Result<Vec<AskedValue>> {
+    let text = made(native::asked(tree.as_bytes(), &slices(words), LEAST_ROOM))?;
+    let text = String::from_utf8_lossy(&text);
+    let mut parts = text.split_terminator('\0').map(str::to_owned);
+    let values = std::iter::from_fn(|| Some((parts.next()?, parts.next()?, parts.next()?)));
+    let values = values.map(|(id, number, text)| {
+        let number = number.parse().map_err(io::Error::other)?;
+        Ok(AskedValue { id, number, text })
+    });
+    values.collect()
+}
+
 /// Converts texts to a list that the library accepts.
 pub(crate) fn slices<T: AsRef<[u8]>>(texts: &[T]) -> Vec<Bytes<'_>> {
     texts.iter().map(|text| text.as_ref().into()).collect()

@@ -64,8 +64,6 @@ mod sources;
 mod tests;
 #[cfg(lagvtsune_own)]
 mod tree_file;
-#[cfg(lagvtsune_own)]
-mod walk;
 
 /// The functions of [`aot`] that write scripts, under an older name of `clap_complete`.
 #[cfg(lagvtsune_own)]

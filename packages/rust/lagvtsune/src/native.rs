@@ -131,6 +131,38 @@ extern "C" {
         room_length: usize,
         status: *mut u8,
     ) -> usize;
+
+    /// Tells for which values the candidates of the last of `words` ask, if these are the words of
+    /// a command line of the program in the tree file `tree`, the program's name first. Returns the
+    /// length of the text, and copies the text to the start of `room` if it fits there. Otherwise
+    /// `room` stays unchanged, and you can call again with more room. You may pass any bytes.
+    ///
+    /// The text has three parts for each value: the id of the argument, the number of the value in
+    /// one use of the argument, counted from 0, and the end of the word that is the value so far.
+    /// Each part has a NUL after it, so a part with a NUL is not read back. First comes the next
+    /// value of an open option, then the value within the word, then the value of the positional.
+    /// An argument is among them whether or not it has `values_from`.
+    ///
+    /// The `status` is:
+    ///
+    /// - 0: the text is made.
+    /// - 1: the text is a message, which ends in a line feed.
+    /// - 2: a word is not UTF-8, and there is no text.
+    ///
+    /// Proved (`crates/complgen_c/src/asked_values.rt`):
+    ///
+    /// ```text
+    /// EndsAs (MakesAsked tree.now (handed words.now)) room.old room.new status.new result
+    /// ```
+    fn lagvtsune_asked(
+        tree: *const u8,
+        tree_length: usize,
+        words: *const Bytes<'_>,
+        words_length: usize,
+        room: *mut u8,
+        room_length: usize,
+        status: *mut u8,
+    ) -> usize;
 }
 
 /// A slice of bytes, as C represents it.
@@ -323,6 +355,30 @@ pub(crate) fn live_in(request: &Request<'_>, room: &mut [MaybeUninit<u8>]) -> Re
     // SAFETY: as in `script_in`. Each part of the request borrows its slices.
     let length = memory::for_call(|| unsafe {
         lagvtsune_live(&raw const passed, room.as_mut_ptr().cast(), room.len(), &raw mut status)
+    });
+    Returned { status, length }
+}
+
+/// Returns the values for which the last of `words` is asked in the command of the tree file `tree`,
+/// and the status. All bytes are allowed. The first room has `first` bytes.
+pub(crate) fn asked(tree: &[u8], words: &[Bytes<'_>], first: usize) -> (u8, Vec<u8>) {
+    with_room(first, |room| asked_in(tree, words, room))
+}
+
+/// Writes such a text to `room`. Allocates only the memory that the library requests.
+pub(crate) fn asked_in(tree: &[u8], words: &[Bytes<'_>], room: &mut [MaybeUninit<u8>]) -> Returned {
+    let mut status = u8::MAX;
+    // SAFETY: as in `script_in`. Each `Bytes` in the words borrows its slice.
+    let length = memory::for_call(|| unsafe {
+        lagvtsune_asked(
+            tree.as_ptr(),
+            tree.len(),
+            words.as_ptr(),
+            words.len(),
+            room.as_mut_ptr().cast(),
+            room.len(),
+            &raw mut status,
+        )
     });
     Returned { status, length }
 }

@@ -290,6 +290,33 @@ fn a_refused_allocation_of_words_and_lines_is_an_error_that_loses_nothing() {
     }
 }
 
+#[test]
+fn the_values_for_which_a_word_is_asked_are_told() {
+    let cases: [(&[&str], &[u8]); 5] = [
+        (&["app", "--color", "a"], b"color\x000\0a\0"),
+        (&["app", "-ca"], b"color\x000\0a\0"),
+        (&["app", "run", "--file=x"], b"file\x000\0x\0"),
+        (&["app", "run", ""], b""),
+        (&["app", "--", "run", "--file", "x"], b""),
+    ];
+    for (words, text) in cases {
+        let told = native::asked(TREE.as_bytes(), &slices(words), 0);
+        assert_eq!(told, (0, text.to_vec()), "{words:?}");
+    }
+    let (status, text) = native::asked(TREE.as_bytes(), &slices(&["app"]), 0);
+    assert_eq!((status, &text[..]), (1, &b"no completion generated\n"[..]));
+    let not_utf8 = [&b"app"[..], b"\xff"];
+    assert_eq!(native::asked(TREE.as_bytes(), &slices(&not_utf8), 0), (2, Vec::new()));
+}
+
+#[test]
+fn a_refused_allocation_of_values_is_an_error_that_loses_nothing() {
+    let words = slices(&["app", "--color", "a"]);
+    refuse_each_and_chunks(0, b"color\x000\0a\0", |room| {
+        native::asked_in(TREE.as_bytes(), &words, as_room(room))
+    });
+}
+
 /// Requests for a registration, for words with these beginnings, and for a path.
 const LINES: [&[&str]; 5] = [
     &["app"],

@@ -1,12 +1,11 @@
 //! A live request as the library gets it, and the calls that it takes.
 
 use super::{key, unexpected, Offered, Request, ASK, STDIN, VALUES};
-use crate::calls::{self, Answer, LiveRequest};
+use crate::calls::{self, Answer, AskedValue, LiveRequest};
 use crate::engine::{lines, ordered, CompletionCandidate};
 use crate::folder::{likely_folder, Listing};
 use crate::sources::{as_external, Called, Sources};
 use crate::tree_file::{live_file, Line};
-use crate::walk::Walked;
 use clap::Command;
 use std::env;
 use std::ffi::{OsStr, OsString};
@@ -21,21 +20,18 @@ const CURRENT_DIR: &str = "PWD";
 /// A text over the values of a completer, and these values.
 pub(super) type OverCompleter = Option<(Vec<u8>, Vec<CompletionCandidate>)>;
 
-/// A request as the library gets it, and what it is about.
-pub(super) struct Asked<'r> {
+/// The arguments of a live request before the words of the command line.
+const START: [&str; 2] = ["", "--"];
+
+/// A request as the library gets it.
+pub(super) struct Asked {
     pub(super) request: LiveRequest,
-    /// The command, of which the nodes on the way of the words are built.
-    command: &'r Command,
-    /// The words before the one to complete, without the program's name.
-    before: Vec<String>,
-    /// The word to complete.
-    pub(super) word: String,
     external: Vec<CompletionCandidate>,
 }
 
-impl<'r> Asked<'r> {
+impl Asked {
     /// Makes the request for the word at `index`, or else for the last one.
-    pub(super) fn of(request: Request<'r>, index: Option<usize>, has_keys: bool) -> Asked<'r> {
+    pub(super) fn of(request: Request<'_>, index: Option<usize>, has_keys: bool) -> Asked {
         let Request { command, sources, line, current_dir, .. } = request;
         let texts: Vec<String> = line.iter().map(|word| word.to_string_lossy().into()).collect();
         let index = index.unwrap_or(texts.len().saturating_sub(1));
@@ -46,18 +42,15 @@ impl<'r> Asked<'r> {
         let home = env::var(HOME).ok().filter(|path| !path.is_empty());
         let current_dir = current_dir.and_then(Path::to_str);
         let likely = likely_folder(&word, home.as_deref(), current_dir);
-        let start = [OsString::new(), OsString::from("--")];
+        let start = START.into_iter().map(OsString::from);
         let mut asked = Asked {
             request: LiveRequest {
                 tree,
-                words: start.into_iter().chain(line).map(OsString::into_vec).collect(),
+                words: start.chain(line).map(OsString::into_vec).collect(),
                 variables: Vec::new(),
                 output: Vec::new(),
                 listing: likely.map(Listing::of).unwrap_or_default(),
             },
-            command,
-            before,
-            word,
             external,
         };
         let folders = [(HOME, home.as_deref()), (CURRENT_DIR, current_dir)];
@@ -100,29 +93,25 @@ impl<'r> Asked<'r> {
         let Some(called) = sources.called(words) else {
             return Ok(None);
         };
-        let candidates = self.candidates(&called);
+        let candidates = self.candidates(&called)?;
         let text = self.text_over(&candidates, lines(&candidates, shown))?;
         Ok(Some((text, candidates)))
     }
 
     /// Calls a completer.
-    fn candidates(&self, called: &Called<'_>) -> Vec<CompletionCandidate> {
-        let (typed, index) = self.typed(called.id);
-        ordered(called.completer.complete_at(index, typed), typed)
+    fn candidates(&self, called: &Called<'_>) -> io::Result<Vec<CompletionCandidate>> {
+        let AskedValue { number, text, .. } = self.value(called.id)?;
+        Ok(ordered(called.completer.complete_at(number, &text), &text))
     }
 
-    /// Returns the typed part of the value of the argument with this id, and the index of the value.
-    pub(super) fn typed(&self, id: &str) -> (&str, usize) {
-        let walked = self.walked();
-        let arg = walked.argument(id);
-        let (value, index) = arg.map_or((&*self.word, 0), |arg| walked.value(arg, &self.word));
-        let delimiter = arg.and_then(clap::Arg::get_value_delimiter);
-        let part = delimiter.and_then(|delimiter| value.rsplit_once(delimiter));
-        (part.map_or(value, |(_, last)| last), index)
+    /// Returns the value of the argument with this id for which the last word is asked. If the word
+    /// names an option that is open, that is the value within the word.
+    pub(super) fn value(&self, id: &str) -> io::Result<AskedValue> {
+        self.values()?.into_iter().rfind(|value| value.id == id).ok_or_else(unexpected)
     }
 
-    pub(super) fn walked(&self) -> Walked<'r> {
-        Walked::of(self.command, self.before.iter().map(String::as_str))
+    fn values(&self) -> io::Result<Vec<AskedValue>> {
+        calls::asked(&self.request.tree, &self.request.words[START.len()..])
     }
 
     /// Returns the text over the lines of candidates. If all of these are hidden, they are offered
@@ -180,10 +169,12 @@ impl<'r> Asked<'r> {
         text: &[u8],
         separator: char,
         completed: Vec<CompletionCandidate>,
-    ) -> Offered {
+    ) -> io::Result<Offered> {
+        let argument = self.values()?.into_iter().next().map(|value| value.id);
         let text = String::from_utf8_lossy(text);
         let items = text.split(separator).filter(|item| !item.is_empty());
-        Offered { values: items.map(value_and_key).collect(), completed, external: self.external }
+        let values = items.map(value_and_key).collect();
+        Ok(Offered { values, argument, completed, external: self.external })
     }
 }
 
@@ -195,13 +186,7 @@ fn live_tree(
     has_keys: bool,
 ) -> (String, Vec<CompletionCandidate>) {
     let words: Vec<&str> = before.iter().map(String::as_str).collect();
-    let reached = words.iter().fold((&*command, Vec::new()), |(node, path), word| {
-        let Some(child) = node.find_subcommand(word) else {
-            return (node, path);
-        };
-        (child, path.into_iter().chain([child.get_name()]).collect())
-    });
-    let (node, path) = reached;
+    let (node, path) = reached(command, before);
     let path: Vec<String> = path.into_iter().map(str::to_owned).collect();
     let path: Vec<&str> = path.iter().map(String::as_str).collect();
     let external = match node.is_allow_external_subcommands_set() {
@@ -215,6 +200,17 @@ fn live_tree(
     let shown: Vec<_> = shown.collect();
     let line = Line { words: &words, path: &path, external: &shown, has_keys };
     (live_file(command, &sources.values_from(), &line), external)
+}
+
+/// Returns the command to which words lead, and the names of the subcommands on the way. A word that
+/// names a subcommand leads to it, whatever precedes it.
+pub(crate) fn reached<'c>(command: &'c Command, words: &[String]) -> (&'c Command, Vec<&'c str>) {
+    words.iter().fold((command, Vec::new()), |(node, path), word| {
+        let Some(child) = node.find_subcommand(word) else {
+            return (node, path);
+        };
+        (child, path.into_iter().chain([child.get_name()]).collect())
+    })
 }
 
 /// Returns the value and the key of an item as zsh reads it: without the backslashes before `\` and

@@ -1,4 +1,4 @@
-//! Compares how the package reads words with how the library does.
+//! Compares the values that completers get with those that the library completes.
 
 use super::asked::Asked;
 use super::{Request, ASK, REQUEST, STDIN};
@@ -24,23 +24,21 @@ fn add_completers(command: &Command, path: &mut Vec<String>, sources: &mut Sourc
     }
 }
 
-/// Checks which argument a request asks for, and which part of the word is its value, if it asks for
+/// Checks which part of the word is the value of the argument that a request asks for, if it asks for
 /// one. Returns whether it does.
 fn is_read_alike(request: Request<'_>) -> bool {
-    let sources = request.sources;
+    let (sources, word) = (request.sources, request.line.last().unwrap().clone());
+    let word = word.into_string().unwrap();
     let mut asked = Asked::of(request, None, false);
     asked.set(REQUEST, b"fish");
     let Answer::Run(words) = asked.call(Some(ASK)).unwrap() else {
         return false;
     };
     let id = sources.called(&words).unwrap().id;
-    if !asked.word.starts_with('-') {
-        assert_eq!(asked.walked().asked_by(&asked.word).unwrap().get_id(), id);
-    }
     // The library puts the text before the value in front of each line that begins with what is typed.
-    asked.request.output = format!("{}z\n", asked.typed(id).0).into_bytes();
+    asked.request.output = format!("{}z\n", asked.value(id).unwrap().text).into_bytes();
     let offered = String::from_utf8(asked.text(STDIN).unwrap()).unwrap();
-    let value = format!("{}z", asked.word);
+    let value = format!("{word}z");
     assert!(offered.lines().any(|line| line == value), "{value} is not in {offered}");
     true
 }

@@ -1,12 +1,11 @@
 //! The candidates for a word, for shells of your own.
 
 use super::CompletionCandidate;
-use crate::answering::{offered, Offered, Request};
+use crate::answering::{offered, reached, Offered, Request};
 use crate::sources::Sources;
 #[allow(unused_imports)] // Only early releases of clap 4 need it.
 use crate::tree_file::LaterGetters as _;
 use crate::tree_file::{arg_key, command_key, value_key};
-use crate::walk::Walked;
 use clap::builder::StyledStr;
 use clap::{Arg, Command};
 use std::ffi::OsString;
@@ -59,19 +58,15 @@ pub(crate) fn candidates(
     let request = Request { command, sources, line, current_dir, may_run: false };
     let offered = offered(request, index)?;
     let before = texts.get(first..index).unwrap_or_default();
-    let place = Place {
-        walked: Walked::of(cmd, before.iter().map(String::as_str)),
-        word: texts.get(index).map_or("", String::as_str),
-        offered: &offered,
-    };
+    let (node, _) = reached(cmd, before);
+    let place = Place { node, offered: &offered };
     let values = offered.values.iter();
     Ok(values.map(|(value, key)| place.candidate(value, key.as_deref())).collect())
 }
 
-/// The place of a word, and what is offered there.
+/// The command that reads a word, and what is offered for the word.
 struct Place<'p> {
-    walked: Walked<'p>,
-    word: &'p str,
+    node: &'p Command,
     offered: &'p Offered,
 }
 
@@ -94,7 +89,9 @@ impl Place<'_> {
 
     /// Sets the tag of a value to its argument, unless it has a tag.
     fn as_value(&self, candidate: CompletionCandidate) -> CompletionCandidate {
-        match self.walked.asked_by(self.word) {
+        let id = self.offered.argument.as_deref();
+        let mut args = self.node.get_arguments();
+        match args.find(|arg| id.is_some_and(|id| arg.get_id() == id)) {
             Some(arg) if candidate.get_tag().is_none() => {
                 candidate.tag(Some(tag(&arg.to_string())))
             }
@@ -115,7 +112,7 @@ impl Place<'_> {
 
     /// Returns the candidate of a subcommand, an argument or a possible value with this key.
     fn declared(&self, value: &str, key: &str) -> Option<CompletionCandidate> {
-        let node = self.walked.command;
+        let node = self.node;
         let child = node.get_subcommands().find(|child| command_key(child) == key);
         if let Some(child) = child {
             return Some(of_command(node, child, value));
@@ -133,7 +130,7 @@ impl Place<'_> {
 
     /// Returns the candidate of a flag or a subcommand that building adds.
     fn added(&self, value: &str) -> Option<CompletionCandidate> {
-        let node = self.walked.command;
+        let node = self.node;
         if let Some(child) = node.get_subcommands().find(|child| child.get_name() == value) {
             return Some(of_command(node, child, value));
         }
