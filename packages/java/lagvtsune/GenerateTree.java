@@ -51,7 +51,7 @@ import picocli.CommandLine.Spec;
  * </pre>
  *
  * <p>The tree file has the {@code completionCandidates} of the moment at which it is written. If their class implements
- * {@link Computed}, the tree file names the third call instead, so that a shell computes them at each Tab.
+ * {@link Computed}, the tree file names the last call instead, so that a shell computes them at each Tab.
  */
 @Command(name = "generate-tree", hidden = true, description = "Print the tree file for complgen")
 public final class GenerateTree implements Callable<Integer> {
