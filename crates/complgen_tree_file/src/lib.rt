@@ -89,7 +89,9 @@ fn value<'t>(alloc: Global, text: &'t str, scratch: &'t mut Scratch) -> Result<V
 {
     match read_value(alloc, text, scratch) {
         Ok(value) => Ok(value),
-        Err(JsonError::NotJson) => Err(TreeError::NotJson),
         Err(JsonError::Memory) => Err(TreeError::Memory),
+        Err(JsonError::NotJson(_) | JsonError::MoreText(_) | JsonError::OutOfRange(_)) => {
+            Err(TreeError::NotJson)
+        }
     }
 }

@@ -12,7 +12,7 @@ ghost use Rattle.complgen_check.specs.Findings.{IsError, shown};
 
 use crate::errors::doubles::hidden_members;
 use crate::errors::finding::{Finding, Level, Source};
-use crate::errors::not_json::{json_errors, one_error};
+use crate::errors::not_json::{more_text, one_error, range_errors, reading_error};
 use crate::errors::texts::fault_text;
 use cc_base::on_one_line;
 use cc_command::Command;
@@ -67,7 +67,13 @@ fn check_text<'t>(
             let checked = check_value(alloc, source)?;
             Ok(checked)
         }
-        Err(JsonError::NotJson) => Ok(Checked::Errors(json_errors(alloc, text)?)),
+        Err(JsonError::NotJson(offset)) => {
+            Ok(Checked::Errors(reading_error(alloc, text.as_bytes(), offset)?))
+        }
+        Err(JsonError::MoreText(end)) => Ok(Checked::Errors(more_text(alloc, text, end)?)),
+        Err(JsonError::OutOfRange(value)) => {
+            Ok(Checked::Errors(range_errors(alloc, text, value)?))
+        }
         Err(JsonError::Memory) => Err(AllocError),
     }
 }

@@ -7,8 +7,7 @@ use crate::errors::checking::placed_errors;
 use crate::errors::finding::{Finding, Level, Source};
 use crate::errors::places::show_path;
 use cc_base::on_one_line;
-use complgen_tree_file::{Scratch, Step, Value};
-use json::Reader;
+use complgen_tree_file::{Step, Value};
 use std::alloc::{AllocError, Global};
 
 // The greatest depth of lists and objects in one another.
@@ -34,32 +33,16 @@ pub fn one_error(alloc: Global, offset: usize, text: &str) -> Result<Vec<Finding
     Ok(found)
 }
 
-/// Returns the errors that explain why `text` is not JSON. `read_value` fails on that text.
+/// Returns the error that explains why reading a text ended at `offset`.
 ///
 /// # Errors
 ///
 /// `AllocError` if an allocation fails.
-pub fn json_errors(alloc: Global, text: &str) -> Result<Vec<Finding>, AllocError>
-    ensures { IfOk result (λ found. AreErrors found.items) }
-{
-    let mut scratch = Scratch::new(alloc);
-    let mut reader = Reader::new(text, &mut scratch)?;
-    match Value::read(alloc, &mut reader, MOST_OPEN) {
-        Ok(value) => {
-            let source = Source {
-                text,
-                value,
-                spots: None,
-            };
-            after_value(alloc, source, &mut reader)
-        }
-        Err(json::Error::OutOfMemory) => Err(AllocError),
-        Err(_) => reading_error(alloc, text.as_bytes(), reader.offset()),
-    }
-}
-
-// Explains why reading ended at `offset`.
-fn reading_error(alloc: Global, bytes: &[u8], offset: usize) -> Result<Vec<Finding>, AllocError>
+pub(crate) fn reading_error(
+    alloc: Global,
+    bytes: &[u8],
+    offset: usize,
+) -> Result<Vec<Finding>, AllocError>
     ensures { IfOk result (λ found. AreErrors found.items) }
 {
     let offset = offset.min(bytes.len());
@@ -71,32 +54,49 @@ fn reading_error(alloc: Global, bytes: &[u8], offset: usize) -> Result<Vec<Findi
     one_error(alloc, offset, why_no_json(bytes, offset))
 }
 
-// Explains what is wrong with a text that begins with a value.
-fn after_value(
+/// Returns the error that there is more text after the value, which ends at `end`.
+///
+/// # Errors
+///
+/// `AllocError` if an allocation fails.
+pub(crate) fn more_text(alloc: Global, text: &str, end: usize) -> Result<Vec<Finding>, AllocError>
+    ensures { IfOk result (λ found. AreErrors found.items) }
+{
+    let offset = end.min(text.len());
+    one_error(
+        alloc,
+        offset,
+        "not JSON: there is more text after the value",
+    )
+}
+
+/// Returns the errors of a value that `text` spells and that has a number out of range: those that
+/// the value has besides, or otherwise one for the first such number. If the value has no other
+/// error, the number is in a member that a later one hides.
+///
+/// # Errors
+///
+/// `AllocError` if an allocation fails.
+pub(crate) fn range_errors<'t>(
     alloc: Global,
-    mut source: Source<'_>,
-    reader: &mut Reader<'_>,
+    text: &'t str,
+    value: Value<'t>,
 ) -> Result<Vec<Finding>, AllocError>
     ensures { IfOk result (λ found. AreErrors found.items) }
 {
-    let offset = reader.offset().min(source.text.len());
-    if reader.next().is_some() {
-        // One call here, instead of a drop of each field.
-        drop(source);
-        return one_error(
-            alloc,
-            offset,
-            "not JSON: there is more text after the value",
-        );
-    }
-    let errors = range_error(alloc, &mut source);
+    let mut source = Source {
+        text,
+        value,
+        spots: None,
+    };
+    let errors = errors_or_range(alloc, &mut source);
+    // One call here, instead of a drop of each field.
     drop(source);
     errors
 }
 
-// Finds the first number out of range, unless the value has other errors. If it has none, the
-// number is in a member that a later one hides.
-fn range_error(alloc: Global, source: &mut Source<'_>) -> Result<Vec<Finding>, AllocError>
+// Returns the errors in the value, or if it has none, that of the first number out of range.
+fn errors_or_range(alloc: Global, source: &mut Source<'_>) -> Result<Vec<Finding>, AllocError>
     ensures { IfOk result (λ found. AreErrors found.items) }
 {
     let found = placed_errors(alloc, source)?;

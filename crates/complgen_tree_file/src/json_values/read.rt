@@ -9,10 +9,14 @@ use json::{Reader, Scratch, Value};
 use std::alloc::Global;
 
 /// The reason why no value was read.
-#[derive(Debug, Drop)]
-pub enum JsonError {
-    /// The text is not JSON, is nested too deeply, or has a number out of range.
-    NotJson,
+#[derive(Drop)]
+pub enum JsonError<'t> {
+    /// The text is not JSON, or is nested too deeply. Reading ended at this offset in bytes.
+    NotJson(usize),
+    /// There is more text after the value, which ends at this offset in bytes.
+    MoreText(usize),
+    /// A number in this value, which the text spells, is out of range.
+    OutOfRange(Value<'t>),
     /// An allocation failed.
     Memory,
 }
@@ -24,12 +28,13 @@ const MAX_DEPTH: usize = 127;
 ///
 /// # Errors
 ///
-/// `NotJson` if `text` spells no value, `Memory` if an allocation fails.
+/// `NotJson` or `MoreText` if `text` spells no value, `OutOfRange` if a number in it is too large
+/// for a float, and `Memory` if an allocation fails.
 pub fn read_value<'t>(
     alloc: Global,
     text: &'t str,
     scratch: &'t mut Scratch,
-) -> Result<Value<'t>, JsonError>
+) -> Result<Value<'t>, JsonError<'t>>
     ensures reads { ReadsJson text.now result }
 
     // All members of an object are kept, also those of one key.
@@ -39,24 +44,24 @@ pub fn read_value<'t>(
         return Err(JsonError::Memory);
     };
     let value = first(alloc, &mut reader)?;
+    let end = reader.offset();
     if reader.next().is_some() {
         drop(value);
-        return Err(JsonError::NotJson);
+        return Err(JsonError::MoreText(end));
     }
     if !has_range(&value) {
-        drop(value);
-        return Err(JsonError::NotJson);
+        return Err(JsonError::OutOfRange(value));
     }
     Ok(value)
 }
 
 // Reads the first value of the reader.
-fn first<'t>(alloc: Global, reader: &mut Reader<'t>) -> Result<Value<'t>, JsonError>
+fn first<'t>(alloc: Global, reader: &mut Reader<'t>) -> Result<Value<'t>, JsonError<'t>>
     ensures { ReadsFirst reader.old result reader.new }
 {
     match Value::read(alloc, reader, MAX_DEPTH) {
         Ok(value) => Ok(value),
         Err(json::Error::OutOfMemory) => Err(JsonError::Memory),
-        Err(_) => Err(JsonError::NotJson),
+        Err(_) => Err(JsonError::NotJson(reader.offset())),
     }
 }

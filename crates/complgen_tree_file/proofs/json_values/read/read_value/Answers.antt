@@ -110,8 +110,12 @@ returns-then-is_some-clause-reads c =
 
 pub returns-then-not-has_range-clause-reads : goal.returns-then-not-has_range-clause-reads
 returns-then-not-has_range-clause-reads c =
-    is_outside _ (value_view c.in_ok-value.value) c.first.new.reader c.next.new.self (ap (value 127) (sym c.in-Ok.ensures.ok) ∙ c.in_ok-value.ensures) c.next.result c.next.ensures.value
-    (search rules) (search rules)
+    let first = ap (value 127) (sym c.in-Ok.ensures.ok) ∙ c.in_ok-value.ensures in (
+      is_outside _ (value_view c.in_ok-value.value) c.first.new.reader c.next.new.self first
+          c.next.result c.next.ensures.value (search rules) (search rules),
+      nothing_left _ (value_view c.in_ok-value.value) c.first.new.reader c.next.new.self first
+          c.next.result c.next.ensures.value (search rules),
+    )
 
 pub returns-clause-reads : goal.returns-clause-reads
 returns-clause-reads c =
