@@ -57,7 +57,6 @@ REFUSALS = {
         1: [
             "invalid variant: .*", "tree: unreadable", "tree: not JSON", "tree: bad form",
             "two commands share the label .*", UNKNOWN_SHELL, "no completion generated",
-            "complgen: .*: tree: not JSON", r"complgen: .*: tree: bad form \(run complgen check .*\)",
             ".*: tree: unreadable", r".*: tree: (not JSON|bad form) \(run complgen check .*\)",
         ],
         2: ["index: bad number", "words: not UTF-8", "error: .*"],

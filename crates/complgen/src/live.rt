@@ -9,12 +9,11 @@ use cc_command::Release;
 use cc_lines::SystemLines;
 use cc_replies::{EnvValues, home, variables};
 use complgen_live::{
-    BadTree, OWN_TREE, Origin, ReplyError, Request, command_name, known_names, reply,
-    request_words, tree_folders, tree_paths, write_registrations,
+    OWN_TREE, Origin, ReplyError, Request, command_name, known_names, reply, request_words,
+    tree_folders, tree_paths, write_registrations,
 };
-use complgen_scripts::{Refusal, error_refusal};
+use complgen_scripts::{Refusal, error_refusal, named_refusal};
 use std::alloc::{AllocError, Global};
-use std::borrow::CowStr;
 use std::convert::AsStr;
 use std::env::{self, Env};
 use std::io::Input;
@@ -145,29 +144,16 @@ fn write_answer<'r, R: Files + Input + AllocGlobal, D: Folder, W: Sink>(
     };
     match reply(rt.alloc(), &request, &lines, out) {
         Ok(status) => Ok(status),
-        Err(error) => Err(reply_refusal(rt.alloc(), path, &error)),
+        Err(error) => Err(reply_refusal(rt.alloc(), path, error)),
     }
 }
 
 // Returns what is printed if there is no reply, over the tree file at `path`.
-fn reply_refusal(alloc: Global, path: &str, error: &ReplyError) -> Refusal {
+fn reply_refusal(alloc: Global, path: &str, error: ReplyError) -> Refusal {
     match error {
-        ReplyError::Library(error) => error_refusal(alloc, error),
-        ReplyError::Tree(problem) => match tree_line(alloc, path, *problem) {
-            Ok(text) => Refusal {
-                status: 1,
-                text: CowStr::Owned(text),
-            },
-            Err(failed) => Refusal::from(failed),
-        },
+        ReplyError::Library(error) => error_refusal(alloc, &error),
+        ReplyError::Tree(error) => named_refusal(alloc, path, error),
     }
-}
-
-// Returns the message for the tree file at `path` as a line.
-fn tree_line(alloc: Global, path: &str, problem: BadTree) -> Result<String, AllocError> {
-    let mut line = problem.message(alloc, path)?.into_string();
-    line.push_str("\n")?;
-    Ok(line)
 }
 
 fn write_known<R: Eprint + AllocGlobal, D: Folder, W: Sink>(

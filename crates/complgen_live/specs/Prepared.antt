@@ -12,9 +12,9 @@ use Rattle.cc_engine.specs.Values.{MayReturn}
 use Rattle.cc_replies.specs.Environment.{value_of}
 use Rattle.cc_replies.specs.declared.environment.EnvValues.{EnvValues}
 use Rattle.complgen_tree_file.specs.TreeFile.{Describes}
+use Rattle.complgen_tree_file.specs.declared.error.TreeError.{TreeError}
 use Rattle.complgen_live.specs.TreeErrors.{IsBad}
 use Rattle.complgen_live.specs.declared.prepared.Prepared.{Prepared}
-use Rattle.complgen_live.specs.declared.reply_errors.BadTree.{BadTree}
 use Rattle.complgen_live.specs.declared.reply_errors.ReplyError.{ReplyError}
 use Rattle.complgen_live.specs.declared.reply_errors.ReplyError.TheVariants as failed
 
@@ -56,7 +56,7 @@ pub data Prepares (env : EnvValues) : Option (List ℕ) → Result (Option Prepa
       → IsUnknownShell shell_names name error
       → Prepares env (Some bytes) (Err (failed.Library error))
   -- the file describes no command
-  bad_tree : (bytes : List ℕ) (shell : SafeShell) (problem : BadTree) → requested env ≡ known shell
+  bad_tree : (bytes : List ℕ) (shell : SafeShell) (problem : TreeError) → requested env ≡ known shell
       → IsBad problem bytes → Prepares env (Some bytes) (Err (failed.Tree problem))
   -- out of memory
   out_of_memory : (bytes : List ℕ) → Prepares env (Some bytes) (Err (failed.Library Memory))

@@ -23,5 +23,5 @@ pub use crate::own_tree::OWN_TREE;
 pub use crate::plain_names::PlainNames;
 pub use crate::registrations::write_registrations;
 pub use crate::replies::reply;
-pub use crate::reply_errors::{BadTree, ReplyError};
+pub use crate::reply_errors::ReplyError;
 pub use crate::requests::{Origin, Request, request_words};

@@ -4,7 +4,7 @@ ghost use Rattle.std.specs.Option.{option_copied};
 ghost use Rattle.complgen_live.specs.Prepared.{Prepares};
 ghost use Rattle.complgen_live.specs.TreeErrors.{DescribedBy};
 
-use crate::reply_errors::{BadTree, ReplyError};
+use crate::reply_errors::ReplyError;
 use cc_base::Error;
 use cc_command::Command;
 use cc_env::{SafeShell, Shells, known_shell, wanted_name};
@@ -60,8 +60,8 @@ fn described(alloc: Global, bytes: &[u8]) -> Result<Command, ReplyError>
 {
     match read_tree(alloc, bytes) {
         Ok(command) => Ok(command),
-        Err(TreeError::NotJson) => Err(ReplyError::Tree(BadTree::NotJson)),
-        Err(TreeError::BadForm) => Err(ReplyError::Tree(BadTree::BadForm)),
+        Err(TreeError::NotJson) => Err(ReplyError::Tree(TreeError::NotJson)),
+        Err(TreeError::BadForm) => Err(ReplyError::Tree(TreeError::BadForm)),
         Err(TreeError::Memory) => Err(ReplyError::Library(Error::Memory)),
     }
 }

@@ -14,4 +14,6 @@ pub use crate::one_script::script;
 pub use crate::plans::Plan;
 pub use crate::refusals::{Refusal, UNREADABLE, WRITE_FAILED, error_refusal};
 pub use crate::shells::shell_of;
-pub use crate::tree_files::{TreeFile, named_tree, tree, unreadable, unreadable_values};
+pub use crate::tree_files::{
+    TreeFile, named_refusal, named_tree, tree, unreadable, unreadable_values,
+};

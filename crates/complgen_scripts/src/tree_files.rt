@@ -78,8 +78,8 @@ pub fn unreadable_values(alloc: Global, path: &str) -> Refusal
     file_refusal(alloc, path, VALUES_UNREADABLE)
 }
 
-// Returns what is printed for an error of the tree file at `path`.
-fn named_refusal(alloc: Global, path: &str, error: TreeError) -> Refusal
+/// Returns what is printed for an error of the tree file at `path`.
+pub fn named_refusal(alloc: Global, path: &str, error: TreeError) -> Refusal
     ensures { ReportsTreeAt path.now error result }
 {
     match error {
