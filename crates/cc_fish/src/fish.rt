@@ -10,7 +10,7 @@ ghost use Rattle.cc_fish.specs.Script.{body_text, fish_script, script_text, visi
 use crate::function::function_name;
 use crate::head::write_head;
 use crate::keys::FishKeys;
-use crate::lines::write_visit;
+use crate::records::write_visit;
 use cc_base::{Error, Sink};
 use cc_command::{Command, full_name};
 use cc_generator::{Flat, Generator, PathStep, PathSteps};

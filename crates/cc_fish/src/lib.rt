@@ -22,7 +22,7 @@ mod front;
 mod function;
 mod head;
 mod keys;
-mod lines;
+mod records;
 mod texts;
 mod values;
 

@@ -4,7 +4,7 @@ use Rattle.cc_base.specs.Bytes.{line_feed}
 use Rattle.cc_base.proofs.WrittenTexts.{writes_same, writes_then}
 use Rattle.cc_base.proofs.Stopped.{put_stopped, stops_before}
 use Rattle.cc_fish.specs.Script.{child_text, help_text}
-use Rattle.cc_fish.proofs.lines.write_name.Goals as goal
+use Rattle.cc_fish.proofs.records.write_name.Goals as goal
 
 -- the text up to the name, with the given mark
 abbrev before_name : List ℕ → List ℕ → List ℕ

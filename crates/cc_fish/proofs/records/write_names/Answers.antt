@@ -3,7 +3,7 @@ use Rattle.cc_arg.specs.ShownNames.{shown_longs}
 use Rattle.cc_base.proofs.WrittenTexts.{writes_same, writes_then}
 use Rattle.cc_base.proofs.Stopped.{put_stopped, stops_before}
 use Rattle.cc_fish.specs.Script.{help_text, long_text, names_text}
-use Rattle.cc_fish.proofs.lines.write_names.Goals as goal
+use Rattle.cc_fish.proofs.records.write_names.Goals as goal
 
 pub returns-in_err-write_shorts : goal.returns-in_err-write_shorts
 unfolding names_text

@@ -2,7 +2,7 @@ use Rattle.std.proofs.Common.{ap, false, flat_map, true}
 use Rattle.cc_base.proofs.WrittenTexts.{writes_same, writes_then}
 use Rattle.cc_base.proofs.Stopped.{put_stopped, stops_before}
 use Rattle.cc_fish.specs.Script.{argument_text, below_text, flags_text, node_text, options_text}
-use Rattle.cc_fish.proofs.lines.write_node.Goals as goal
+use Rattle.cc_fish.proofs.records.write_node.Goals as goal
 
 pub returns-in_err-write_arguments : goal.returns-in_err-write_arguments
 unfolding flags_text node_text options_text

@@ -2,7 +2,7 @@ use Rattle.std.proofs.Common.{◌≡◌, ◌∷◌, flat_map, refl, rules}
 use Rattle.cc_command.specs.Iterators.{arguments_left}
 use Rattle.cc_fish.specs.Script.{argument_text}
 use Rattle.cc_base.proofs.TextLoops.{goes_next}
-use Rattle.cc_fish.proofs.lines.write_arguments.Goals as goal
+use Rattle.cc_fish.proofs.records.write_arguments.Goals as goal
 
 pub loop-argument-preserved : goal.loop-argument-preserved
 loop-argument-preserved g c =

@@ -3,7 +3,7 @@ use Rattle.cc_base.specs.Bytes.{line_feed}
 use Rattle.cc_base.proofs.WrittenTexts.{writes_then}
 use Rattle.cc_base.proofs.Stopped.{put_stopped, stops_before}
 use Rattle.cc_fish.specs.Script.{argument_text, names_text, values_text}
-use Rattle.cc_fish.proofs.lines.write_argument.Goals as goal
+use Rattle.cc_fish.proofs.records.write_argument.Goals as goal
 
 pub returns-in_err-put_piece : goal.returns-in_err-put_piece
 unfolding argument_text

@@ -2,7 +2,7 @@ use Rattle.std.proofs.Common.{◌≡◌, ◌∷◌, flat_map, refl, rules}
 use Rattle.cc_arg.specs.Aliases.{longs_left}
 use Rattle.cc_fish.specs.Script.{long_text}
 use Rattle.cc_base.proofs.TextLoops.{goes_next}
-use Rattle.cc_fish.proofs.lines.write_longs.Goals as goal
+use Rattle.cc_fish.proofs.records.write_longs.Goals as goal
 
 pub loop-long-preserved : goal.loop-long-preserved
 loop-long-preserved g c =

@@ -2,7 +2,7 @@ use Rattle.std.proofs.Common.{◌≡◌, ◌∷◌, flat_map, refl, rules}
 use Rattle.cc_arg.specs.Aliases.{shorts_left}
 use Rattle.cc_fish.specs.Script.{short_text}
 use Rattle.cc_base.proofs.TextLoops.{goes_next}
-use Rattle.cc_fish.proofs.lines.write_shorts.Goals as goal
+use Rattle.cc_fish.proofs.records.write_shorts.Goals as goal
 
 pub loop-short-preserved : goal.loop-short-preserved
 loop-short-preserved g c =

@@ -4,7 +4,7 @@ use Rattle.cc_base.proofs.WrittenTexts.{writes_same}
 use Rattle.cc_command.specs.Iterators.{names_left}
 use Rattle.cc_fish.specs.Script.{child_text}
 use Rattle.cc_base.proofs.TextLoops.{goes_next}
-use Rattle.cc_fish.proofs.lines.write_child.Goals as goal
+use Rattle.cc_fish.proofs.records.write_child.Goals as goal
 
 pub loop-name-preserved : goal.loop-name-preserved
 loop-name-preserved g c =
