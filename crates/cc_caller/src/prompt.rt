@@ -115,8 +115,8 @@ fn prompts() -> Shells<'static, Prompt>
     Shells(PROMPTS)
 }
 
-/// Writes what the prompt asks for to `out`, and returns whether it asks. If nothing asks, it writes
-/// nothing and returns `false`.
+/// Writes what the prompt asks for to `out`, and returns whether it asks. If nothing asks, it
+/// writes nothing and returns `false`.
 ///
 /// If no words follow a `--`, the text is the registration. If words follow, it is a line for each
 /// value that may be offered for the last one.

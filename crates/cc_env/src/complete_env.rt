@@ -99,8 +99,8 @@ impl<'s, F, E> CompleteEnv<'s, F, E> {
         self
     }
 
-    /// Sets the path of the program that a shell runs for candidates, in place of an earlier one. By
-    /// default it is the first argument.
+    /// Sets the path of the program that a shell runs for candidates, in place of an earlier one.
+    /// By default it is the first argument.
     pub fn completer(mut self, completer: String) -> CompleteEnv<'s, F, E>
         ensures { result ≡ record self.entry { completer = Some (string_bytes completer) } }
     {

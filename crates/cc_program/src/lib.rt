@@ -1,7 +1,7 @@
 //! A program that completes its words and parses them by the same tree, and short forms of
-//! describing a command line: arguments and commands as most programs have them, each with its
-//! help text, and steps that pass a failure on. Other calls promise that live completion agrees with
-//! the parser and with a bash script.
+//! describing a command line: arguments and commands as most programs have them, each with its help
+//! text, and steps that pass a failure on. Other calls promise that live completion agrees with the
+//! parser and with a bash script.
 //!
 //! ```rattle
 //! use cc_base::Error;

@@ -51,14 +51,15 @@ pub struct CobraReply {
 impl CobraReply {
     /// Reads `bytes`, the lines that a Cobra program answers.
     ///
-    /// Lines count as for `GivenLines` without `split`. The last one is a directive if it is `:` and
-    /// one to five digits. The others are values, but for those that begin with `_activeHelp_ `.
-    /// The bits of the directive's number say what is offered:
+    /// Lines count as for `GivenLines` without `split`. The last one is a directive if it is `:`
+    /// and one to five digits. The others are values, but for those that begin with
+    /// `_activeHelp_ `. The bits of the directive's number say what is offered:
     ///
     /// - 1, an error: nothing.
     /// - 8, file extensions: files in place of the values.
     /// - 16: directories in place of the values.
-    /// - none of these: the values, or paths of all kinds if there is no value and bit 4 is not set.
+    /// - none of these: the values, or paths of all kinds if there is no value and bit 4 is not
+    ///   set.
     ///
     /// Bit 2 says that no space follows a value.
     ///

@@ -40,8 +40,8 @@ pub fn write_safe_values<W: Sink>(
 /// tab.
 ///
 /// Leaves out a value that is empty, has a control character, begins with `~` but not with `~/`, or
-/// begins with a blank that is not ASCII. Leaves out the first line of a help text if it is empty or
-/// has a control character.
+/// begins with a blank that is not ASCII. Leaves out the first line of a help text if it is empty
+/// or has a control character.
 ///
 /// # Errors
 ///

@@ -89,8 +89,8 @@ pub struct PassedRequest<'p> {
 /// - 5: the text is the words of a command, each with a vertical tab after it. Write the text to
 ///   the standard output, and end your program with exit status 3. The shell then runs the command,
 ///   and makes the request again. In that request, `_COMPLGEN_VALUES` is `stdin`.
-/// - 6: the text is made, a reply after whose values no space follows. Write the text to the standard
-///   output, and end your program with exit status 4.
+/// - 6: the text is made, a reply after whose values no space follows. Write the text to the
+///   standard output, and end your program with exit status 4.
 #[unsafe(no_mangle)]
 pub extern "C" fn lagvtsune_live(
     alloc: Global,

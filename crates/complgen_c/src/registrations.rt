@@ -36,11 +36,11 @@ struct TextNames<'p> {
     completer: &'p str,
 }
 
-/// Makes the registration for the shell with the name `shell`: the text by which that shell runs the
-/// completer at a Tab. If `safe` is true, it is the one of the safe set, which evaluates no name, no
-/// value and no typed word. Otherwise it is the original's. Returns the length of the text, and
-/// copies the text to the start of `room` if it fits there. Otherwise `room` stays unchanged, and
-/// you can call again with more room. You may pass any bytes.
+/// Makes the registration for the shell with the name `shell`: the text by which that shell runs
+/// the completer at a Tab. If `safe` is true, it is the one of the safe set, which evaluates no
+/// name, no value and no typed word. Otherwise it is the original's. Returns the length of the
+/// text, and copies the text to the start of `room` if it fits there. Otherwise `room` stays
+/// unchanged, and you can call again with more room. You may pass any bytes.
 ///
 /// `names` has the names in the text:
 ///
@@ -51,8 +51,8 @@ struct TextNames<'p> {
 ///
 /// The safe set quotes `bin` and `completer`, and writes the other two as identifiers: with `_` for
 /// each byte that is not an ASCII letter, a digit or `_`, and before a digit at the start. An empty
-/// one becomes `_`. The original's set writes `variable` and `name` without quotes, and in bash also
-/// `bin`. So pass only plain names there.
+/// one becomes `_`. The original's set writes `variable` and `name` without quotes, and in bash
+/// also `bin`. So pass only plain names there.
 ///
 /// The `status` is:
 ///

@@ -21,9 +21,9 @@ use std::alloc::{AllocError, Global};
 /// warning reports that. Its place is the root.
 ///
 /// The clauses say which premises of the promises about scripts are found not to hold, and where. A
-/// warning says so exactly if one does not hold. So if there are only notes, each premise holds. The
-/// script for each shell can then be written, unless memory runs out or a write fails, and it reads
-/// back.
+/// warning says so exactly if one does not hold. So if there are only notes, each premise holds.
+/// The script for each shell can then be written, unless memory runs out or a write fails, and it
+/// reads back.
 ///
 /// # Errors
 ///

@@ -27,8 +27,8 @@ use std::alloc::{AllocError, Global};
 ///
 /// There is an error exactly if the file describes no command. Otherwise `check` prints a warning
 /// for each duplicate key, then what `tree_warnings` returns, each on one line. If it returns true,
-/// each premise of the promises about scripts holds. So the script for each shell can be written under that name,
-/// unless memory runs out or a write fails, and it reads back.
+/// each premise of the promises about scripts holds. So the script for each shell can be written
+/// under that name, unless memory runs out or a write fails, and it reads back.
 ///
 /// # Errors
 ///

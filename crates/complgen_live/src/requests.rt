@@ -17,8 +17,8 @@ pub enum Origin<'r> {
 }
 
 impl Origin<'_> {
-    /// Returns whether commands that the tree names may be run: those of the program's own tree, and
-    /// those of a file that was found by an absolute path. Another path depends on the current
+    /// Returns whether commands that the tree names may be run: those of the program's own tree,
+    /// and those of a file that was found by an absolute path. Another path depends on the current
     /// directory, which may belong to someone else.
     pub fn is_trusted(&self) -> bool
         ensures { result ≡ is_trusted self.now }

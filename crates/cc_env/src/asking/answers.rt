@@ -177,8 +177,8 @@ where
     }
 }
 
-// Returns the text over a command in which the values that were read are those of each argument whose
-// values come from where those of `asked` come from.
+// Returns the text over a command in which the values that were read are those of each argument
+// whose values come from where those of `asked` come from.
 fn text_over<D, C>(
     alloc: Global,
     call: &Call<'_>,

@@ -34,12 +34,12 @@ pub enum AnswerStep {
     ReadLines(Arg),
 }
 
-/// Returns the words to run for the values of the word at `index`, counted from 0, in a command line
-/// of `command`, which is built first. They are those of the argument that is asked for there, and
-/// if it gets words of the command line, then those from the first one behind the program's name to
-/// the one at `index`. Returns `None` if no argument is asked for there, if its values do not come
-/// from a command, or if a shell cannot run the words. The `words` are those that `complete_from`
-/// takes.
+/// Returns the words to run for the values of the word at `index`, counted from 0, in a command
+/// line of `command`, which is built first. They are those of the argument that is asked for there,
+/// and if it gets words of the command line, then those from the first one behind the program's
+/// name to the one at `index`. Returns `None` if no argument is asked for there, if its values do
+/// not come from a command, or if a shell cannot run the words. The `words` are those that
+/// `complete_from` takes.
 ///
 /// # Errors
 ///

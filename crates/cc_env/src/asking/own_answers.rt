@@ -33,8 +33,8 @@ pub struct Called<'r> {
 ///
 /// # Errors
 ///
-/// Those of `answer_own`, with nothing written. `Write` if `out` fails, which then holds a beginning
-/// of the answer.
+/// Those of `answer_own`, with nothing written. `Write` if `out` fails, which then holds a
+/// beginning of the answer.
 pub fn try_complete_asking<F, D, C, S, W>(
     alloc: Global,
     completion: &CompleteEnv<'_, F, SafeShell>,
