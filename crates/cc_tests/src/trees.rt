@@ -1,5 +1,6 @@
 //! A small tree, as a tree file and as a command.
 
+use cc_command::Release;
 use clap_complete::Error;
 use clap_complete::command::Command;
 use complgen_tree_file::read_tree;
@@ -15,7 +16,7 @@ pub(crate) const NESTED: &str = r#"{"name": "app", "disable_help_flag": true,
 
 /// Reads the command in the tree file `text`. Whatever fails, the error is `Memory`.
 pub(crate) fn read(alloc: Global, text: &str) -> Result<Command, Error> {
-    match read_tree(alloc, text.as_bytes()) {
+    match read_tree(alloc, text.as_bytes(), Release::AtOnce) {
         Ok(command) => Ok(command),
         Err(_) => Err(Error::Memory),
     }

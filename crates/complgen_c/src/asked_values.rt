@@ -9,7 +9,7 @@ ghost use Rattle.complgen_c.specs.Outcomes.{EndsAs};
 use crate::outcome::Outcome;
 use crate::requests::texts;
 use cc_base::Items;
-use cc_command::Command;
+use cc_command::{Command, Release};
 use cc_engine::{AskedValue, asked_values};
 use complgen_scripts::{Refusal, error_refusal, tree as described};
 use std::alloc::{AllocError, Global};
@@ -52,7 +52,7 @@ fn make_asked(alloc: Global, tree: &[u8], words: &[&[u8]]) -> Outcome
         Ok(None) => return Outcome::NotUtf8,
         Err(failed) => return Outcome::Failed(Refusal::from(failed)),
     };
-    match described(alloc, Some(tree)) {
+    match described(alloc, Some(tree), Release::AtOnce) {
         Ok(command) => tell_asked(alloc, command, words.as_slice()),
         Err(refusal) => Outcome::Failed(refusal),
     }

@@ -3,7 +3,7 @@
 use crate::document::Document;
 use cc_base::{Collected, Error};
 use cc_candidates::{Completers, MemoryFolder};
-use cc_command::Command;
+use cc_command::{Command, Release};
 use cc_env::{CompleteEnv, EnvCompleter};
 use cc_quote::posix_word;
 use cc_replies::EnvValues;
@@ -209,7 +209,7 @@ fn ended(alloc: Global, done: Result<bool, Error>, written: &[u8]) -> Result<Out
 }
 
 fn command(alloc: Global, tree: &[u8]) -> Result<Command, Error> {
-    match read_tree(alloc, tree) {
+    match read_tree(alloc, tree, Release::AtOnce) {
         Ok(command) => Ok(command),
         Err(_) => Err(Error::Memory),
     }

@@ -31,7 +31,7 @@ pub fn answer_request<D: Folder, S: LineSource>(
     ensures { AnswersRequest (parts_of (D.facts request.now.folder.now) request.now)
         (S.gives lines.now) (seen_request result) }
 {
-    let Some(prepared) = prepare(alloc, request.env, request.file)? else {
+    let Some(prepared) = prepare(alloc, request.env, request.file, request.release)? else {
         return Ok(None);
     };
     Ok(Some(answer_for(alloc, request, prepared, lines)?))

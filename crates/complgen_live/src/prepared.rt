@@ -6,7 +6,7 @@ ghost use Rattle.complgen_live.specs.TreeErrors.{DescribedBy};
 
 use crate::reply_errors::ReplyError;
 use cc_base::Error;
-use cc_command::Command;
+use cc_command::{Command, Release};
 use cc_env::{SafeShell, Shells, known_shell, wanted_name};
 use cc_replies::EnvValues;
 use complgen_tree_file::{TreeError, read_tree};
@@ -25,7 +25,7 @@ pub(crate) struct Prepared {
 }
 
 /// Returns the shell that `env` names and the command that `file` describes, or `None` without a
-/// file or a request.
+/// file or a request. `when` tells when the memory of the file's JSON is released.
 ///
 /// # Errors
 ///
@@ -36,6 +36,7 @@ pub(crate) fn prepare(
     alloc: Global,
     env: &EnvValues,
     file: Option<&[u8]>,
+    when: Release,
 ) -> Result<Option<Prepared>, ReplyError>
     ensures { Prepares env.now (option_copied file.entry) result }
 {
@@ -47,7 +48,7 @@ pub(crate) fn prepare(
     };
     let shells = Shells::safe();
     let known = known_shell(alloc, &shells, name)?;
-    let command = described(alloc, bytes)?;
+    let command = described(alloc, bytes, when)?;
     Ok(Some(Prepared {
         shell: *known,
         command,
@@ -55,10 +56,10 @@ pub(crate) fn prepare(
 }
 
 // Returns the command that a tree file describes.
-fn described(alloc: Global, bytes: &[u8]) -> Result<Command, ReplyError>
+fn described(alloc: Global, bytes: &[u8], when: Release) -> Result<Command, ReplyError>
     ensures { DescribedBy bytes.now result }
 {
-    match read_tree(alloc, bytes) {
+    match read_tree(alloc, bytes, when) {
         Ok(command) => Ok(command),
         Err(TreeError::NotJson) => Err(ReplyError::Tree(TreeError::NotJson)),
         Err(TreeError::BadForm) => Err(ReplyError::Tree(TreeError::BadForm)),

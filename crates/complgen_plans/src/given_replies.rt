@@ -10,7 +10,7 @@ use crate::replies::{CURRENT_DIR, copies};
 use crate::word_at::WordAt;
 use cc_base::{Error, Sink};
 use cc_candidates::{Completers, CompletionCandidate, Folder};
-use cc_command::Command;
+use cc_command::{Command, Release};
 use cc_engine::Sources;
 use cc_env::complete_with_lines;
 use cc_replies::write_lines;
@@ -37,7 +37,7 @@ pub(crate) fn reply_with<D: Folder, W: Sink>(
         lines.now (map string_bytes word.entry.words.now) word.entry.index
         (option_copied file.entry) out.old out.new result }
 {
-    let command = tree(alloc, file)?;
+    let command = tree(alloc, file, Release::AtExit)?;
     let found = match candidates_with(alloc, command, word, lines, folder) {
         Ok(found) => found,
         Err(error) => return Err(error_refusal(alloc, &error)),

@@ -13,6 +13,7 @@ ghost use Rattle.complgen_scripts.specs.Refusals.{error_line};
 ghost use Rattle.complgen_scripts.specs.Writing.{Finishes};
 
 use cc_base::Sink;
+use cc_command::Release;
 use cc_env::{Builtin, EnvCompleter, Shells};
 use cc_shell::{Shell, each_shell};
 use complgen_scripts::{Refusal, error_refusal, shell_of, tree};
@@ -93,7 +94,7 @@ fn register_by<W: Sink>(
         (IsRegistration (registration_by adapter) (RegistrationReadsBy adapter) bin.now)
         out.old out.new (option_copied file.entry) result }
 {
-    let command = tree(alloc, file)?;
+    let command = tree(alloc, file, Release::AtExit)?;
     let name = command.get_name();
     match adapter.write_registration(alloc, VARIABLE, name, bin, bin, out) {
         Ok(()) => Ok(()),

@@ -36,7 +36,7 @@ pub(crate) fn reply<D: Folder, W: Sink>(
         (map string_bytes word.entry.words.now) word.entry.index (option_copied file.entry)
         out.old out.new result }
 {
-    let command = tree(alloc, file)?;
+    let command = tree(alloc, file, Release::AtExit)?;
     let words = copies(alloc, word.words)?;
     let found = match candidates(alloc, command, words, word.index, folder) {
         Ok(found) => found,

@@ -9,7 +9,7 @@ ghost use Rattle.complgen_plans.specs.Wanted.{array_tokens, text_tokens};
 
 use crate::word_at::WordAt;
 use cc_base::{Error, Sink, Text, put_all};
-use cc_command::Command;
+use cc_command::{Command, Release};
 use cc_env::wanted_command;
 use complgen_scripts::{Refusal, error_refusal, tree};
 use json::{Token, Writer};
@@ -32,7 +32,7 @@ pub(crate) fn write_wanted<W: Sink>(
     ensures { EndsWanted W.taken W.failed (map string_bytes word.entry.words.now)
         word.entry.index (option_copied file.entry) out.old out.new result }
 {
-    let command = tree(alloc, file)?;
+    let command = tree(alloc, file, Release::AtExit)?;
     let text = match wanted_text(alloc, command, word) {
         Ok(text) => text,
         Err(error) => return Err(error_refusal(alloc, &error)),

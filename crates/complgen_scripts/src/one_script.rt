@@ -53,7 +53,7 @@ fn script_by<W: Sink>(
         (IsScript shell bin.now) out.old out.new (option_copied file.entry) result }
     ensures read_back { OnOk result (ScriptReads shell bin.now (option_copied file.entry)) }
 {
-    let mut command = tree(alloc, file)?;
+    let mut command = tree(alloc, file, when)?;
     let bin = match String::from_str(alloc, bin) {
         Ok(bin) => bin,
         Err(failed) => {

@@ -9,7 +9,7 @@ ghost use Rattle.complgen_scripts.specs.TreeFiles.{ReadsFile, ReadsFileAt};
 
 use crate::refusals::{Refusal, UNREADABLE, VALUES_UNREADABLE, text_refusal, tree_refusal};
 use cc_base::on_one_line;
-use cc_command::Command;
+use cc_command::{Command, Release};
 use complgen_tree_file::{TreeError, read_tree};
 use std::alloc::{AllocError, Global};
 
@@ -22,18 +22,19 @@ pub struct TreeFile<'f> {
     pub bytes: Option<&'f [u8]>,
 }
 
-/// Parses the bytes of a tree file. `file` is `None` if the file cannot be read.
+/// Parses the bytes of a tree file. `file` is `None` if the file cannot be read. `when` tells when
+/// the memory of its JSON is released.
 ///
 /// # Errors
 ///
 /// A refusal with status 1 and the text of the error.
-pub fn tree(alloc: Global, file: Option<&[u8]>) -> Result<Command, Refusal>
+pub fn tree(alloc: Global, file: Option<&[u8]>, when: Release) -> Result<Command, Refusal>
     ensures { ReadsFile (option_copied file.entry) result }
 {
     let Some(bytes) = file else {
         return Err(Refusal::from_static(1, UNREADABLE));
     };
-    read_tree(alloc, bytes).map_err(tree_refusal)
+    read_tree(alloc, bytes, when).map_err(tree_refusal)
 }
 
 /// Parses the tree file `file`.
@@ -47,7 +48,7 @@ pub fn named_tree(alloc: Global, file: TreeFile<'_>) -> Result<Command, Refusal>
     let Some(bytes) = file.bytes else {
         return Err(unreadable(alloc, file.path));
     };
-    match read_tree(alloc, bytes) {
+    match read_tree(alloc, bytes, Release::AtOnce) {
         Ok(command) => Ok(command),
         Err(error) => Err(named_refusal(alloc, file.path, error)),
     }

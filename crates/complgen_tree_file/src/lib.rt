@@ -22,10 +22,11 @@ pub use crate::error::TreeError;
 pub use crate::faults::{Fault, FaultKind, Faults, SourceFault, Step};
 pub use crate::json_values::{JsonError, Scratch, Value, read_value};
 pub use crate::kinds::{ObjectKind, ValueKind};
-use cc_command::Command;
+use cc_command::{Command, Release, discard};
 use std::alloc::{AllocError, Global};
 
-/// Returns the command that the bytes of a tree file describe.
+/// Returns the command that the bytes of a tree file describe. `when` tells when the memory of the
+/// JSON in the file is released.
 ///
 /// # Errors
 ///
@@ -33,24 +34,24 @@ use std::alloc::{AllocError, Global};
 ///   range.
 /// - `BadForm` if the JSON describes no command.
 /// - `Memory` if an allocation fails.
-pub fn read_tree(alloc: Global, bytes: &[u8]) -> Result<Command, TreeError>
+pub fn read_tree(alloc: Global, bytes: &[u8], when: Release) -> Result<Command, TreeError>
     ensures { ReadsTree bytes.now result }
 {
     match std::str::from_utf8(bytes) {
-        Ok(text) => read_text(alloc, text),
+        Ok(text) => read_text(alloc, text, when),
         Err(_) => Err(TreeError::NotJson),
     }
 }
 
 // Returns the command that a text describes.
-fn read_text(alloc: Global, text: &str) -> Result<Command, TreeError>
+fn read_text(alloc: Global, text: &str, when: Release) -> Result<Command, TreeError>
     ensures { ReadsTree text.now result }
 {
     let mut scratch = Scratch::new(alloc);
     let tree = value(alloc, text, &mut scratch)?;
     let found = command_or_faults(alloc, &tree);
     // One call here, instead of a drop of each field at each return.
-    drop(tree);
+    discard(tree, when);
     match found? {
         Ok(command) => Ok(command),
         Err(faults) => {

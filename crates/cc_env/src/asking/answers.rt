@@ -17,7 +17,7 @@ use crate::shell_program::ShellProgram;
 use cc_arg::Arg;
 use cc_base::{CandidateSources, Collected, Error, Items, Text};
 use cc_candidates::{CompletionCandidate, Folder};
-use cc_command::{Command, list_values};
+use cc_command::{Command, discard, list_values};
 use cc_engine::Sources;
 use cc_replies::EnvValues;
 use std::alloc::Global;
@@ -88,13 +88,13 @@ where
             match next_step(alloc, call.env, call.trusted, asked, typed) {
                 Ok(step) => answer_step(alloc, call, command, sources, lines, step),
                 Err(_) => {
-                    drop(command);
+                    discard(command, call.program.release);
                     Err(Error::Memory)
                 }
             }
         }
         Err(error) => {
-            drop(command);
+            discard(command, call.program.release);
             Err(error)
         }
     }
@@ -124,7 +124,7 @@ where
             text_answer(text, false)
         }
         AnswerStep::Run(words) => {
-            drop(command);
+            discard(command, call.program.release);
             Ok(Answer::Run(words))
         }
         AnswerStep::ReadLines(asked) => {
@@ -171,7 +171,7 @@ where
             text_answer(text, no_space)
         }
         Err(error) => {
-            drop(command);
+            discard(command, call.program.release);
             Err(error)
         }
     }
