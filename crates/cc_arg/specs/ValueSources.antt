@@ -123,4 +123,4 @@ with_values (Paths hint) arg = record arg { value_hint = hint }
 
 -- the argument with these values, if its values come from where those of `asked` do
 abbrev pub listed : Arg → SourceValues → Arg → Arg
-listed asked values arg = if same_source asked arg then with_values values arg else arg
+listed asked values arg = if same_source arg asked then with_values values arg else arg

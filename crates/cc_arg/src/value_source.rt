@@ -189,7 +189,7 @@ fn same_texts(texts: &[Text], others: &[Text]) -> bool
 pub fn list_if_same_source(argument: &mut Arg, asked: &Arg, values: SourceValues)
     ensures { argument.new ≡ listed asked.now values argument.old }
 {
-    if same_source(asked, argument) {
+    if same_source(argument, asked) {
         set_values(argument, values);
     }
 }

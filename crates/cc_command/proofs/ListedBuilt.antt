@@ -1,6 +1,5 @@
 -- A tree with values for the arguments of one source, built, is the built tree with these values.
 use Rattle.std.proofs.Common.{◌≡◌, ◌∙◌, ℕ, suc, List, [], ◌∷◌, ◌++◌, Bool, true, false, cond, not, ◌&&◌, ◌||◌, Option, Some, is_some, map, refl, ap, sym, subst, IsTrue}
-use Rattle.std.proofs.Math.Bool.{and-false}
 use Rattle.std.proofs.lemmas.List.{map-append}
 use Rattle.std.specs.Str.{bytes_eq}
 use Rattle.cc_arg.specs.declared.parts.ArgParts.{ArgParts as Arg}
@@ -46,7 +45,7 @@ module _ (asked : Arg) (list : SourceValues) where
   on same arg = cond same (with_values list arg) arg
 
   abbrev same : Arg → Bool
-  same arg = same_source asked arg
+  same arg = same_source arg asked
 
   -- the argument with the list, if it has the source
   abbrev pub with_list : Arg → Arg
@@ -98,14 +97,13 @@ module _ (asked : Arg) (list : SourceValues) where
   -- two sources are the same one
   abbrev same_sources : Arg → Bool
   same_sources arg =
-      same_origin asked.values_from asked.values_file asked.value_hint arg.values_from arg.values_file arg.value_hint
-      && same_lines asked arg
+      same_origin arg.values_from arg.values_file arg.value_hint asked.values_from asked.values_file asked.value_hint
+      && same_lines arg asked
 
   -- an argument without a source stays
   without_source : (arg : Arg) → has_source arg ≡ false → with_list arg ≡ arg
   without_source arg e =
-      ap (λ s. on ((has_source asked && s) && same_sources arg) arg) e
-      ∙ ap (λ s. on (s && same_sources arg) arg) (and-false (has_source asked))
+      ap (λ s. on ((s && has_source asked) && same_sources arg) arg) e
 
   -- ---- some arguments
 

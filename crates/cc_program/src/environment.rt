@@ -12,35 +12,41 @@ use std::path::PathBuf;
 // The variable by which a shell requests something.
 const REQUEST: &str = "COMPLETE";
 
-// The variables by which a shell requests something, by the safe registration or by one of the
-// original's form; the one by which a user turns commands off; and the one that lists the
-// directories of programs.
-const VARIABLES: [&str; 11] = [
+// The variable that only the safe registration sets.
+const SAFE: &str = "_COMPLGEN_VALUES";
+
+// The variables of a request by the safe registration: those that it sets, the one by which a user
+// turns commands off, and the one that lists the directories of programs.
+const SAFE_VARIABLES: [&str; 9] = [
     REQUEST,
-    "_COMPLGEN_VALUES",
+    SAFE,
     "_COMPLGEN_ASCII",
     "_COMPLGEN_KEPT",
     "_COMPLGEN_QUOTE",
     "_COMPLGEN_WIDTH",
     "_COMPLGEN_SPACE",
-    "_CLAP_COMPLETE_INDEX",
-    "_CLAP_IFS",
     "COMPLGEN_COMMANDS",
     "PATH",
 ];
 
-/// Returns the environment variables that a completion depends on, or none if no shell requests
-/// something.
+// The variables of any other request: those that a registration of the original's form sets.
+const OTHER_VARIABLES: [&str; 3] = [REQUEST, "_CLAP_COMPLETE_INDEX", "_CLAP_IFS"];
+
+/// Returns the environment variables that a completion depends on. If no shell requests something,
+/// `COMPLETE` is not among them, and no other is of use.
 ///
 /// # Errors
 ///
 /// `AllocError` if an allocation fails.
 pub(crate) fn environment<R: Env + AllocGlobal>(rt: &R) -> Result<EnvValues, AllocError> {
-    let requested = variables(rt, &[REQUEST])?;
+    let requested = variables(rt, &[REQUEST, SAFE])?;
     if requested.get(REQUEST).is_none() {
         return Ok(requested);
     }
-    variables(rt, &VARIABLES)
+    if requested.asks_safely() {
+        return variables(rt, &SAFE_VARIABLES);
+    }
+    variables(rt, &OTHER_VARIABLES)
 }
 
 /// Returns the user's home directory and the current directory, as far as they are known. Without a

@@ -5,7 +5,7 @@ ghost use Rattle.cc_replies.specs.Variables.{AreNamed};
 
 use crate::environment::EnvValues;
 use std::alloc::AllocError;
-use std::env::{self, Env, FillError, VarError};
+use std::env::{self, Env, VarError};
 use std::io;
 use std::path::PathBuf;
 
@@ -46,19 +46,11 @@ fn variable<R: Env + AllocGlobal>(
 ) -> Result<Option<(String, String)>, AllocError>
     ensures { IfOk result (λ found. IfSome found (λ variable. string_bytes variable.0 ≡ name.now)) }
 {
-    if !is_set(rt, name) {
-        return Ok(None);
-    }
     match env::var(rt, name) {
         Ok(value) => Ok(Some((String::from_str(rt.alloc(), name)?, value))),
         Err(VarError::OutOfMemory) => Err(AllocError),
         Err(_) => Ok(None),
     }
-}
-
-// Returns whether a variable is set. Most are not, and to ask that needs no memory.
-fn is_set<R: Env>(rt: &R, name: &str) -> bool {
-    !matches!(rt.var(name, &mut []), Err(FillError::NotPresent))
 }
 
 /// Returns the home directory of the user, if the environment names one that is UTF-8 and not
