@@ -89,6 +89,8 @@ PREPARED = {
     },
     "importer/README.md": {"": ({"help.txt": "  -x, --hem  Hems\n"}, ())},
 }
+# Pages whose commands all build on a file that this module of Python writes.
+NEEDED = {"docs/OTHER_LANGUAGES.md": "click"}
 # Pages whose commands are run at the top of the clone.
 IN_CLONE = ("README.md", "docs/INSTALL.md", "importer/README.md", "packages/python/README.md", "tests/README.md",
             "release/README.md")
@@ -112,7 +114,11 @@ class Page:
         self.command(os.path.join(self.clone, "release/pack.py") + " ~/.local/bin/complgen-import")
 
     def run(self):
-        """Runs the blocks."""
+        """Runs the blocks, if the module is there that the page needs."""
+        module = NEEDED.get(self.path)
+        if module and not has_module(module):
+            self.left.append(f"{self.path}: all commands: {module}: not installed")
+            return
         self.prepare("")
         for kind, at, block in blocks(self.lines):
             if kind in ("sh", "console"):
@@ -186,9 +192,6 @@ class Page:
         names += ["man"] if line.startswith("man ") else []
         names += re.findall(r"lagvtsune\.\w+ (?:--short )?(\w+)", line)
         absent = [name for name in names if not shutil.which(name, path=self.environment()["PATH"])]
-        if "lagvtsune.click app" in line and subprocess.run(
-                ["/usr/bin/python3", "-c", "import click"], stderr=subprocess.DEVNULL).returncode:
-            absent.append("click")
         return f"{' and '.join(absent)}: not installed" if absent else ""
 
     def environment(self):
@@ -208,6 +211,11 @@ class Page:
         except subprocess.TimeoutExpired:
             return 1, f"no end within {LONGEST} seconds"
         return ran.returncode, ran.stdout
+
+
+def has_module(name):
+    """Tells whether Debian's Python has a module."""
+    return not subprocess.run(["/usr/bin/python3", "-c", f"import {name}"], stderr=subprocess.DEVNULL).returncode
 
 
 def blocks(lines):

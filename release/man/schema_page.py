@@ -1,6 +1,7 @@
 """Makes the man page complgen-tree(5) from docs/tree.schema.json."""
 
 import json
+import re
 
 from man.roff import bold, escaped, head, inline, prose
 
@@ -16,7 +17,7 @@ EXAMPLE = '{"name": "app", "args": [{"id": "dir", "long": "dir", "value_hint": "
 
 def page(schema_file, date, version):
     """Returns the page."""
-    schema = json.loads(schema_file.read_text())
+    schema = json.loads(without_links(schema_file.read_text()))
     lines = [*head("complgen-tree", 5, date, f"complgen {version}", "File Formats")]
     lines += [".SH NAME", f"complgen\\-tree \\- {escaped(schema['title'][:1].lower() + schema['title'][1:])}"]
     lines += [".SH DESCRIPTION", prose(schema["description"]), ".PP", prose(" ".join(RULES.split()))]
@@ -26,6 +27,16 @@ def page(schema_file, date, version):
         lines += keys(definition, schema["definitions"])
     lines += [".SH EXAMPLES", ".nf", escaped(EXAMPLE), ".fi", ".SH SEE ALSO", ".BR complgen (1)"]
     return "\n".join(lines) + "\n"
+
+
+def without_links(text):
+    """Returns a text with the title and the page of each Markdown link, because a man page has no links."""
+    return re.sub(r"\[([^]]*)\]\(([^)#]+)(?:#[^)]*)?\)", title_and_page, text)
+
+
+def title_and_page(link):
+    title, page = link.groups()
+    return title if title == page else f"{title} in {page}"
 
 
 def keys(definition, definitions):
