@@ -94,11 +94,11 @@ def sentences(lines):
         if line.lstrip().startswith("```"):
             is_code = not is_code
             line = ""
-        begins = re.match(r" *([-*#]|\d+\.) |$", line)
-        if (begins or is_code or line.startswith("|")) and text:
+        begins, is_row = re.match(r" *([-*#]|\d+\.) |$", line), line.lstrip().startswith("|")
+        if (begins or is_code or is_row) and text:
             yield from parts(text)
             text = ""
-        if line.startswith("|"):
+        if is_row:
             for cell in line.strip("| ").split(" | "):
                 yield from parts(cell)
         elif not is_code and line.strip():
@@ -108,7 +108,7 @@ def sentences(lines):
 def parts(text):
     """Splits a text into its sentences."""
     plain = re.sub(r"\]\([^)]*\)", "]", re.sub(r"`[^`]*`", "`code`", text))
-    return [it for it in re.split(r"(?<=[.!?:])[*_)]* (?=[A-Z`\[*])", plain.strip()) if it]
+    return [it for it in re.split(r"(?<=[.!?:])[*_)]* (?=[A-Z\"`\[*])", plain.strip()) if it]
 
 
 def broken_links(page, lines):
