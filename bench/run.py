@@ -392,10 +392,9 @@ def completing(program, tree, words):
     return [program, "candidates", "--index", str(len(words) - 1), tree, "--", *words]
 
 
-# Limits of the cost of a child or an option that is examined and not offered, and of its growth among
-# ten times as many.
+# The limit of the cost of a child or an option that is examined and not offered. Among ten times as many, this cost may
+# grow by MOST_GROWTH.
 MOST_EACH = 250
-MOST_GROWTH = 4 / 3
 
 
 def counted_candidates(program):
