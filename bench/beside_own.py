@@ -42,7 +42,6 @@ PROGRAMS = {
     "restic": ("restic snapsh", "snapshots", ["generate", "--{}-completion", "own"], "restic"),
 }
 NONE = ("nothing odd-fi", "odd-file")
-BASH_COMPLETION = "/usr/share/bash-completion/bash_completion"
 
 
 def main():
@@ -144,8 +143,8 @@ def own_script(scratch, shell, words):
 
 def setup_of_own(shell):
     """Returns what a program's own script needs: in bash the functions of bash-completion."""
-    if shell == "bash" and os.path.exists(BASH_COMPLETION):
-        return f"source {BASH_COMPLETION}"
+    if shell == "bash" and os.path.exists(shells.BASH_COMPLETION):
+        return f"source {shells.BASH_COMPLETION}"
     return ONLY.get(shell, "")
 
 

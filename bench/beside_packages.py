@@ -63,9 +63,8 @@ PROGRAMS = {
         "rg --", "rg -", "rg --co", "rg --no-", "rg --ignore-", "rg --color ", "rg --color=", "rg --sort ",
         "rg --engine ", "rg --max-"]),
 }
-# Commands that turn off a shell's own completion, and commands that load the completion of packages.
-ALONE = {"fish": "set -g fish_complete_path"}
-PACKAGES = {"bash": "source /usr/share/bash-completion/bash_completion; eval \"$(pip3 completion --bash 2>&-)\""}
+# Commands that load the completion of packages.
+PACKAGES = {"bash": f'source {shells.BASH_COMPLETION}; eval "$(pip3 completion --bash 2>&-)"'}
 TABLE = ("lines", "same", "more", "less", "alone", "none", "empty", "both", "v-more", "v-less")
 
 
@@ -83,7 +82,8 @@ def main():
                 print(f"{shell}: not installed, skipped")
                 continue
             lines = [line for name in names for line in PROGRAMS[name][1]]
-            ours = without_files(scratch, offered(scratch, shell, lines, scratch.written(shell), ALONE.get(shell, "")))
+            registration, alone = scratch.written(shell), git_tab.ONLY.get(shell, "")
+            ours = without_files(scratch, offered(scratch, shell, lines, registration, alone))
             theirs = without_files(scratch, offered(scratch, shell, lines, "", PACKAGES.get(shell, "")))
             for name in names:
                 tables[name, shell] = compare(shell, PROGRAMS[name][1], ours, theirs, options)

@@ -36,11 +36,10 @@ from typing import Any, Dict, Iterator, List, NamedTuple, Optional, Sequence, Se
 
 sys.path.append(os.path.join(os.path.dirname(os.path.realpath(__file__)), "..", "tools"))
 import common
-from shells import SHELLS, Shell, TreeScratch, fish_hides_dots, started, write
+from shells import BASH_COMPLETION, SHELLS, Shell, TreeScratch, fish_hides_dots, started, write
 
 # The words that import each program, and those before the name of a shell that print its own script.
 PROGRAMS = {"hcloud": ([], ["completion"]), "hugo": ([], ["completion"]), "gh": (["--cobra"], ["completion", "-s"])}
-BASH_COMPLETION = "/usr/share/bash-completion/bash_completion"
 LONGEST = 300
 ERROR, NO_PATHS, EXTENSIONS, DIRECTORIES = 1, 4, 8, 16
 FILES = ("notes.txt", "site.toml", "sub/in", "themes/one/it", "themes/two/it")

@@ -43,7 +43,6 @@ from shells import SHELLS
 RELEASE = os.path.join(common.TOP, "release")
 # The programs of the system, but nothing of /usr/local/bin, where `rt` may be.
 SYSTEM = "/usr/bin:/bin"
-BASH_COMPLETION = "/usr/share/bash-completion/bash_completion"
 # The functions that the library uses: three for memory by its own names, those below them, and the compiler's.
 USED = set("rattle_alloc rattle_realloc rattle_dealloc malloc realloc free memcpy memmove memset".split())
 USED.add("_GLOBAL_OFFSET_TABLE_")
@@ -376,8 +375,8 @@ def own(files):
         ("zsh", f"{zsh}\nautoload -U compinit; compinit -u"), ("elvish", elvish), ("fish", ""),
         ("fish", fish.replace("/usr/local", other)),
     ]
-    if os.path.exists(BASH_COMPLETION):
-        tried.append(("bash", f". {BASH_COMPLETION}"))
+    if os.path.exists(shells.BASH_COMPLETION):
+        tried.append(("bash", f". {shells.BASH_COMPLETION}"))
     done = []
     for shell, line in tried:
         if common.is_installed(shell):

@@ -128,7 +128,7 @@ class Lines:
 
 def has_loaded(lines: Lines, tree: str) -> bool:
     """Tells whether a shell loads the script by itself."""
-    if lines.name == "bash" and not os.path.exists(loading.BASH_COMPLETION):
+    if lines.name == "bash" and not os.path.exists(shells.BASH_COMPLETION):
         print("bash, loading: skipped, needs bash-completion")
         return True
     faults = loading.tried(lines.name, lines.complgen, tree)

@@ -39,6 +39,8 @@ import time
 from typing import Any, Dict, List, Optional, Sequence, Tuple, Type
 
 SHELLS = ("bash", "zsh", "fish", "elvish")
+# The library of Debian's package bash-completion.
+BASH_COMPLETION = "/usr/share/bash-completion/bash_completion"
 LONGEST = 60
 READY, MORE = "<ready> ", "<more> "
 # Questions of a shell to the terminal, and the answers: the place of the cursor, and the kind of terminal.

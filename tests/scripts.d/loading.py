@@ -9,7 +9,6 @@ import compared
 import model
 import shells
 
-BASH_COMPLETION = "/usr/share/bash-completion/bash_completion"
 WORDS = (("app", "in"), ("app", ""), ("app", "src", "key", ""), ("app", "install", "--fr"), ("app", "--verbose", "--"))
 
 
@@ -31,7 +30,7 @@ def put(name: str, scratch: shells.Scratch, script: str) -> str:
     place = {"bash": ".local/share/bash-completion/completions/app", "zsh": ".zfunc/_app",
              "fish": ".config/fish/completions/app.fish", "elvish": ".config/elvish/lib/app.elv"}[name]
     shells.write(os.path.join(scratch.home, place), script)
-    return {"bash": f"source {BASH_COMPLETION}",
+    return {"bash": f"source {shells.BASH_COMPLETION}",
             "zsh": "fpath=(~/.zfunc $fpath); autoload -U compinit; compinit",
             "fish": "", "elvish": "use app"}[name]
 
