@@ -77,10 +77,7 @@ def main():
     try:
         git_tab.make_repository(scratch.here, 4)
         names = [name for name in options.programs.split(",") if is_imported(scratch, name)]
-        for shell in options.shells.split(","):
-            if shutil.which(shell) is None:
-                print(f"{shell}: not installed, skipped")
-                continue
+        for shell in shells.installed(options.shells.split(",")):
             lines = [line for name in names for line in PROGRAMS[name][1]]
             registration, alone = scratch.written(shell), git_tab.ONLY.get(shell, "")
             ours = without_files(scratch, offered(scratch, shell, lines, registration, alone))

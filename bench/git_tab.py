@@ -22,7 +22,6 @@ a line was not completed as expected.
 import argparse
 import json
 import os
-import shutil
 import statistics
 import subprocess
 import sys
@@ -54,10 +53,7 @@ def main():
         subprocess.run([os.path.join(common.EXAMPLES, "git-tree"), path], cwd=scratch.here, check=True,
                        stdout=subprocess.DEVNULL)
         print(f"{'ms':<8}" + "".join(f"{name:>9}" for name in (*LINES, "own one", "own two")), flush=True)
-        for shell in options.shells.split(","):
-            if shutil.which(shell) is None:
-                print(f"{shell}: not installed, skipped")
-                continue
+        for shell in shells.installed(options.shells.split(",")):
             good &= measure_shell(scratch, shell, options.runs)
         print(f"the command alone: {command_alone(path, scratch.here, options.runs):.1f} ms")
     finally:

@@ -45,7 +45,6 @@ import argparse
 import collections
 import os
 import random
-import shutil
 import statistics
 import sys
 import time
@@ -56,7 +55,7 @@ import safe_lists
 import safe_places
 import shells
 from judging import Count, forms, left_out, left_out_at_tabs
-from shells import SHELLS, started, write
+from shells import SHELLS, installed, started, write
 
 PARTS = ("values", "files", "folders", "words", "typed", "random", "places", "settings", "locales", "descriptions",
          "ten-thousand", "start")
@@ -461,10 +460,7 @@ def main():
         make_files(scratch)
         if options.before and "bash" in options.shells:
             show_issue(scratch)
-        for shell in options.shells.split(","):
-            if shutil.which(shell) is None:
-                print(f"{shell}: not installed, skipped")
-                continue
+        for shell in installed(options.shells.split(",")):
             good &= try_shell(scratch, shell, options)
     finally:
         scratch.remove()

@@ -28,7 +28,6 @@ from __future__ import annotations
 import argparse
 import collections
 import os
-import shutil
 import sys
 import tempfile
 import time
@@ -55,11 +54,8 @@ def main() -> int:
         print("every-key.json lacks: " + ", ".join(lacking))
     with tempfile.TemporaryDirectory() as folder:
         paths = trees.listed(folder, complgen, options.trees) if "lines" in options.only else {}
-        for name in options.shells:
-            if shutil.which(name):
-                good &= is_good(Lines(name, complgen, options), paths)
-            else:
-                print(f"{name}: not installed, skipped")
+        for name in shells.installed(options.shells):
+            good &= is_good(Lines(name, complgen, options), paths)
     return 0 if good and not lacking else 1
 
 

@@ -36,7 +36,7 @@ import subprocess
 import tempfile
 import termios
 import time
-from typing import Any, Dict, List, Optional, Sequence, Tuple, Type
+from typing import Any, Dict, Iterator, List, Optional, Sequence, Tuple, Type
 
 SHELLS = ("bash", "zsh", "fish", "elvish")
 # The library of Debian's package bash-completion.
@@ -568,6 +568,15 @@ def fish_hides_dots() -> bool:
 
 
 CLASSES: Dict[str, Type[Shell]] = {it.name: it for it in (Bash, Zsh, Fish, Elvish)}
+
+
+def installed(names: Sequence[str]) -> Iterator[str]:
+    """Yields the shells that are installed. Prints a line for each of the others."""
+    for name in names:
+        if shutil.which(name):
+            yield name
+        else:
+            print(f"{name}: not installed, skipped")
 
 
 def started(name: str, scratch: Scratch, loaded: str = "", setup: str = "", words: Sequence[str] = ()) -> Shell:

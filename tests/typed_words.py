@@ -27,7 +27,6 @@ there is no exception.
 import argparse
 import os
 import re
-import shutil
 import sys
 
 sys.path.append(os.path.join(os.path.dirname(os.path.realpath(__file__)), "..", "tools"))
@@ -35,7 +34,7 @@ import common
 import safe_places
 from judging import MAY_LEAVE_OUT, Count, letter_in
 from safe_live import VALUES
-from shells import SHELLS, TreeScratch, started, unlink, write
+from shells import SHELLS, TreeScratch, installed, started, unlink, write
 
 POSIX = ("bash", "zsh")
 PARTS = ("values", "typed", "cut", "places", "keys", "cobra")
@@ -349,10 +348,7 @@ def main():
     good = True
     with Scratch(common.program("complgen")) as scratch:
         make_all(scratch)
-        for shell in options.shells.split(","):
-            if shutil.which(shell) is None:
-                print(f"{shell}: not installed, skipped")
-                continue
+        for shell in installed(options.shells.split(",")):
             good &= try_shell(scratch, shell, options.only or PARTS, options.verbose)
     return 0 if good else 1
 

@@ -47,7 +47,7 @@ import time
 sys.path.append(os.path.join(os.path.dirname(os.path.realpath(__file__)), "..", "tools"))
 import common
 from judging import Count, begins_blank, forms, left_out
-from shells import LONGEST, SHELLS, TreeScratch, started, unlink, write
+from shells import LONGEST, SHELLS, TreeScratch, installed, started, unlink, write
 
 PARTS = ("protocol", "random", "branches", "words", "many", "ends", "off", "order", "files", "examples", "hints")
 
@@ -877,10 +877,7 @@ def main():
             good &= try_protocol(scratch)
         if "random" in parts:
             good &= try_random(scratch, options)
-        for shell in options.shells.split(","):
-            if shutil.which(shell) is None:
-                print(f"{shell}: not installed, skipped")
-                continue
+        for shell in installed(options.shells.split(",")):
             good &= try_shell(scratch, shell, parts, options.verbose)
     finally:
         for name in SLEEPS:
