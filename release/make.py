@@ -24,13 +24,12 @@ import hashlib
 import os
 import pathlib
 import re
-import sys
 import tempfile
 
 import kit
 import library
 import program
-from packing import copy, fix_environment, fresh, put, run
+from packing import fix_environment, fresh, put, run
 
 RELEASE = pathlib.Path(__file__).resolve().parent
 TOP = RELEASE.parent

@@ -8,7 +8,6 @@ path of the interpreter in its first line (default: /usr/bin/env python3). The s
 """
 
 import io
-import os
 import pathlib
 import sys
 import zipfile

@@ -5,7 +5,6 @@ import json
 import os
 import re
 import subprocess
-import sys
 
 from kit import licences
 from man import schema_page
