@@ -109,7 +109,7 @@ def misplaced(text, lines):
         return
     for line in lines:
         steps = [] if line[4] == "the file" else STEP.findall(line[4])
-        at = place_of(whole, steps, bool(ABOUT_KEY.match(line[5])), line[5])
+        at = place_of(whole, steps, bool(ABOUT_KEY.match(line[5])))
         if at is None:
             continue
         before = text[:at]
@@ -118,7 +118,7 @@ def misplaced(text, lines):
             yield line, "{}:{}".format(*place)
 
 
-def place_of(value, steps, at_key, text):
+def place_of(value, steps, at_key):
     """Returns where the value of a path begins, or the key of its last step.
 
     If an object has a key several times, the last value counts. If the line is about such a key, or about
@@ -161,8 +161,7 @@ def value_at(text, at):
         return items_at(text, at, "}", member_at)
     if text[at] == "[":
         return items_at(text, at, "]", value_at)
-    value, length = json.JSONDecoder().raw_decode(text[at:])
-    del value
+    _, length = json.JSONDecoder().raw_decode(text[at:])
     return Value(at, None), at + length
 
 

@@ -82,7 +82,7 @@ def main():
         print(f"without an archive: {without_archive(cargo, work, package)}")
         cargo.run(os.path.join(work, "examples", "from-rust"), "build", "--quiet")
         print("examples/from-rust: builds")
-        return 0 if compare(cargo, work, package) else 1
+        return 0 if compare(cargo, work) else 1
 
 
 def sum_of(said):
@@ -173,9 +173,9 @@ def under_valgrind(programs):
     print(f"valgrind: no error and no leak in {len(programs)} programs of tests")
 
 
-def compare(cargo, work, package):
+def compare(cargo, work):
     """Tells whether both programs write the same, as far as the original is the one to compare with."""
-    version, replies = build_other(cargo, work, package)
+    version, replies = build_other(cargo, work)
     if version is None:
         print("clap_complete: not available")
         return True
@@ -191,7 +191,7 @@ def compare(cargo, work, package):
     return all(same)
 
 
-def build_other(cargo, work, package):
+def build_other(cargo, work):
     """Builds the program with the original.
 
     Returns the version of the original, or `None` if it is not available, and whether the program replies
