@@ -22,6 +22,7 @@ from typing import Any, Counter, Dict, List, NamedTuple, Optional, Sequence, Tup
 
 sys.path.append(os.path.join(os.path.dirname(os.path.realpath(__file__)), "..", "tools"))
 import common
+from importing.room import names_of
 
 sys.path.insert(0, common.TOP)
 from importer.read import read_help
@@ -55,13 +56,6 @@ def truth_of_tree(tree: Node) -> Truth:
             found.arity[name] = arity(arg)
             found.choices[name] = [it["name"] for it in arg.get("possible_values", [])]
     return found
-
-
-def names_of(arg: Node) -> List[str]:
-    """Returns the names of an option of a tree, with their hyphens."""
-    shorts = [*arg.get("short", ""), *arg.get("visible_short_aliases", [])]
-    longs = [*filter(None, [arg.get("long")]), *arg.get("visible_aliases", [])]
-    return ["-" + it for it in shorts] + ["--" + it for it in longs]
 
 
 def arity(arg: Node) -> Arity:
