@@ -41,7 +41,7 @@ def main():
         for name in PACKAGES:
             build(work, name)
             tree = os.path.join(work, f"{name}.json")
-            write(tree, example(work, "tree"))
+            common.write(tree, example(work, "tree"))
             rows = sorted(set(example(work, "rows").splitlines()))
             agree += [compare(program, name, shell, tree, rows) for shell in common.SHELLS]
     return 0 if all(agree) else 1
@@ -60,10 +60,10 @@ def build(work, name):
     shutil.copy(writer, os.path.join(examples, "tree"))
     with open(main_file, encoding="utf-8") as file:
         text = re.sub(r'.*tree_file\.rs"\]\n', "", file.read())
-    write(main_file, text)
+    common.write(main_file, text)
     os.mkdir(os.path.join(examples, "rows"))
     shutil.copy(os.path.join(READERS, "rows.rs"), os.path.join(examples, "rows"))
-    write(os.path.join(examples, "rows", "main.rs"), text.replace("tree_file", "rows"))
+    common.write(os.path.join(examples, "rows", "main.rs"), text.replace("tree_file", "rows"))
     cargo(work, package, "build", "--all-targets").check_returncode()
     ran = cargo(work, package, "run")
     if ran.returncode not in (0, USAGE) or "could not determine which binary" in ran.stderr:
@@ -81,11 +81,6 @@ def example(work, name):
     """Returns what an example prints."""
     path = os.path.join(work, "built", "debug", "examples", name)
     return subprocess.run([path], check=True, capture_output=True, text=True).stdout
-
-
-def write(path, text):
-    with open(path, "w", encoding="utf-8") as file:
-        file.write(text)
 
 
 def compare(program, name, shell, tree, rows):

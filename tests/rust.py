@@ -199,14 +199,14 @@ def build_other(cargo, work):
     """
     other = os.path.join(work, "other")
     os.makedirs(os.path.join(other, "src"))
-    write(os.path.join(other, "Cargo.toml"), MANIFEST)
+    common.write(os.path.join(other, "Cargo.toml"), MANIFEST)
     cli = os.path.join(work, "examples", "from-clap", "herd", "src", "cli.rs")
     shutil.copy(cli, os.path.join(other, "src"))
     with open(os.path.join(work, "packages", "rust", "herd", "src", "main.rs"), encoding="utf-8") as file:
         program = re.sub(r"#\[path.*\n", "", file.read()).replace("lagvtsune", "clap_complete")
     scripts_alone = re.sub(r".*CompleteEnv::.*\n", "", program).replace("CompleteEnv, ", "")
     for source in (program, scripts_alone):
-        write(os.path.join(other, "src", "main.rs"), source)
+        common.write(os.path.join(other, "src", "main.rs"), source)
         try:
             cargo.run(other, "build", "--quiet", "--release")
         except CargoFailed:
@@ -217,17 +217,12 @@ def build_other(cargo, work):
     return None, False
 
 
-def write(path, text):
-    with open(path, "w", encoding="utf-8") as file:
-        file.write(text)
-
-
 def make_files(work):
     """Makes the directory where both programs run, and the home directory."""
     for name in ("here/src", "here/.git", "home/own"):
         os.makedirs(os.path.join(work, name))
     for name in ("here/a.txt", "here/src/main.rs", "here/src/s p", "home/own/b"):
-        write(os.path.join(work, name), "")
+        common.write(os.path.join(work, name), "")
 
 
 def requests_agree(ours, theirs, work):

@@ -64,12 +64,17 @@ def crate_lines():
     return {line.split(":")[0].split()[0]: line for line in lines if line}
 
 
+def write(path, text):
+    """Writes a text into a file."""
+    with open(path, "w", encoding="utf-8") as file:
+        file.write(text)
+
+
 def write_page(name, text):
     """Writes a page into the directory `out` at the top, and prints its path. Returns the exit status."""
     path = os.path.join(TOP, "out", name)
     os.makedirs(os.path.dirname(path), exist_ok=True)
-    with open(path, "w", encoding="utf-8") as file:
-        file.write(text)
+    write(path, text)
     print(os.path.relpath(path))
     return 0
 
@@ -152,8 +157,7 @@ def fit_manifest(path, has_add):
         text = text.replace('unstable-dynamic = ["clap/unstable-ext"]', "unstable-dynamic = []")
     if cargo_flags() and not has_debian("clap_complete"):
         text = re.sub(r'^(clap_complete|original) = .*\n', "", text, flags=re.MULTILINE)
-    with open(path, "w", encoding="utf-8") as file:
-        file.write(text)
+    write(path, text)
 
 
 def cargo_config(key, value):

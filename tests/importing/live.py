@@ -8,7 +8,7 @@ from typing import Any
 
 import common
 import shells
-from importing.room import IMPORTER, LONGEST, Room, TEXTS, write
+from importing.room import IMPORTER, LONGEST, Room, TEXTS
 
 LIVE = (
     # what is typed, what the program receives
@@ -33,7 +33,7 @@ def try_live(room: Room, options: Any) -> None:
         ran = subprocess.run([*IMPORTER, *words], env=environment, stdin=subprocess.DEVNULL, stdout=subprocess.PIPE,
                              stderr=subprocess.PIPE, timeout=LONGEST)
         room.expect("status", 0, ran.returncode)
-        write(os.path.join(scratch.here, "notes.txt"), "")
+        common.write(os.path.join(scratch.here, "notes.txt"), "")
         with shells.started("bash", scratch, scratch.written("bash")) as shell:
             for typed, expected in LIVE:
                 room.expect(typed, expected, shell.received(typed))

@@ -12,7 +12,7 @@ from typing import Any, Callable, Dict, List, Tuple
 
 import common
 from importing.room import (
-    IMPORTER, Node, Room, SLEEP, TEXTS, left_sleeping, names_of, option_names, rows, sleeping, write)
+    IMPORTER, Node, Room, SLEEP, TEXTS, left_sleeping, names_of, option_names, rows, sleeping)
 
 
 # ---- formats
@@ -144,7 +144,7 @@ def try_limits(room: Room, options: Any) -> None:
     room.fails("nothere: not found", "nothere")
     for name in ("a b", "$(touch hit)", ".hidden", "g++", "../bin/a.b", "a\x1b[2J", "a\u009b2J"):
         room.fails(re.sub("[\x1b\x9b]", "?", f"{name}: {NOT_PLAIN}"), name)
-    write(os.path.join(room.bin, "junk"), "\x7fELF")
+    common.write(os.path.join(room.bin, "junk"), "\x7fELF")
     os.chmod(os.path.join(room.bin, "junk"), 0o755)
     room.fails("junk --help: cannot be run: Exec format error", "junk")
     try_accepted(room)
@@ -195,7 +195,7 @@ def listing(names: List[str], *options: str) -> str:
 def put_listing(room: Room, name: str, names: List[str], *options: str) -> str:
     """Writes a help text that lists these commands, and returns its path."""
     path = os.path.join(room.path, name + ".txt")
-    write(path, listing(names, *options))
+    common.write(path, listing(names, *options))
     return path
 
 
@@ -355,7 +355,7 @@ def try_files(room: Room, options: Any) -> None:
     """What happens to a tree file that exists."""
     room.script("keep", "echo '  --new  New'; echo '  --both  By the text'")
     os.makedirs(os.path.dirname(room.place("keep")))
-    write(room.place("keep"), json.dumps(OWN))
+    common.write(room.place("keep"), json.dumps(OWN))
     room.fails(f"keep: {room.place('keep')} exists, and was kept (--force replaces it, --onto adds to it)", "keep")
     room.expect("kept: runs and file", ([], OWN), (room.logged(), room.tree("keep")))
     room.expect("--onto: status", 0, room.run("--onto", "keep")[0])
@@ -382,7 +382,7 @@ def try_link(room: Room) -> None:
     os.replace(room.place("keep"), elsewhere)
     os.symlink(elsewhere, room.place("keep"))
     before = room.tree("keep")
-    write(elsewhere, "{}")
+    common.write(elsewhere, "{}")
     room.expect("a link: status", 0, room.run("--force", "keep")[0])
     room.expect("a link: file", (True, before), (os.path.islink(room.place("keep")), room.tree("keep")))
 
@@ -405,7 +405,7 @@ def try_unwritable(room: Room) -> None:
 
 def try_bad_file(room: Room) -> None:
     """A tree file that is no JSON is kept."""
-    write(room.place("bad"), "no JSON")
+    common.write(room.place("bad"), "no JSON")
     room.script("bad", "echo '  --bad  X'")
     status, _, message = room.run("--onto", "bad")
     room.expect("--onto a bad file", (1, True), (status, message.startswith("complgen-import: bad: ")))
@@ -420,7 +420,7 @@ def try_rejected(room: Room) -> None:
     picky = os.path.join(room.bin, "picky")
     for before in (None, "{}"):
         if before:
-            write(room.place("odd"), before)
+            common.write(room.place("odd"), before)
         status, out, message = room.run("--force", "odd", COMPLGEN=picky)
         room.expect("rejected: status and output", (1, ""), (status, out))
         room.expect("rejected: messages", True, "complgen check rejects the tree file" in message and "\x1b" not in message)
@@ -440,7 +440,7 @@ def try_own(room: Room, options: Any) -> None:
     """The importer is imported as any program, and compared with its tree file, which was written by hand."""
     path = os.path.join(room.bin, "complgen-import")
     call = " ".join(f"'{word}'" for word in IMPORTER)
-    write(path, f"#!/bin/sh\nPYTHONPATH='{common.TOP}' exec {call} \"$@\"\n")
+    common.write(path, f"#!/bin/sh\nPYTHONPATH='{common.TOP}' exec {call} \"$@\"\n")
     os.chmod(path, 0o755)
     room.run(path)
     with open(os.path.join(common.EXAMPLES, "complgen-import.json"), encoding="utf-8") as file:

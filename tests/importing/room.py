@@ -60,7 +60,7 @@ class Room:
     def accepting(self) -> str:
         """Makes a program that stands for `complgen check`, and accepts each tree."""
         path = os.path.join(self.folder("stub"), "complgen")
-        write(path, "#!/bin/sh\n")
+        common.write(path, "#!/bin/sh\n")
         os.chmod(path, 0o755)
         return path
 
@@ -69,7 +69,7 @@ class Room:
     def script(self, name: str, *lines: str) -> None:
         """Makes a program that writes its words into the log, and then does what the lines say."""
         path = os.path.join(self.bin, name)
-        write(path, "\n".join(["#!/bin/sh", f"echo {name} \"$@\" >>'{self.log}'", *lines, ""]))
+        common.write(path, "\n".join(["#!/bin/sh", f"echo {name} \"$@\" >>'{self.log}'", *lines, ""]))
         os.chmod(path, 0o755)
 
     def printing(self, name: str, folder: str) -> None:
@@ -169,12 +169,6 @@ def proved_program() -> Optional[str]:
     """Returns the path of the proved program complgen, or `None` if it is not built."""
     path = common.default_program("complgen")
     return path if os.access(path, os.X_OK) else None
-
-
-def write(path: str, text: str) -> None:
-    """Writes a text."""
-    with open(path, "w", encoding="utf-8") as file:
-        file.write(text)
 
 
 def write_bytes(path: str, data: bytes) -> None:
