@@ -11,7 +11,7 @@ characters, several lines. This script then reads each page by a reader of its o
 - the descriptions, the labels, the help texts and the default values of the tree are there, line by line
   and in their order, and nothing of a hidden command or argument is;
 - `man --warnings` and `mandoc -Tlint -Wwarning` find nothing in the page of a TREE, once it has a date, and
-  `mandoc` no error in a hostile page.
+  `mandoc` no error in a hostile page. If one of them is not installed, a line says so.
 
 Prints each page that fails, and how many passed. The status is 0 if none failed.
 """
@@ -57,6 +57,9 @@ def main():
     parser.add_argument("trees", nargs="*", metavar="TREE")
     given = parser.parse_args()
     program = common.program("complgen")
+    for name in ("man", "mandoc"):
+        if not common.is_installed(name):
+            print(f"{name}: not installed, skipped")
     with tempfile.TemporaryDirectory(prefix="man-pages-") as folder:
         cases = [(path, True) for path in given.trees or common.example_trees()]
         for number in range(given.runs):

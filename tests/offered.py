@@ -16,7 +16,7 @@ A line is accepted if the program does not end with a text of its parser. Otherw
 - it is refused.
 
 The script prints how many lines of each program end in which way, and each refused line. The status is
-0 if none is refused.
+0 if none is refused, and each program has some line.
 """
 
 import argparse
@@ -47,7 +47,7 @@ def main():
     parser = argparse.ArgumentParser(usage=common.usage(__doc__))
     parser.add_argument("--depth", type=int, default=3)
     options = parser.parse_args()
-    refused = 0
+    good = True
     for name in ("larder", "complgen"):
         path = common.program(name)
         with tempfile.TemporaryDirectory() as folder:
@@ -57,8 +57,8 @@ def main():
         for line, outcome, text in outcomes:
             if outcome == "refused":
                 print(f"REFUSED: {name} {' '.join(line)}: {text}")
-        refused += counts["refused"]
-    return 1 if refused else 0
+        good &= bool(outcomes) and not counts["refused"]
+    return 0 if good else 1
 
 
 class Program:
