@@ -24,11 +24,10 @@ import tempfile
 
 sys.path.append(os.path.join(os.path.dirname(os.path.realpath(__file__)), "..", "tools"))
 import common
+import shell_syntax
 
 PACKAGES = ("parcel", "herd")
 READERS = os.path.join(common.TOP, "tests", "from_clap.d")
-# Shells that can read a script without running it.
-CHECKERS = ("bash", "fish", "zsh")
 # The status of a program without arguments, if clap prints its usage.
 USAGE = 2
 
@@ -125,12 +124,12 @@ def is_shown(shell, _path, word="", kind="", *_):
 
 def can_read(shell, script):
     """Tells whether the shell can read the script. A shell that is not installed counts as one that can."""
-    if shell not in CHECKERS or not common.is_installed(shell):
+    if shell not in shell_syntax.READERS or not common.is_installed(shell):
         return True
     with tempfile.NamedTemporaryFile("w", encoding="utf-8") as file:
         file.write(script)
         file.flush()
-        return subprocess.run([shell, "-n", file.name]).returncode == 0
+        return subprocess.run([*shell_syntax.READERS[shell], file.name]).returncode == 0
 
 
 if __name__ == "__main__":
