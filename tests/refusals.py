@@ -346,8 +346,8 @@ def tried_run(program, words, folder, refuse, pool):
     while True:
         for status, printed, text in pool.map(run, range(refused + 1, refused + 65)):
             if not printed.endswith("refused\n"):
-                if (status, printed) != (0, ""):
-                    wrong.append(f"no allocation refused: status {status}, {printed!r}")
+                if not whole or (status, printed, text) != (0, "", whole):
+                    wrong.append(f"no allocation refused: status {status}, {printed!r}, {text!r}")
                 return report(" ".join(["complgen", *words[:3]]), 1, refused, spared, 0, wrong)
             refused += 1
             if (status, printed, text) == (0, "refused\n", whole):
