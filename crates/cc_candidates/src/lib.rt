@@ -27,7 +27,7 @@ pub use crate::beginnings::{begins_with, retain_beginning_with};
 pub use crate::candidate::{CompletionCandidate, is_same};
 pub use crate::closures::{FnCandidates, FnCompleter};
 pub use crate::completers::Completers;
-pub use crate::copies::copy_of_some;
+pub use crate::copies::{copies_of, copy_of_some, owned_texts};
 pub use crate::paths::{
     EveryPath, FnTest, Folder, FolderError, IsDir, IsExecutable, IsFile, MemoryFolder,
     PathCompleter, PathTest, RealFolder, TextTest, join, join_some, path_candidates, trim_trailing,

@@ -6,7 +6,7 @@ ghost use Rattle.std.specs.String.{string_bytes};
 ghost use Rattle.cc_env.specs.Arguments.{after_dashes, has_folder, program_path, words_after};
 
 use cc_base::Text;
-use cc_candidates::{join, trim_trailing};
+use cc_candidates::{copies_of, join, trim_trailing};
 use std::alloc::{AllocError, Global};
 
 // Returns the words after the first `--`; none without one.
@@ -44,17 +44,6 @@ pub(crate) fn copies_after(alloc: Global, args: &[String]) -> Result<Vec<String>
         map string_bytes copies.items ≡ words_after (map string_bytes args.now)) }
 {
     copies_of(alloc, words_after(args))
-}
-
-fn copies_of(alloc: Global, texts: &[String]) -> Result<Vec<String>, AllocError>
-    ensures { IfOk result (λ copies.
-        map string_bytes copies.items ≡ map string_bytes texts.now) }
-{
-    let mut copies = Vec::new(alloc);
-    for text in texts {
-        copies.push(String::from_str(alloc, text.as_str())?)?;
-    }
-    Ok(copies)
 }
 
 /// Returns the path by which a shell runs the program that was called by this first argument. A

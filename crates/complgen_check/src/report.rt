@@ -34,6 +34,10 @@ pub(crate) fn put_findings<W: Sink>(
     ensures { Writes W.taken W.failed result out.old out.new
         (report_text report bytes.now findings.now) }
 {
+    // The places of lines are only needed for findings.
+    if findings.is_empty() {
+        return Ok(());
+    }
     let lines = Lines::new(alloc, bytes)?;
     put_each(out, alloc, report, &lines, findings)
 }

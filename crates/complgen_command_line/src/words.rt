@@ -13,6 +13,7 @@ ghost use Rattle.complgen_scripts.specs.Refusals.{IsOutOfMemory};
 
 use crate::command_line::command_line;
 use crate::parse::{flag, optional, refusal_of, text, value};
+use cc_candidates::owned_texts;
 use clap::ArgMatches;
 use complgen_scripts::{Plan, Refusal};
 use std::alloc::{AllocError, Global};
@@ -196,17 +197,7 @@ fn words(alloc: Global, values: &ArgMatches<'_>) -> Result<Vec<String>, AllocErr
         map string_bytes words.items ≡ words_of (rows_of (found_of values.now))) }
 {
     match values.get_raw("words") {
-        Some(words) => copy_texts(alloc, words),
+        Some(words) => owned_texts(alloc, words),
         None => Ok(Vec::new(alloc)),
     }
-}
-
-fn copy_texts(alloc: Global, texts: &[&str]) -> Result<Vec<String>, AllocError>
-    ensures { IfOk result (λ copy. map string_bytes copy.items ≡ map (λ text. text.now) texts.now) }
-{
-    let mut copy = Vec::new(alloc);
-    for text in texts {
-        copy.push(String::from_str(alloc, text)?)?;
-    }
-    Ok(copy)
 }

@@ -6,10 +6,10 @@ ghost use Rattle.cc_engine.specs.Paths.{PathsOf};
 ghost use Rattle.complgen_plans.specs.GivenReplies.{AreFoundWith, EndsReplyWith};
 ghost use Rattle.complgen_plans.specs.Replies.{FindsNone};
 
-use crate::replies::{CURRENT_DIR, copies};
+use crate::replies::CURRENT_DIR;
 use crate::word_at::WordAt;
 use cc_base::{Error, Sink};
-use cc_candidates::{Completers, CompletionCandidate, Folder};
+use cc_candidates::{Completers, CompletionCandidate, Folder, copies_of};
 use cc_command::{Command, Release};
 use cc_engine::Sources;
 use cc_env::complete_with_lines;
@@ -80,7 +80,7 @@ fn found_with<D: Folder>(
     ensures err { IfErr result
         (FindsNone (length word.entry.words.now) word.entry.index command.old) }
 {
-    let words = copies(alloc, word.words)?;
+    let words = copies_of(alloc, word.words)?;
     let completers = Completers::none(alloc);
     let sources = Sources {
         current_dir: Some(CURRENT_DIR),

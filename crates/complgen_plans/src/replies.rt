@@ -1,18 +1,18 @@
 //! Writes the candidates for a word of a command line.
 
-ghost use Rattle.std.specs.Prelude.{◌≡◌, IfErr, IfOk, Some, codes, length, map, string_bytes};
+ghost use Rattle.std.specs.Prelude.{IfErr, IfOk, Some, codes, length, map, string_bytes};
 ghost use Rattle.std.specs.Option.{option_copied};
 ghost use Rattle.cc_engine.specs.Paths.{PathsOf};
 ghost use Rattle.complgen_plans.specs.Replies.{AreFound, EndsReply, FindsNone};
 
 use crate::word_at::WordAt;
 use cc_base::{Error, Sink};
-use cc_candidates::{Completers, CompletionCandidate, Folder};
+use cc_candidates::{Completers, CompletionCandidate, Folder, copies_of};
 use cc_command::{Command, Release, discard};
 use cc_engine::complete;
 use cc_replies::write_lines;
 use complgen_scripts::{Refusal, error_refusal, tree};
-use std::alloc::{AllocError, Global};
+use std::alloc::Global;
 
 /// The directory in which relative paths begin.
 pub(crate) const CURRENT_DIR: &str = ".";
@@ -37,7 +37,7 @@ pub(crate) fn reply<D: Folder, W: Sink>(
         out.old out.new result }
 {
     let command = tree(alloc, file, Release::AtExit)?;
-    let words = copies(alloc, word.words)?;
+    let words = copies_of(alloc, word.words)?;
     let found = match candidates(alloc, command, words, word.index, folder) {
         Ok(found) => found,
         Err(error) => return Err(error_refusal(alloc, &error)),
@@ -46,21 +46,6 @@ pub(crate) fn reply<D: Folder, W: Sink>(
         Ok(()) => Ok(()),
         Err(error) => Err(error_refusal(alloc, &error)),
     }
-}
-
-/// Returns copies of the words.
-///
-/// # Errors
-///
-/// `AllocError` if an allocation fails.
-pub(crate) fn copies(alloc: Global, words: &[String]) -> Result<Vec<String>, AllocError>
-    ensures { IfOk result (λ copies. map string_bytes copies.items ≡ map string_bytes words.now) }
-{
-    let mut copies = Vec::new(alloc);
-    for word in words {
-        copies.push(String::from_str(alloc, word.as_str())?)?;
-    }
-    Ok(copies)
 }
 
 // Returns the candidates for the word at `index`. There are no completers.

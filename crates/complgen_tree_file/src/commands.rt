@@ -85,11 +85,11 @@ pub fn read_command<'t>(faults: &mut Faults<'t>, tree: &Value<'t>) -> Result<Com
 
 // Returns the value that describes the children.
 fn children<'v, 't>(
-    _tree: &Value<'_>,
+    _object: &Value<'_>,
     slots: &[Option<&'v Value<'t>>; MOST_KEYS],
 ) -> Option<&'v Value<'t>>
-    requires { held (get_or slots.now 19 None) ≡ get (codes "subcommands") (view _tree.now) }
-    ensures { held result ≡ get (codes "subcommands") (view _tree.now) }
+    requires { held (get_or slots.now 19 None) ≡ get (codes "subcommands") (view _object.now) }
+    ensures { held result ≡ get (codes "subcommands") (view _object.now) }
 {
     slots[19]
 }
@@ -232,12 +232,12 @@ fn set_rules<'t>(
 fn add_args<'t>(
     node: &mut Node,
     faults: &mut Faults<'t>,
-    _tree: &Value<'t>,
+    _object: &Value<'t>,
     slots: &[Option<&Value<'t>>; MOST_KEYS],
 ) -> Result<(), AllocError>
-    requires { held (get_or slots.now 18 None) ≡ get (codes "args") (view _tree.now) }
-    ensures { IfOk result (λ _. Makes (form.with_args (view _tree.now) node.old)
-        (form.args_fit (view _tree.now)) node.new faults.old faults.new) }
+    requires { held (get_or slots.now 18 None) ≡ get (codes "args") (view _object.now) }
+    ensures { IfOk result (λ _. Makes (form.with_args (view _object.now) node.old)
+        (form.args_fit (view _object.now)) node.new faults.old faults.new) }
 {
     let Some(value) = slots[18] else {
         return Ok(());

@@ -44,8 +44,9 @@ pub trait FromValue: Drop {
 /// The most keys that an object may have.
 pub const MOST_KEYS: usize = 30;
 
-/// Sets `field` to the value at `key` of the object `tree`, which is in the slot `index`. Leaves it
-/// unchanged if the object lacks the key, or if something is wrong with the value, which it notes.
+/// Sets `field` to the value at `key` of `_object`, which is in the slot `index`. Leaves it unchanged
+/// if the object lacks the key, or if something is wrong with the value, which it notes. Only the
+/// contract reads `_object`.
 ///
 /// # Errors
 ///
@@ -55,15 +56,15 @@ pub const MOST_KEYS: usize = 30;
 pub fn set<'t, T: FromValue>(
     field: &mut T,
     faults: &mut Faults<'t>,
-    _tree: &Value<'t>,
+    _object: &Value<'t>,
     key: &'static str,
     slots: &[Option<&Value<'t>>; MOST_KEYS],
     index: usize,
 ) -> Result<(), AllocError>
     requires inside { index < 30 }
-    requires found { held (get_or slots.now index None) ≡ get key.now (view _tree.now) }
-    ensures { IfOk result (λ _. Makes (field_from key.now T.form (view _tree.now) field.old)
-        (λ before. before && fits_at key.now T.form (view _tree.now)) field.new
+    requires found { held (get_or slots.now index None) ≡ get key.now (view _object.now) }
+    ensures { IfOk result (λ _. Makes (field_from key.now T.form (view _object.now) field.old)
+        (λ before. before && fits_at key.now T.form (view _object.now)) field.new
         faults.old faults.new) }
 {
     let Some(value) = slots[index] else {

@@ -1,12 +1,13 @@
 //! Files and directories in memory.
 
-ghost use Rattle.std.specs.Prelude.{◌≡◌, string_bytes, map, IfOk, None, Some, true, false, is_some};
-ghost use Rattle.std.specs.Option.{option_copied, option_map};
-ghost use Rattle.cc_candidates.specs.InMemory.{folder_at, has_file, names_in, texts_of, without_slash};
+ghost use Rattle.std.specs.Prelude.{◌≡◌, None, Some, true, false, is_some};
+ghost use Rattle.std.specs.Option.{option_copied};
+ghost use Rattle.cc_candidates.specs.InMemory.{folder_at, has_file, names_in, without_slash};
 
+use crate::copies::owned_texts;
 use crate::paths::folder::{Folder, FolderError};
 use crate::paths::path_texts::ends_in_slash;
-use std::alloc::{AllocError, Global};
+use std::alloc::Global;
 
 /// Files and directories in memory, for tests. Every file counts as executable. One slash at the
 /// end of a path is ignored, except in `/`, the path of the root.
@@ -72,7 +73,7 @@ impl Folder for MemoryFolder {
             return Err(FolderError::Memory);
         }
         match folder_at(self.folders, without_slash(path)) {
-            Some((_, names)) => Ok(copies(alloc, names)?),
+            Some((_, names)) => Ok(owned_texts(alloc, names)?),
             None => Err(FolderError::Unreadable),
         }
     }
@@ -130,14 +131,4 @@ fn has_file(files: &[&str], path: &str) -> bool
         }
     }
     false
-}
-
-fn copies(alloc: Global, names: &[&str]) -> Result<Vec<String>, AllocError>
-    ensures { IfOk result (λ copies. map string_bytes copies.items ≡ texts_of names.now) }
-{
-    let mut copies = Vec::new(alloc);
-    for name in names {
-        copies.push(String::from_str(alloc, name)?)?;
-    }
-    Ok(copies)
 }

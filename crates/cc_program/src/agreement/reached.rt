@@ -1,6 +1,6 @@
 //! The candidates for a word of a command line, and the parser of the command that reads the word.
 
-ghost use Rattle.std.specs.Prelude.{◌≡◌, IfErr, IfOk, IsTrue, OnOk, length, map, string_bytes, true};
+ghost use Rattle.std.specs.Prelude.{◌≡◌, IfErr, IfOk, OnOk, length, map, string_bytes, true};
 ghost use Rattle.clap.specs.Words.{app_of};
 ghost use Rattle.clap.specs.declared.builder.command.Command.TheViews.{out-Command};
 ghost use Rattle.cc_command.specs.Built.{built_tree};
@@ -11,11 +11,11 @@ ghost use Rattle.cc_program.specs.Reached.{reached};
 
 use bumpalo::Bump;
 use cc_base::Error;
-use cc_candidates::CompletionCandidate;
+use cc_candidates::{CompletionCandidate, copies_of};
 use cc_command::Command;
 use cc_engine::{Lookup, complete_from, words_before};
 use cc_parser::local_parser;
-use std::alloc::{AllocError, Global};
+use std::alloc::Global;
 
 /// Builds `command` and returns the candidates for the word at `index`, as `complete_from` does,
 /// the parser of the command to which the words before it lead, as `local_parser` does, and that
@@ -50,22 +50,11 @@ pub fn candidates_and_reached_parser<'a, L: Lookup>(
     ensures errors { IfErr result
         (RefusesBoth (built_tree command.old) (length words.items) index) }
 {
-    let line = copies(alloc, words.as_slice())?;
+    let line = copies_of(alloc, words.as_slice())?;
     let found = complete_from(alloc, command, words, index, lookup)?;
     let reached = reached_command(&*command, line.as_slice(), index);
     let parser = local_parser(alloc, store, reached)?;
     Ok((found, parser, reached))
-}
-
-fn copies(alloc: Global, words: &[String]) -> Result<Vec<String>, AllocError>
-    ensures { IfOk result
-        (λ copies. map string_bytes copies.items ≡ map string_bytes words.now) }
-{
-    let mut copies = Vec::new(alloc);
-    for word in words {
-        copies.push(String::from_str(alloc, word.as_str())?)?;
-    }
-    Ok(copies)
 }
 
 // Returns the command to which the words before the index lead.

@@ -1,6 +1,6 @@
 use Rattle.std.proofs.Common.{◌≡◌, map, take}
 use Rattle.std.specs.String.{string_bytes}
-use Rattle.cc_env.proofs.arguments.copies_of.Given as goal
+use Rattle.cc_candidates.proofs.copies.copies_of.Given as goal
 
 -- the copies so far
 abbrev pub invariant-loop-text : goal.invariant-loop-text

@@ -1,6 +1,0 @@
-use Rattle.std.proofs.Common.{◌≡◌, map, string_bytes, take}
-use Rattle.complgen_command_line.proofs.words.copy_texts.Given as goal
-
-abbrev pub invariant-loop-text : goal.invariant-loop-text
-invariant-loop-text l =
-    map string_bytes l.copy.items ≡ map (λ text. text.now) (take l.text-index l.texts)
