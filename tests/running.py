@@ -6,7 +6,7 @@
 bash reads the two lines of a bash script that hold possible values, with pairs of random values. They
 are values of which `check` says that bash may split or change them. None may run the program `h`. Then
 bash and zsh read scripts with texts that docs/SECURITY.md lists. Each of these has to run it, because
-the page says so.
+the page says so. At last, bash inserts the name of a file at a Tab, and runs the line.
 
 The script prints each text for which this does not hold, and how many it tried. It skips a shell that is
 not installed. The status is 0 if all of it holds. It needs no program of this repository.
@@ -46,6 +46,17 @@ BASH = """_f{0}() {{
 }}
 """
 
+# How bash's script offers files. The mode decides whether bash quotes them.
+BASH_FILES = """_app() {
+    COMPREPLY=($(compgen -f "$2"))
+    %s
+}
+complete -F _app -o nosort -o bashdefault -o default app
+"""
+
+# The lines that may follow `compgen -f`, and whether a name such as `x$(h)` then runs `h`.
+MODES = {"": True, "compopt -o filenames": False}
+
 ZSH = """_app() {
     _arguments -s -S -C : \\
 '%s' \\
@@ -81,7 +92,9 @@ def tried(folder, pairs):
     if shutil.which("bash"):
         faults += quiet_faults(folder, pairs)
         faults += [f"bash does not run {v!r}" for v in BASH_RUNS if not bash_runs(folder, [(v, "b")])]
-        count += 2 * pairs + len(BASH_RUNS)
+        faults += [f"bash, a file name, {mode!r}: runs: {not runs}" for mode, runs in MODES.items()
+                   if bash_runs_file(folder, mode) != runs]
+        count += 2 * pairs + len(BASH_RUNS) + len(MODES)
     if shutil.which("zsh"):
         lines = [line.replace("{}", t) for line, texts in ZSH_RUNS.items() for t in texts]
         faults += [f"zsh does not run {line!r}" for line in lines if not zsh_runs(folder, line)]
@@ -127,6 +140,20 @@ def bash_runs(folder, pairs):
     os.makedirs(f"{folder}/here", exist_ok=True)
     subprocess.run(command, env={**environment(folder), "HOME": folder}, cwd=f"{folder}/here", stdin=subprocess.DEVNULL,
                    stdout=subprocess.DEVNULL, stderr=subprocess.DEVNULL, timeout=60)
+    return os.path.exists(f"{folder}/hit")
+
+
+def bash_runs_file(folder, mode):
+    """Tells whether bash runs `h` if the name `x$(h)` is inserted at a Tab, and Enter is pressed."""
+    with shells.Scratch() as scratch:
+        path = f"{scratch.bin}:{environment(folder)['PATH']}"
+        scratch.environment.update(environment(folder), PATH=path)
+        scratch.recorder("app")
+        shells.write(os.path.join(scratch.here, "x$(h)"), "")
+        with shells.started("bash", scratch, BASH_FILES % mode) as shell:
+            forget(folder)
+            if shell.received("app x") is None and shell.received("app x") is None:
+                return None
     return os.path.exists(f"{folder}/hit")
 
 
