@@ -12,10 +12,10 @@ texts_or_none o = unwrap_or (option_map (λ s. map (λ v. v.now) s.now) o) []
 pub returns-in-Some : goal.returns-in-Some
 returns-in-Some c =
     let found = found_of c.args.values.now in
-    IfOk-weaker c.copy_texts.result _ _ (λ copy same. same
+    IfOk-weaker c.owned_texts.result _ _ (λ copy same. same
     ∙ ap texts_or_none (sym c.in-Some.is)
     ∙ ap (λ (o : Option (List Text)). unwrap_or o [])
-    (c.get_raw.ensures ∙ raw_values-rows found (codes "words"))) c.copy_texts.ensures
+    (c.get_raw.ensures ∙ raw_values-rows found (codes "words"))) c.owned_texts.ensures
 
 pub returns-in-None : goal.returns-in-None
 returns-in-None c =
