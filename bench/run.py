@@ -44,7 +44,7 @@ With --instructions, valgrind counts the instructions of one run for each shell:
 - a row: the writing of one command with 1,000 options, minus that of one without, divided by 1,000.
 
 Then it counts `complgen check` of the 10,000 options, which may take 2.3 times the instructions of
-reading them in a run of `script`. The last measurement has 103.7 million for 53.4 million.
+reading them in a run of `script`. The last measurement has 90.7 million for 47.6 million.
 
 With --candidates, valgrind counts the instructions of `complete`, without the build, in runs of
 `complgen candidates`. The runs are over 100, 1,000 and 10,000 children and options, for a word that
