@@ -1,10 +1,10 @@
 #!/usr/bin/env python3
 """Compares what scripts of programs that use clap offer with what clap accepts.
 
-    tests/from_clap.py
+    tests/from_clap.py [--genuine]
 
 cargo builds the packages of examples/from-clap, with Debian's crates if these are installed, and otherwise
-with crates that it fetches. `cargo run` still has to run the program itself. The example `tree` of each
+with crates that it fetches. --genuine takes the crates of Debian unstable (tools/unstable.py). `cargo run` still has to run the program itself. The example `tree` of each
 package writes the tree file, and `complgen` writes the script of each shell. tests/from_clap.d/SHELL.awk
 reads that script: the words at each path, and the help texts, possible values and hints that the shell
 shows. They have to be exactly those of clap's own build of the command, which rows.rs lists. An installed
@@ -14,6 +14,7 @@ The script prints a line for each script of a shell. The status is 0 if all agre
 4 with its derive.
 """
 
+import argparse
 import difflib
 import os
 import re
@@ -25,6 +26,7 @@ import tempfile
 sys.path.append(os.path.join(os.path.dirname(os.path.realpath(__file__)), "..", "tools"))
 import common
 import shell_syntax
+import unstable
 
 PACKAGES = ("parcel", "herd")
 READERS = os.path.join(common.TOP, "tests", "from_clap.d")
@@ -33,6 +35,10 @@ USAGE = 2
 
 
 def main():
+    parser = argparse.ArgumentParser(usage=common.usage(__doc__))
+    parser.add_argument("--genuine", action="store_true")
+    if parser.parse_args().genuine:
+        common.use_crates(unstable.crates(unstable.default_folder()))
     program = common.program("complgen")
     with tempfile.TemporaryDirectory() as work:
         shutil.copytree(os.path.join(common.EXAMPLES, "from-clap"), os.path.join(work, "source"))

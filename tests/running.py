@@ -46,7 +46,7 @@ BASH = """_f{0}() {{
 }}
 """
 
-# How bash's script offers files. The mode decides whether bash quotes them.
+# The lines by which bash's script offers files, before a line that may set a mode. With the mode, bash quotes them.
 BASH_FILES = """_app() {
     COMPREPLY=($(compgen -f "$2"))
     %s
